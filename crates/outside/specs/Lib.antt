@@ -1,0 +1,4 @@
+pub mod Faults
+pub mod BytesSource
+pub mod BytesSink
+pub mod Adapters

@@ -1,0 +1,17 @@
+//! The graph of bidding zones: names of zones, the borders that join them, and the routes over
+//! borders that energy takes. Below it stand the small values that every other crate is built of:
+//! lists, words and texts that contracts see as plain lists.
+#![tactic(auto)]
+
+mod memory;
+mod route;
+mod sequence;
+mod word;
+
+pub use memory::{Duplicate, NoMemory};
+pub use route::{Arc, Legs, Pairs, Route, RouteLeg, Zones};
+pub use sequence::Sequence;
+pub use word::{Names, Text, Word, is_name};
+
+#[cfg(test)]
+mod tests;
