@@ -1,0 +1,4 @@
+pub mod Command
+pub mod History
+pub mod Naming
+pub mod Refusal
