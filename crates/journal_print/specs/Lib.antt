@@ -1,0 +1,4 @@
+-- What the contracts of this crate cite.
+pub mod Json
+pub mod Line
+pub mod Value

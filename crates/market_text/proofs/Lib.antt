@@ -1,0 +1,5 @@
+pub mod Digits
+pub mod LineLemmas
+pub mod Lists
+pub mod NameLemmas
+pub mod ReadingLemmas

@@ -1,0 +1,50 @@
+-- Places in a list of names.
+use Rattle.std.proofs.Common.{◌≡◌, ℕ, ◌+◌, ◌≤◌, ◌||◌, Bool, true, false, not, cond, List, [], ◌∷◌, length, map, refl, ap, nat_lt, Some, None, arith}
+use Rattle.std.proofs.Common.{nat_eq, ◌++◌, ◌∙◌, sym, if◌then◌else◌}
+use Rattle.std.specs.Cmp.Lexicographic.{pointwise}
+use Rattle.indexmap.specs.IndexSet.{insert_key}
+use Rattle.market_text.specs.Names.{place_of}
+use Rattle.market_text.proofs.Lists.{map-push}
+use Rattle.std.specs.List.{position, position_or_len, list_any}
+use Rattle.std.proofs.lemmas.List.{length-map}
+use Rattle.std.proofs.lemmas.Bool.Decides.{nat_tests}
+
+-- the first place of an item of a mapped list
+pub position_or_len-map : {A B : Type 0} (p : B → Bool) (f : A → B) (xs : List A) → position_or_len p (map f xs) ≡ position_or_len (λ x. p (f x)) xs
+position_or_len-map p f [] = refl
+position_or_len-map p f (x ∷ xs) = ap (λ n. cond (not (p (f x))) (1 + n) 0) (position_or_len-map p f xs)
+
+-- the same, where there may be none
+pub position-map : {A B : Type 0} (p : B → Bool) (f : A → B) (xs : List A) → position p (map f xs) ≡ position (λ x. p (f x)) xs
+position-map p f xs = rw (position_or_len-map p f xs, length-map xs f) refl
+
+-- a place that is none is past the end
+pub none_past_end : (n len : ℕ) → cond (nat_lt n len) (Some n) None ≡ None → len ≤ n
+none_past_end n len h = grind (arith, nat_tests)
+
+-- where no place is found, no item passes
+pub absent : {A : Type 0} (p : A → Bool) (xs : List A) → length xs ≤ position_or_len p xs → list_any p xs ≡ false
+absent p [] h = refl
+absent p (x ∷ xs) h = by (p x) h (absent p xs)
+  where
+    by : (b : Bool) → length (x ∷ xs) ≤ cond (not b) (1 + position_or_len p xs) 0
+        → (length xs ≤ position_or_len p xs → list_any p xs ≡ false) → (b || list_any p xs) ≡ false
+    by true past rest = absurd (omega arith)
+    by false past rest = rest (omega arith)
+
+-- a name that no place is found for is not among the names
+pub absent_from_place : {A : Type 0} (p : A → Bool) (xs : List A) → position p xs ≡ None → list_any p xs ≡ false
+absent_from_place p xs h = absent p xs (none_past_end (position_or_len p xs) (length xs) h)
+
+-- the names of a set to which a name is added that is not there
+pub declared : {V : Type 0} (bytes : V → List ℕ) (keys : List V) (key : V) (names : List (List ℕ)) (name : List ℕ)
+    → map bytes keys ≡ names → bytes key ≡ name → place_of names name ≡ None
+    → map bytes (insert_key (λ a b. pointwise nat_eq (bytes a) (bytes b)) keys key) ≡ names ++ name ∷ []
+declared bytes keys key names name as_names as_name none =
+    let absent_key = absent_from_place (λ k. pointwise nat_eq (bytes key) (bytes k)) keys
+    (sym (position-map (pointwise nat_eq (bytes key)) bytes keys)
+    ∙ ap (λ n. place_of (map bytes keys) n) as_name ∙ ap (λ ns. place_of ns name) as_names ∙ none) in
+    ap (λ b. map bytes (if b then keys else keys ++ key ∷ [])) absent_key
+    ∙ map-push bytes keys key
+    ∙ ap (λ n. map bytes keys ++ n ∷ []) as_name
+    ∙ ap (λ ns. ns ++ name ∷ []) as_names

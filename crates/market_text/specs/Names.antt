@@ -1,0 +1,19 @@
+-- Where a name stands among those that are declared, and which zones a border joins.
+use Rattle.std.specs.Prelude.{ℕ, Bool, ◌&&◌, ◌||◌, ◌==◌, List, [], Option, nat_eq, position, get_or, unwrap_or, length}
+use Rattle.std.specs.Cmp.Lexicographic.{pointwise}
+
+-- the place of the first name of the same bytes, if there is one
+abbrev pub place_of : List (List ℕ) → List ℕ → Option ℕ
+place_of names name = position (pointwise nat_eq name) names
+
+-- the name at a place
+abbrev pub name_at : List (List ℕ) → ℕ → List ℕ
+name_at names place = get_or names place []
+
+-- the number that a name has among the zones: its place, or the number of zones where no zone has it
+abbrev pub zone_number : List (List ℕ) → List ℕ → ℕ
+zone_number zones name = unwrap_or (place_of zones name) (length zones)
+
+-- the ends of a border are these two zones, in either order
+abbrev pub joins_zones : (one other : ℕ) → ℕ × ℕ → Bool
+joins_zones one other ends = ((ends.0 == one) && (ends.1 == other)) || ((ends.0 == other) && (ends.1 == one))

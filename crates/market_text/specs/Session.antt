@@ -1,0 +1,33 @@
+-- What each session that is read keeps, and which lines a text has.
+use Rattle.std.specs.Prelude.{◌≡◌, ℕ, ◌+◌, ◌<◌, ◌≤◌, ◌==◌, List, length, map, count_by, All}
+use Rattle.market_model.specs.Command.{IsLimitEntry}
+use Rattle.market_model.specs.Naming.{IsNamed}
+use Rattle.market_text.specs.declared.session.Session.{Session}
+use Rattle.market_text.specs.declared.fault.TextFault.{TextFault}
+use Rattle.market_text.specs.declared.fault.TextFault.TheVariants as fault
+use Rattle.market_text.specs.Lines.{line_feeds}
+use Rattle.market_text.specs.Commands.{commands_of}
+
+-- a day of 23 to 25 hours, at most 64 zones, 128 borders and 64 callers with their names, at most
+-- 262144 commands, all of them entries of plain limit orders, and of each caller as many as it has
+-- turns and room
+pub record IsSession (session : Session) : Type 0 where
+  pub least_hours : 23 ≤ session.setup.hours
+  pub most_hours : session.setup.hours ≤ 25
+  pub some_zone : 1 ≤ length session.setup.zones
+  pub few_zones : length session.setup.zones ≤ 64
+  pub few_borders : length session.setup.borders ≤ 128
+  pub few_callers : length session.setup.callers ≤ 64
+  pub named : IsNamed session.setup
+  pub matched : length session.commands ≡ length session.setup.callers
+  pub known : All (λ turn. turn < length session.setup.callers) session.turns
+  pub counted : (caller : ℕ) → caller < length session.commands
+      → length (commands_of session.commands caller) ≡ count_by (λ turn. turn == caller) session.turns
+  pub rooms : map (λ caller. caller.room) session.setup.callers ≡ map length session.commands
+  pub few : length session.turns ≤ 262144
+  pub entries : All (All IsLimitEntry) session.commands
+
+-- a line that is reported is a line of the text, or the one after its last
+abbrev pub IsLineOf : List ℕ → TextFault → Type 0
+IsLineOf bytes (fault.BadSession line) = (1 ≤ line) × (line ≤ line_feeds bytes + 1)
+IsLineOf bytes fault.NoMemory = Unit {0}

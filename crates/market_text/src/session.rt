@@ -1,0 +1,106 @@
+//! A session, and how it is read from a text.
+
+ghost use Rattle.std.specs.Prelude.{◌≡◌, ◌<◌, ◌+◌, ◌^◌, ◌==◌, length, position, IfOk, IfErr, MatchOption};
+ghost use Rattle.market_text.specs.Lines.{line_feeds, IsFirstLine};
+ghost use Rattle.market_text.specs.Reading.{IsReading};
+ghost use Rattle.market_text.specs.Session.{IsSession, IsLineOf};
+
+use crate::fault::{LineFault, TextFault};
+use crate::reader::Reader;
+use market_model::{Commands, Sequence, Setup};
+use std::alloc::Global;
+
+/// The commands of each caller, in the order of the callers, and of each caller in the order in
+/// which it gives them.
+pub type PerCaller = Sequence<Commands>;
+
+/// The number of the caller of each command, in the order of the commands in the text.
+pub type Turns = Sequence<u32>;
+
+/// A session: what is fixed for it, and the commands that its callers give.
+#[derive(Debug, Drop, PartialEq, Eq)]
+pub struct Session {
+    /// The delivery day, the zones, the borders and the callers. A caller's room is the number of
+    /// its commands.
+    pub setup: Setup,
+    /// The commands of each caller.
+    pub commands: PerCaller,
+    /// The caller of each command, in the order of the text.
+    pub turns: Turns,
+}
+
+/// Reads a session text.
+///
+/// The text is lines that each end with a line feed. A line that is empty or begins with `#` is
+/// passed over; every other line is words with single spaces between. In this order come `day`
+/// with the delivery day, 1 to 64 times `zone` with a name, up to 128 times `border` with two
+/// zones, up to 64 times `trader` or `operator` with a name, `begin`, and up to 262144 commands,
+/// each after the name of its caller.
+///
+/// # Errors
+///
+/// `BadSession` with the number of the first line that is not of the form that may stand at its
+/// place, or that breaks a rule of its form; where the text ends before `begin` that is the line
+/// after the last. `NoMemory` where memory that was asked for was not there.
+pub fn read_session(alloc: Global, bytes: &[u8]) -> Result<Session, TextFault>
+    requires { length bytes.now + 1 < 2 ^ 32 }
+    ensures shape { IfOk result IsSession }
+    ensures line { IfErr result (IsLineOf bytes.now) }
+{
+    let mut reader = Reader::new(alloc);
+    let mut words = Vec::new(alloc);
+    let mut rest = bytes;
+    let mut line = 1;
+    while let Some((text, after)) = split_line(rest) {
+        reader = match read_line(alloc, reader, text, &mut words) {
+            Ok(reader) => reader,
+            Err(fault) => return Err(fault.at(line)),
+        };
+        rest = after;
+        line += 1;
+    }
+    if !rest.is_empty() {
+        return Err(TextFault::BadSession { line });
+    }
+    match reader.finish(alloc) {
+        Ok(session) => Ok(session),
+        Err(fault) => Err(fault.at(line)),
+    }
+}
+
+// The first line of a text without its line feed, and what follows it: `None` where there is no
+// line feed.
+fn split_line(text: &[u8]) -> Option<(&[u8], &[u8])>
+    ensures { MatchOption result (line_feeds text.now ≡ 0) (λ parts. IsFirstLine text.now parts.0.now parts.1.now) }
+{
+    match find_line_feed(text) {
+        None => None,
+        Some(end) => Some((&text[..end], &text[end + 1..])),
+    }
+}
+
+// The place of the first line feed.
+fn find_line_feed(text: &[u8]) -> Option<usize>
+    ensures { result ≡ position (λ byte. byte == 10) text.now }
+{
+    text.iter().position(|byte| *byte == b'\n')
+}
+
+// Reads a line, which is passed over where it is empty or a comment. The words are put into a
+// list that is used for each line.
+fn read_line<'a>(
+    alloc: Global,
+    reader: Reader,
+    line: &'a [u8],
+    words: &mut Vec<&'a [u8]>,
+) -> Result<Reader, LineFault>
+    requires { IsReading reader }
+    ensures { IfOk result IsReading }
+{
+    if let [] | [b'#', ..] = line {
+        return Ok(reader);
+    }
+    words.clear();
+    words.extend(line.split(|byte| *byte == b' '))?;
+    reader.read_words(alloc, words.as_slice())
+}

@@ -1,0 +1,4 @@
+pub mod Reading
+pub mod Status
+pub mod Words
+pub mod Writing

@@ -1,0 +1,184 @@
+//! Whole runs, where no clause says what comes.
+
+ghost use Rattle.std.specs.Prelude.{◌≡◌, false, IfOk};
+ghost use Rattle.session_run.specs.Words.{is_trade};
+
+use super::*;
+use outside::{BytesSink, BytesSource, Failed, NullSink, OpenGate, Source, SteadySource};
+use std::alloc::Global;
+use std::test::Fail;
+use zone_graph::{NoMemory, Sequence, Word};
+
+// A sale and a purchase of one hour in one zone.
+const SALE: &[u8] =
+    b"day 2025-06-17\nzone DE\ntrader ann\ntrader bob\nbegin\nann sell h12 DE 10.0 50.00\nbob buy h12 DE 4.0 55.00\n";
+
+// Its journal.
+const JOURNAL: &[u8] =
+    b"{\"caller\":\"ann\",\"command\":1,\"done\":[[\"entered\",\"h12#1\",\"h12\"]],\"entry\":1}\n{\"caller\":\"bob\",\"command\":1,\"done\":[[\"entered\",\"h12#2\",\"h12\"],[\"leg\",\"h12#2\",\"h12#1\",\"4.0\",\"50.00\",[]]],\"entry\":2}\n";
+
+// The one word `replay`.
+fn replay_word(alloc: Global) -> Result<Sequence<Word>, NoMemory>
+    ensures { IfOk result (λ words. is_trade words ≡ false) }
+{
+    let mut words = Sequence::new(alloc);
+    words.push(Word::new(alloc, b"replay")?)?;
+    Ok(words)
+}
+
+fn words_of(alloc: Global, texts: &[&str]) -> Result<Sequence<Word>, NoMemory> {
+    let mut words = Sequence::new(alloc);
+    for text in texts {
+        words.push(Word::new(alloc, text.as_bytes())?)?;
+    }
+    Ok(words)
+}
+
+#[test]
+fn replay_writes_the_journal_of_a_sale(rt: HostRuntime) -> Result<(), Fail> {
+    let words = replay_word(rt.alloc())?;
+    let mut source = BytesSource::new(rt.alloc(), SALE, 7, &[])?;
+    let mut sink = BytesSink::new(rt.alloc(), 10, &[])?;
+    let status = run(
+        &rt,
+        rt.alloc(),
+        words.as_slice(),
+        &mut source,
+        &mut sink,
+        &OpenGate,
+    );
+    assert_eq!(rt; status, Status::Done);
+    assert_eq!(rt; sink.bytes(), JOURNAL);
+
+    let mut source = SteadySource::new(rt.alloc(), SALE)?;
+    let status = run_alone(
+        rt.alloc(),
+        words.as_slice(),
+        &mut source,
+        &mut NullSink::new(),
+    );
+    assert_eq!(rt; status, Status::Done);
+    Ok(())
+}
+
+#[test]
+fn other_words_mean_nothing(rt: HostRuntime) -> Result<(), Fail> {
+    for texts in [
+        [].as_slice(),
+        &["replay", "replay"],
+        &["Replay"],
+        &["repla"],
+        &["replay "],
+        &["--help"],
+        &["trade"],
+    ] {
+        let words = words_of(rt.alloc(), texts)?;
+        let mut source = SteadySource::new(rt.alloc(), SALE)?;
+        let mut sink = BytesSink::new(rt.alloc(), 10, &[])?;
+        let status = run(
+            &rt,
+            rt.alloc(),
+            words.as_slice(),
+            &mut source,
+            &mut sink,
+            &OpenGate,
+        );
+        assert_eq!(rt; status, Status::Usage);
+        assert_eq!(rt; sink.bytes(), b"".as_slice());
+    }
+    Ok(())
+}
+
+#[test]
+fn a_failed_read_leaves_nothing_written(rt: HostRuntime) -> Result<(), Fail> {
+    let words = replay_word(rt.alloc())?;
+    for fails in [1, 2, 16] {
+        let mut source = BytesSource::new(rt.alloc(), SALE, 7, &[fails])?;
+        let mut sink = BytesSink::new(rt.alloc(), 10, &[])?;
+        let status = run_alone(rt.alloc(), words.as_slice(), &mut source, &mut sink);
+        assert_eq!(rt; status, Status::ReadFault, "read {fails}");
+        assert_eq!(rt; sink.bytes(), b"".as_slice());
+    }
+    Ok(())
+}
+
+#[test]
+fn a_failed_write_leaves_what_went_before(rt: HostRuntime) -> Result<(), Fail> {
+    let words = replay_word(rt.alloc())?;
+    let mut source = SteadySource::new(rt.alloc(), SALE)?;
+    let mut sink = BytesSink::new(rt.alloc(), 10, &[3])?;
+    let status = run_alone(rt.alloc(), words.as_slice(), &mut source, &mut sink);
+    assert_eq!(rt; status, Status::WriteFault);
+    assert_eq!(rt; sink.bytes(), &JOURNAL[..20]);
+    Ok(())
+}
+
+// A source that gives as many bytes as it is asked for, up to a number, and counts its reads.
+#[derive(Drop)]
+struct Counting {
+    left: usize,
+    most: usize,
+    reads: usize,
+}
+
+impl Source for Counting {
+    ghost use Rattle.std.specs.Prelude.{None};
+
+    ghost left = { λ _. None };
+
+    ghost faults = { λ _. 0 };
+
+    fn read(&mut self, into: &mut [u8]) -> Result<usize, Failed> {
+        self.reads = self.reads.saturating_add(1);
+        let count = into.len().min(self.left).min(self.most);
+        self.left -= count;
+        into[..count].fill(b'#');
+        Ok(count)
+    }
+}
+
+#[test]
+fn the_longest_session_is_read_in_so_many_reads(rt: HostRuntime) -> Result<(), Fail> {
+    let words = replay_word(rt.alloc())?;
+    for (left, status, reads) in [
+        // One comment of the greatest length, whose line has no end, a byte at a time.
+        (8_388_608, Status::BadSession { line: 1 }, 8_388_609),
+        // One byte more.
+        (8_388_609, Status::TooLong, 8_388_609),
+        (usize::MAX, Status::TooLong, 8_388_609),
+    ] {
+        let mut source = Counting {
+            left,
+            most: 1,
+            reads: 0,
+        };
+        let ended = run_alone(
+            rt.alloc(),
+            words.as_slice(),
+            &mut source,
+            &mut NullSink::new(),
+        );
+        assert_eq!(rt; ended, status);
+        assert_eq!(rt; source.reads, reads);
+    }
+    Ok(())
+}
+
+#[test]
+fn each_status_has_its_message(rt: HostRuntime) -> Result<(), Fail> {
+    for (status, text) in [
+        (Status::Done, b"".as_slice()),
+        (Status::Usage, b"sidc: bad words\n"),
+        (
+            Status::BadSession { line: 7 },
+            b"sidc: bad session, line 7\n",
+        ),
+        (Status::ReadFault, b"sidc: read fault\n"),
+        (Status::WriteFault, b"sidc: write fault\n"),
+        (Status::NoMemory, b"sidc: no memory\n"),
+        (Status::TooLong, b"sidc: session too long\n"),
+    ] {
+        assert_eq!(rt; message(rt.alloc(), &status)?.bytes(), text);
+    }
+    Ok(())
+}

@@ -1,0 +1,122 @@
+//! Each call once with ample memory, the order in which records come back, and a row of steps.
+
+use crate::{NoMemory, UndoLog};
+use std::alloc::Global;
+use std::process::Abort;
+use std::test::Fail;
+
+#[derive(Clone, Copy, Debug)]
+enum Step {
+    Reserve(usize),
+    Note(u32),
+    Back(Option<u32>),
+    Clear,
+}
+
+// Notes a change where there is room for it, which has to be there.
+fn note<C: Drop>(rt: &impl Abort, log: &mut UndoLog<C>, change: C) {
+    let room = log.spare();
+    assert!(rt; 0 < room);
+    log.note(change);
+    assert_eq!(rt; log.spare(), room - 1);
+}
+
+// Makes one step and asserts its answer.
+fn make(rt: &impl Abort, log: &mut UndoLog<u32>, step: Step) {
+    match step {
+        Step::Reserve(more) => {
+            assert_eq!(rt; log.reserve(more), Ok(()));
+            assert!(rt; more <= log.spare());
+        }
+        Step::Note(change) => note(rt, log, change),
+        Step::Back(want) => assert_eq!(rt; log.back(), want),
+        Step::Clear => log.clear(),
+    }
+}
+
+#[test]
+fn each_call_answers(rt: HostRuntime) -> Result<(), Fail> {
+    let mut log = UndoLog::new(rt.alloc())?;
+    assert!(rt; log.is_empty());
+    assert_eq!(rt; log.spare(), 0);
+
+    log.reserve(2)?;
+    assert!(rt; 2 <= log.spare());
+    note(&rt, &mut log, 7u32);
+    note(&rt, &mut log, 8);
+    assert_eq!(rt; log.len(), 2);
+    assert!(rt; !log.is_empty());
+
+    // no memory is that large: the log stays as it was
+    let room = log.spare();
+    assert_eq!(rt; log.reserve(usize::MAX), Err(NoMemory));
+    assert_eq!(rt; log.spare(), room);
+
+    assert_eq!(rt; log.back(), Some(8));
+    assert_eq!(rt; log.spare(), room + 1);
+    log.clear();
+    assert!(rt; log.is_empty());
+    assert_eq!(rt; log.spare(), room + 2);
+    assert_eq!(rt; log.back(), None);
+    Ok(())
+}
+
+fn bytes(alloc: Global, byte: u8) -> Result<Vec<u8>, NoMemory> {
+    let mut bytes = Vec::new(alloc);
+    bytes.resize(2, byte)?;
+    Ok(bytes)
+}
+
+#[test]
+fn records_come_back_in_the_opposite_order(rt: HostRuntime) -> Result<(), Fail> {
+    let mut log = UndoLog::new(rt.alloc())?;
+    log.reserve(200)?;
+    for byte in 0..200u8 {
+        note(&rt, &mut log, bytes(rt.alloc(), byte)?);
+    }
+    assert_eq!(rt; log.len(), 200);
+    for byte in (100..200u8).rev() {
+        assert_eq!(rt; log.back(), Some(bytes(rt.alloc(), byte)?));
+    }
+    assert_eq!(rt; log.len(), 100);
+    log.clear();
+    assert_eq!(rt; log.back(), None);
+
+    // what a log holds goes with it
+    note(&rt, &mut log, bytes(rt.alloc(), 1)?);
+    Ok(())
+}
+
+#[test]
+fn a_row_of_steps(rt: HostRuntime) -> Result<(), Fail> {
+    let mut log = UndoLog::new(rt.alloc())?;
+    let rows = [
+        (Step::Back(None), 0),
+        (Step::Reserve(0), 0),
+        (Step::Reserve(2), 0),
+        (Step::Note(1), 1),
+        (Step::Note(2), 2),
+        (Step::Back(Some(2)), 1),
+        (Step::Note(3), 2),
+        (Step::Reserve(5), 2),
+        (Step::Note(4), 3),
+        (Step::Note(4), 4),
+        (Step::Back(Some(4)), 3),
+        (Step::Back(Some(4)), 2),
+        (Step::Back(Some(3)), 1),
+        (Step::Back(Some(1)), 0),
+        (Step::Back(None), 0),
+        (Step::Note(5), 1),
+        (Step::Note(6), 2),
+        (Step::Clear, 0),
+        (Step::Back(None), 0),
+        (Step::Clear, 0),
+        (Step::Note(7), 1),
+        (Step::Back(Some(7)), 0),
+    ];
+    for (step, len) in rows {
+        make(&rt, &mut log, step);
+        assert_eq!(rt; log.len(), len, "after {step:?}");
+    }
+    Ok(())
+}

@@ -1,0 +1,6 @@
+"""4096 buys of one lot rest in an hour, one more is refused, and one trade makes room for another."""
+print("day 2025-06-17", "zone DE", "trader ann", "trader bob", "begin", sep="\n")
+for _ in range(4097):
+    print("ann buy h12 DE 0.1 10.00")
+print("bob sell h12 DE 0.1 10.00")
+print("ann buy h12 DE 0.1 10.00")

@@ -1,0 +1,5 @@
+"""One buy takes 4096 sells of one lot each, in the order of their entry."""
+print("day 2025-06-17", "zone DE", "trader ann", "trader bob", "begin", sep="\n")
+for _ in range(4096):
+    print("ann sell h12 DE 0.1 10.00")
+print("bob buy h12 DE 409.6 10.00")

@@ -1,0 +1,4 @@
+"""One byte more than a session may have."""
+import padded_sale
+
+padded_sale.write(8388609)
