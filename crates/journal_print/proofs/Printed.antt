@@ -1,12 +1,12 @@
 -- What the library prints of plain texts, arrays and objects.
-use Rattle.std.proofs.Common.{◌≡◌, ℕ, ◌≤◌, List, [], ◌∷◌, ◌++◌, Bool, true, false, map, String, Vec, Global, string_bytes, refl, sym, ap, ap₂, ◌∙◌, arith, rules, append_assoc, codes, decimal}
+use Rattle.std.proofs.Common.{◌≡◌, ℕ, List, [], ◌∷◌, ◌++◌, Bool, true, false, map, String, Vec, Global, string_bytes, refl, sym, ap, ap₂, ◌∙◌, arith, rules, append_assoc, codes, decimal}
 use Rattle.std.proofs.lemmas.Bool.{and_parts, or_from, or_parts}
 use Rattle.std.proofs.lemmas.Bool.Decides.{nat_tests}
 use Rattle.std.specs.List.{list_all, join_with_byte}
 use Rattle.json.specs.Print.{escape_byte, escape, quoted}
 use Rattle.serde_json.specs.Data.{Data, number, string, array, object, unsigned, Members, no_members, member}
 use Rattle.serde_json.specs.View.{view, items_view}
-use Rattle.serde_json.specs.Written.{compact_text, items_text, members_text, has_float, items_have_float, members_have_float}
+use Rattle.serde_json.specs.Written.{compact_text, items_text, members_text, has_float, items_have_float}
 use Rattle.serde_json.specs.declared.value.Value.{Value, the_lemmas}
 use Rattle.serde_json.specs.declared.value.Value as value
 use Rattle.serde_json.proofs.Views.{view-Array}
@@ -57,7 +57,7 @@ array-Prints vs whole = record {
 }
 
 -- members of an object by their keys
-abbrev fields : List (List ℕ × Data) → Members
+abbrev pub fields : List (List ℕ × Data) → Members
 fields [] = no_members
 fields (f ∷ fs) = member f.0 f.1 (fields fs)
 
@@ -101,48 +101,59 @@ items_have_float-push (w ∷ vs) v h k =
     let parts = or_parts _ _ h in
     or_from _ _ parts.0 (items_have_float-push vs v parts.1 k)
 
--- the lines of entries: with events, with the rows of a view, and with a refusal
+-- the fields of the lines of entries: with events, with the rows of a view, and with a refusal
+
+abbrev pub done_fields : (caller : List ℕ) (nth place : ℕ) → Data → List (List ℕ × Data)
+done_fields caller nth place events =
+    (codes "caller", string caller) ∷ (codes "command", number (unsigned nth)) ∷ (codes "done", events)
+    ∷ (codes "entry", number (unsigned place)) ∷ []
+
+abbrev pub seen_fields : (caller : List ℕ) (nth place : ℕ) → Data → List (List ℕ × Data)
+seen_fields caller nth place rows =
+    (codes "caller", string caller) ∷ (codes "command", number (unsigned nth)) ∷ (codes "entry", number (unsigned place))
+    ∷ (codes "rows", rows) ∷ []
+
+abbrev pub refused_fields : (caller : List ℕ) (nth place : ℕ) → Data → List (List ℕ × Data)
+refused_fields caller nth place refused =
+    (codes "caller", string caller) ∷ (codes "command", number (unsigned nth)) ∷ (codes "entry", number (unsigned place))
+    ∷ (codes "refused", refused) ∷ []
+
+-- and their values
 
 abbrev pub done_data : (caller : List ℕ) (nth place : ℕ) → Data → Data
-done_data caller nth place events =
-    object (member (codes "caller") (string caller) (member (codes "command") (number (unsigned nth))
-    (member (codes "done") events (member (codes "entry") (number (unsigned place)) no_members))))
+done_data caller nth place events = object (fields (done_fields caller nth place events))
 
 abbrev pub seen_data : (caller : List ℕ) (nth place : ℕ) → Data → Data
-seen_data caller nth place rows =
-    object (member (codes "caller") (string caller) (member (codes "command") (number (unsigned nth))
-    (member (codes "entry") (number (unsigned place)) (member (codes "rows") rows no_members))))
+seen_data caller nth place rows = object (fields (seen_fields caller nth place rows))
 
 abbrev pub refused_data : (caller : List ℕ) (nth place : ℕ) → Data → Data
-refused_data caller nth place refused =
-    object (member (codes "caller") (string caller) (member (codes "command") (number (unsigned nth))
-    (member (codes "entry") (number (unsigned place)) (member (codes "refused") refused no_members))))
+refused_data caller nth place refused = object (fields (refused_fields caller nth place refused))
 
-pub done-Prints : (line part : Value) (caller : List ℕ) (nth place : ℕ) (events : List (List ℕ)) → IsPlain caller → Prints part (row events)
-    → view line ≡ done_data caller nth place (view part) → Prints line (braces (done_members caller nth place events))
+pub done-Prints : (line part : Value) (caller : List ℕ) (nth place : ℕ) (events : List (List ℕ)) → IsPlain caller
+    → Prints part (row events) → view line ≡ done_data caller nth place (view part)
+    → Prints line (braces (done_members caller nth place events))
 done-Prints line part caller nth place events plain inner is = record {
-  text = ap compact_text is
-      ∙ object-braces ((codes "caller", string caller) ∷ (codes "command", number (unsigned nth)) ∷ (codes "done", view part) ∷ (codes "entry", number (unsigned place)) ∷ []) refl
+  text = ap compact_text is ∙ object-braces (done_fields caller nth place (view part)) refl
       ∙ ap₂ (λ name text. braces ((codes "caller", name) ∷ (codes "command", decimal nth) ∷ (codes "done", text) ∷ (codes "entry", decimal place) ∷ []))
       (quoted-plain caller plain) inner.text;
   whole = ap has_float is ∙ or_from _ _ inner.whole refl;
 }
 
-pub seen-Prints : (line part : Value) (caller : List ℕ) (nth place : ℕ) (rows : List (List ℕ)) → IsPlain caller → Prints part (row rows)
-    → view line ≡ seen_data caller nth place (view part) → Prints line (braces (seen_members caller nth place rows))
+pub seen-Prints : (line part : Value) (caller : List ℕ) (nth place : ℕ) (rows : List (List ℕ)) → IsPlain caller
+    → Prints part (row rows) → view line ≡ seen_data caller nth place (view part)
+    → Prints line (braces (seen_members caller nth place rows))
 seen-Prints line part caller nth place rows plain inner is = record {
-  text = ap compact_text is
-      ∙ object-braces ((codes "caller", string caller) ∷ (codes "command", number (unsigned nth)) ∷ (codes "entry", number (unsigned place)) ∷ (codes "rows", view part) ∷ []) refl
+  text = ap compact_text is ∙ object-braces (seen_fields caller nth place (view part)) refl
       ∙ ap₂ (λ name text. braces ((codes "caller", name) ∷ (codes "command", decimal nth) ∷ (codes "entry", decimal place) ∷ (codes "rows", text) ∷ []))
       (quoted-plain caller plain) inner.text;
   whole = ap has_float is ∙ or_from _ _ inner.whole refl;
 }
 
-pub refused-Prints : (line part : Value) (caller : List ℕ) (nth place : ℕ) (refused : List (List ℕ)) → IsPlain caller → Prints part (row refused)
-    → view line ≡ refused_data caller nth place (view part) → Prints line (braces (refused_members caller nth place refused))
+pub refused-Prints : (line part : Value) (caller : List ℕ) (nth place : ℕ) (refused : List (List ℕ)) → IsPlain caller
+    → Prints part (row refused) → view line ≡ refused_data caller nth place (view part)
+    → Prints line (braces (refused_members caller nth place refused))
 refused-Prints line part caller nth place refused plain inner is = record {
-  text = ap compact_text is
-      ∙ object-braces ((codes "caller", string caller) ∷ (codes "command", number (unsigned nth)) ∷ (codes "entry", number (unsigned place)) ∷ (codes "refused", view part) ∷ []) refl
+  text = ap compact_text is ∙ object-braces (refused_fields caller nth place (view part)) refl
       ∙ ap₂ (λ name text. braces ((codes "caller", name) ∷ (codes "command", decimal nth) ∷ (codes "entry", decimal place) ∷ (codes "refused", text) ∷ []))
       (quoted-plain caller plain) inner.text;
   whole = ap has_float is ∙ or_from _ _ inner.whole refl;

@@ -1,5 +1,5 @@
 -- Compact JSON, as far as a journal needs it: plain texts, arrays and objects.
-use Rattle.std.specs.Prelude.{ℕ, Bool, not, ◌==◌, ◌&&◌, IsTrue, List, ◌∷◌, ◌++◌, map, nat_le, codes}
+use Rattle.std.specs.Prelude.{ℕ, Bool, not, ◌==◌, ◌&&◌, IsTrue, List, ◌++◌, map, nat_le, codes}
 use Rattle.std.specs.List.{list_all, join_with_byte}
 
 -- a byte from `#` to `~` but the backslash, which stands for itself in a text of JSON

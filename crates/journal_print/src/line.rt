@@ -15,9 +15,9 @@ use serde_json::{Value, json};
 use std::alloc::Global;
 use zone_graph::{NoMemory, Text};
 
-/// The line of an entry that stands at this place of the journal, counted from 1: compact JSON, the
-/// keys in the order of bytes, and a line feed. Quantities are printed in MW with one digit after
-/// the point, prices with two.
+/// The line of an entry that stands at this place of the journal, counted from 1: JSON (RFC 8259)
+/// without spaces, the keys in the order of bytes, and a line feed. Quantities are printed in MW
+/// with one digit after the point, prices with two.
 ///
 /// # Errors
 ///

@@ -4,7 +4,7 @@ ghost use Rattle.std.specs.Prelude.{◌≡◌, false, IfOk};
 ghost use Rattle.session_run.specs.Words.{is_trade};
 
 use super::*;
-use outside::{BytesSink, BytesSource, Failed, NullSink, OpenGate, Source, SteadySource};
+use outside::{BytesSink, BytesSource, Failed, NullSink, OpenGate, Sink, Source, SteadySource};
 use std::alloc::Global;
 use std::test::Fail;
 use zone_graph::{NoMemory, Sequence, Word};
@@ -110,6 +110,41 @@ fn a_failed_write_leaves_what_went_before(rt: HostRuntime) -> Result<(), Fail> {
     let status = run_alone(rt.alloc(), words.as_slice(), &mut source, &mut sink);
     assert_eq!(rt; status, Status::WriteFault);
     assert_eq!(rt; sink.bytes(), &JOURNAL[..20]);
+    Ok(())
+}
+
+// A sink that takes at most 10 bytes of a piece, and notes how long each piece was.
+#[derive(Drop)]
+struct Noting {
+    lengths: Vec<usize>,
+}
+
+impl Sink for Noting {
+    ghost use Rattle.std.specs.Prelude.{◌^◌, ◌-◌, None};
+
+    ghost written = { λ _. None };
+
+    ghost faults = { λ _. 2 ^ 64 - 1 };
+
+    fn write(&mut self, piece: &[u8]) -> Result<usize, Failed> {
+        self.lengths.push(piece.len()).map_err(|_| Failed)?;
+        Ok(piece.len().min(10))
+    }
+}
+
+#[test]
+fn each_write_is_handed_what_is_left_of_one_line(rt: HostRuntime) -> Result<(), Fail> {
+    let words = replay_word(rt.alloc())?;
+    let mut source = SteadySource::new(rt.alloc(), SALE)?;
+    let mut sink = Noting {
+        lengths: Vec::new(rt.alloc()),
+    };
+    let status = run_alone(rt.alloc(), words.as_slice(), &mut source, &mut sink);
+    assert_eq!(rt; status, Status::Done);
+    let lengths = [
+        74, 64, 54, 44, 34, 24, 14, 4, 115, 105, 95, 85, 75, 65, 55, 45, 35, 25, 15, 5,
+    ];
+    assert_eq!(rt; sink.lengths.as_slice(), lengths.as_slice());
     Ok(())
 }
 

@@ -1,1 +1,6 @@
+pub mod Examples
+pub mod Graph
 pub mod Name
+pub mod Reach
+pub mod Route
+pub mod RouteLaws

@@ -3,11 +3,16 @@
 //! lists, words and texts that contracts see as plain lists.
 #![tactic(auto)]
 
+mod laws;
 mod memory;
 mod route;
 mod sequence;
 mod word;
 
+pub use laws::{
+    no_best_route_where_no_route_is, no_route_beats_the_best, rooms_of_arcs_decide_the_best_route,
+    zones_are_reached_by_routes,
+};
 pub use memory::{Duplicate, NoMemory};
 pub use route::{Arc, Legs, Pairs, Route, RouteLeg, Zones};
 pub use sequence::Sequence;

@@ -1,7 +1,6 @@
-use Rattle.std.proofs.Common.{◌≡◌, ◌/◌, ◌%◌, [], ◌∷◌, ◌++◌, decimal, IfOk, sym, ap, subst, ◌∙◌, arith, string_bytes}
+use Rattle.std.proofs.Common.{◌≡◌, ◌/◌, ◌%◌, [], ◌∷◌, ◌++◌, decimal, IfOk, sym, ap, subst, ◌∙◌, arith}
 use Rattle.std.proofs.lemmas.Fmt.{decimal_digit}
 use Rattle.journal_print.specs.Json.{IsPlain, quote}
-use Rattle.journal_print.specs.Line.{quantity_text}
 use Rattle.journal_print.proofs.Plain.{plain-quantity_text}
 use Rattle.journal_print.proofs.row.Row.bound.Goals as goal
 

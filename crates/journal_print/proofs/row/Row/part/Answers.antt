@@ -1,7 +1,3 @@
-use Rattle.std.proofs.Common.{◌≡◌, false, sym, subst, List}
-use Rattle.serde_json.specs.declared.value.Value.{Value}
-use Rattle.serde_json.specs.View.{items_view}
-use Rattle.serde_json.specs.Written.{items_have_float}
 use Rattle.journal_print.proofs.Printed.{items_have_float-push}
 use Rattle.journal_print.proofs.row.Row.part.Goals as goal
 

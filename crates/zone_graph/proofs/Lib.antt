@@ -1,0 +1,4 @@
+pub mod BestRoute
+pub mod Least
+pub mod Membership
+pub mod Routes
