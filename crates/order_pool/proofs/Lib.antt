@@ -1,0 +1,10 @@
+pub mod Chains
+pub mod Edits
+pub mod OnceLemmas
+pub mod RingLemmas
+pub mod RingCalls
+pub mod MoveLemmas
+pub mod PoolLemmas
+pub mod FillLemmas
+pub mod PoolCalls
+pub mod PoolStates

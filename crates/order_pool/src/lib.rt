@@ -1,0 +1,18 @@
+//! A fixed region of 4096 places for items, with lines linked through it.
+//!
+//! A [`Pool`] holds items of a type that can be copied, each at a place of its own, and keeps its
+//! live places in lines, whose order the caller makes: a place joins a line before another place
+//! or at its end. All memory is taken when the pool is made or copied, and no other call depends
+//! on how many places are live.
+#![tactic(auto)]
+
+mod faults;
+mod pool;
+mod rings;
+mod slots;
+#[cfg(test)]
+mod tests;
+
+pub use faults::{Full, NoMemory};
+pub use pool::{MOST_LINES, Pool};
+pub use rings::PLACES;
