@@ -4,3 +4,5 @@ pub mod Side
 pub mod Contract
 pub mod Phase
 pub mod Order
+pub mod Period
+pub mod Same

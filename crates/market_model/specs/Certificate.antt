@@ -1,0 +1,65 @@
+-- Why an order cannot be filled: a set of zones, and what can come into it at the most. The bound is
+-- that of a cut in textbooks on maximum flow.
+use Rattle.std.specs.Prelude.{ℕ, ◌+◌, Bool, ◌&&◌, List, map, filter, sum_by, if◌then◌else◌}
+use Rattle.std.specs.List.{range_with_len}
+use Rattle.order_kinds.specs.declared.order.Kind.{Kind}
+use Rattle.order_kinds.specs.declared.order.Kind.TheVariants as kind
+use Rattle.order_kinds.specs.declared.order.Order.{Order}
+use Rattle.order_kinds.specs.declared.price.Price.{Price}
+use Rattle.order_kinds.specs.declared.side.Side.{Side}
+use Rattle.order_kinds.specs.declared.side.Side.TheVariants.{Buy, Sell}
+use Rattle.order_kinds.specs.Order.{peak_count, peak_price}
+use Rattle.order_kinds.specs.Period.{contract_quarters}
+use Rattle.order_kinds.specs.Side.{crosses, opposite}
+use Rattle.iceberg_peak.specs.Peak.{peak_left}
+use Rattle.zone_graph.specs.declared.route.Arc.{Arc}
+use Rattle.zone_graph.specs.Graph.{Graph}
+use Rattle.zone_graph.specs.Pour.{lots_if}
+use Rattle.zone_graph.specs.Reach.{entering_room, leaving_room, zones_beyond, zones_towards}
+use Rattle.zone_graph.specs.Route.{has}
+use Rattle.market_model.specs.declared.event.Event.{Event}
+use Rattle.market_model.specs.Entering.{after_taking, with_order}
+use Rattle.market_model.specs.Lines.{line}
+use Rattle.market_model.specs.Orders.{Standing}
+use Rattle.market_model.specs.Room.{room}
+
+-- the lots of a resting order that cross a taker's price: of an iceberg those of each peak that is
+-- left and crosses, hidden ones too; of any other order all that is left, where its price crosses
+abbrev pub crossing_lots : (taker : Order) → Standing → ℕ
+crossing_lots taker other = by_kind other.order.kind
+  where
+    by_kind : Kind → ℕ
+    by_kind (kind.Iceberg peak delta) = sum_by
+      (λ number. lots_if (crosses taker.side taker.price (peak_price other.order.side other.order.price delta number))
+        (peak_left other.order.quantity.0 peak.0 other.filled number))
+      (range_with_len 0 (peak_count other.order.quantity.0 peak.0))
+    by_kind _ = lots_if (crosses taker.side taker.price other.price) other.left
+
+-- what crosses of the opposite orders that stand in some zones
+abbrev pub crossing_inside : List Event → (taker : Order) → (zones : List ℕ) → ℕ
+crossing_inside events taker zones =
+    sum_by (crossing_lots taker) (filter (λ other. has other.order.zone zones) (line events taker.contract (opposite taker.side)))
+
+-- the zones that a taker's zone can still trade with: for a buy those that reach it, for a sell
+-- those that it reaches
+abbrev pub zones_in_reach : Graph → (Arc → ℕ) → Side → (zone : ℕ) → List ℕ
+zones_in_reach graph room Buy zone = zones_towards graph room zone
+zones_in_reach graph room Sell zone = zones_beyond graph room zone
+
+-- the room of the arcs over which energy comes to a buy from outside some zones, or goes out of them
+-- from a sell
+abbrev pub room_across : Graph → (Arc → ℕ) → Side → (zones : List ℕ) → ℕ
+room_across graph room Buy zones = entering_room graph room zones
+room_across graph room Sell zones = leaving_room graph room zones
+
+-- the zones that are still in reach where an order's taking ends
+unfoldable pub unfilled_zones : Graph → List Event → (caller : ℕ) → Order → List ℕ
+unfilled_zones graph events caller order =
+    zones_in_reach graph (room (after_taking graph events caller order) (contract_quarters order.contract)) order.side order.zone
+
+-- the most that an order can obtain of some zones and from outside them, as its taking starts: what
+-- crosses inside them, and the room across their borders
+unfoldable pub bound_of : Graph → List Event → (caller : ℕ) → Order → (zones : List ℕ) → ℕ
+bound_of graph events caller order zones =
+    let start = with_order events caller order in
+    crossing_inside start order zones + room_across graph (room start (contract_quarters order.contract)) order.side zones
