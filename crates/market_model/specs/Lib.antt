@@ -2,6 +2,7 @@ pub mod Blocks
 pub mod Capacity
 pub mod Certificate
 pub mod Command
+pub mod DeepLaws
 pub mod Entering
 pub mod Grid
 pub mod History
@@ -16,3 +17,4 @@ pub mod Rules
 pub mod Sweep
 pub mod Taking
 pub mod View
+pub mod WellFormed

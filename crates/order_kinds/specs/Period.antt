@@ -39,14 +39,18 @@ abbrev pub range_quarters : (first last : Quarter) → List Quarter
 range_quarters first last =
     filter (λ quarter. is_not_after first quarter && is_not_after quarter last) (block_quarters first.hour last.hour)
 
+-- a quarter is one of its hour's four
+abbrev pub is_quarter : Quarter → Bool
+is_quarter quarter = nat_le 1 quarter.number && nat_le quarter.number 4
+
 -- a contract delivers in a quarter
 abbrev pub contract_has : Contract → Quarter → Bool
 contract_has contract quarter = (contract.hour == quarter.hour) && covers contract.part quarter.number
 
 -- a block delivers in a quarter
 abbrev pub block_has : (first last : ℕ) → Quarter → Bool
-block_has first last quarter = is_within first last quarter.hour && nat_le 1 quarter.number && nat_le quarter.number 4
+block_has first last quarter = is_within first last quarter.hour && is_quarter quarter
 
 -- a quarter is one of those from the first to the last
 abbrev pub range_has : (first last : Quarter) → Quarter → Bool
-range_has first last quarter = is_not_after first quarter && is_not_after quarter last
+range_has first last quarter = is_quarter quarter && is_not_after first quarter && is_not_after quarter last
