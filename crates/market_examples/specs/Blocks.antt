@@ -2,7 +2,7 @@
 use Rattle.std.specs.Prelude.{ℕ, List, [], ◌∷◌, codes}
 use Rattle.order_kinds.specs.Period.{quarter_of}
 use Rattle.market_model.specs.Market.{Turn}
-use Rattle.market_examples.specs.Words.{A, B, C, D, DE, FR, ann, blocks, bob, buy_block, by, cat, closed, gate, offer, quarter, request, sell_block, tso}
+use Rattle.market_examples.specs.Words.{A, B, C, D, DE, FR, ann, blocks, bob, buy_block, by, cat, closed, gate, offer, request, sell_block, tso}
 
 -- Blocks that rest trade once capacity is there in every quarter, when they are asked to.
 abbrev pub blocks_matched_later : List Turn

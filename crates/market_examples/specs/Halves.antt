@@ -2,7 +2,7 @@
 use Rattle.std.specs.Prelude.{ℕ, List, [], ◌∷◌, codes}
 use Rattle.order_kinds.specs.Period.{quarter_of}
 use Rattle.market_model.specs.Market.{Turn}
-use Rattle.market_examples.specs.Words.{A, DE, FR, ann, bob, buy, by, half, hour, limit, offer, quarter, sell, tso}
+use Rattle.market_examples.specs.Words.{DE, FR, ann, bob, buy, by, half, limit, offer, quarter, sell, tso}
 
 -- A half hour uses the two quarters that it has.
 abbrev pub half_hours : List Turn

@@ -2,7 +2,7 @@
 use Rattle.std.specs.Prelude.{ℕ, List, [], ◌∷◌, codes}
 use Rattle.order_kinds.specs.Period.{quarter_of}
 use Rattle.market_model.specs.Market.{Turn}
-use Rattle.market_examples.specs.Words.{A, DE, FR, ann, bob, buy, by, cat, halt, hour, limit, offer, quarter, request, resume, sell, tso}
+use Rattle.market_examples.specs.Words.{DE, FR, ann, bob, buy, by, cat, halt, hour, limit, offer, quarter, request, resume, sell, tso}
 
 -- A trade over a border opens the other direction, and the sweep trades the quarter that waited for it.
 abbrev pub sweep_after_netting : List Turn

@@ -1,7 +1,7 @@
 -- Worked sessions and their journals.
 use Rattle.std.specs.Prelude.{ℕ, List, [], ◌∷◌, codes}
 use Rattle.market_model.specs.Market.{Turn}
-use Rattle.market_examples.specs.Words.{A, DE, ann, bob, buy, by, hour, limit, sell}
+use Rattle.market_examples.specs.Words.{DE, ann, bob, buy, by, hour, limit, sell}
 
 -- A sale within one zone, at the resting order's price.
 abbrev pub one_sale : List Turn

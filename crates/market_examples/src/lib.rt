@@ -2,18 +2,21 @@
 //! session follows, to the byte. Each is the contract of a function that does nothing.
 #![tactic(auto)]
 
-mod trading;
+mod blocks;
+mod filling;
+mod halves;
+mod refusing;
 mod routes;
 mod sweeping;
-mod filling;
-mod blocks;
-mod refusing;
-mod halves;
+mod trading;
 
-pub use trading::{one_sale};
-pub use routes::{two_routes, netting, quarters_share_a_border, local_and_remote, below_the_flow};
-pub use sweeping::{sweep_after_netting, halt_and_resume};
-pub use filling::{unfilled_fill_or_kill, iceberg_peaks, iceberg_with_a_delta, views, cancel_and_reduce, immediate_or_cancel, zones_of_an_unfilled_order, baskets};
-pub use blocks::{blocks_matched_later, block_over_two_routes};
-pub use refusing::{named_refusals};
+pub use blocks::{block_over_two_routes, blocks_matched_later};
+pub use filling::{
+    baskets, cancel_and_reduce, iceberg_peaks, iceberg_with_a_delta, immediate_or_cancel,
+    unfilled_fill_or_kill, views, zones_of_an_unfilled_order,
+};
 pub use halves::{half_hours, halves_before_quarters};
+pub use refusing::named_refusals;
+pub use routes::{below_the_flow, local_and_remote, netting, quarters_share_a_border, two_routes};
+pub use sweeping::{halt_and_resume, sweep_after_netting};
+pub use trading::one_sale;

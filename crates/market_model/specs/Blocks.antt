@@ -1,6 +1,6 @@
 -- How blocks trade: wholly or not at all, with one other block of the same period and quantity. That
 -- blocks are matched whole is the public description's; the choice of the partner is this profile's.
-use Rattle.std.specs.Prelude.{ℕ, ◌+◌, Bool, true, false, ◌==◌, ◌&&◌, List, [], ◌∷◌, ◌++◌, map, filter, flat_map, length, Option, Some, None, if◌then◌else◌}
+use Rattle.std.specs.Prelude.{ℕ, Bool, false, ◌==◌, ◌&&◌, List, [], ◌∷◌, ◌++◌, map, filter, flat_map, length, Option, Some, None, if◌then◌else◌}
 use Rattle.std.specs.List.{find}
 use Rattle.std.specs.Option.{option_map}
 use Rattle.std.specs.Ordering.{is_lt, nat_cmp, ordering_then}
@@ -24,7 +24,6 @@ use Rattle.market_model.specs.Lines.{in_order}
 use Rattle.market_model.specs.Orders.{PlacedBlock, block_moment, blocks_placed, is_open, left, next_name}
 use Rattle.market_model.specs.Room.{room}
 use Rattle.market_model.specs.Sweep.{first_answer, sweeps}
-use Rattle.market_model.specs.Taking.{◌>>=◌}
 
 -- a block as it stands: what was entered, what is left of it, and its moment
 pub record StandingBlock : Type 0 where
@@ -94,8 +93,8 @@ block_leg_over taker maker leg = event.BlockLeg taker.order.first taker.order.la
 unfoldable pub block_leg : Graph → (taker maker : StandingBlock) → List Event → Option Event
 block_leg graph taker maker events =
     option_map (block_leg_over taker maker)
-      (pour_leg graph (room events (block_quarters taker.order.first taker.order.last))
-        (block_seller_zone taker maker) (block_buyer_zone taker maker) (left events taker.name))
+    (pour_leg graph (room events (block_quarters taker.order.first taker.order.last))
+    (block_seller_zone taker maker) (block_buyer_zone taker maker) (left events taker.name))
 
 -- the legs of the pour: each lowers what is left of the taker, so there are no more than that
 unfoldable pub block_legs : Graph → (taker maker : StandingBlock) → List Event → List Event
@@ -125,7 +124,7 @@ block_partner graph events own =
 abbrev pub entering_block : List Event → (caller : ℕ) → BlockOrder → StandingBlock
 entering_block events caller order =
     standing_block (and_then events (event.EnteredBlock (next_name events order.first) caller order))
-      (record { name = next_name events order.first; caller = caller; order = order })
+    (record { name = next_name events order.first; caller = caller; order = order })
 
 -- the history with the block entered
 abbrev pub with_block : List Event → (caller : ℕ) → BlockOrder → List Event

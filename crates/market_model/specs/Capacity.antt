@@ -1,7 +1,7 @@
 -- The capacity of the arcs, in lots, quarter by quarter, as sums over a history. The outline is that
 -- of the public descriptions of cross-border capacity: trades and explicit requests use up what is
 -- offered, and opposite flows net.
-use Rattle.std.specs.Prelude.{ℕ, ◌==◌, ◌&&◌, List, sum_by, ℤ, Option, Some, None, if◌then◌else◌}
+use Rattle.std.specs.Prelude.{ℕ, ◌&&◌, List, sum_by, ℤ, Option, Some, None, if◌then◌else◌}
 use Rattle.order_kinds.specs.declared.contract.Quarter.{Quarter}
 use Rattle.order_kinds.specs.Period.{block_has, contract_has, range_has}
 use Rattle.quarter_capacity.specs.Capacity.{flow_of, remaining_of}

@@ -1,11 +1,10 @@
 -- Why an order cannot be filled: a set of zones, and what can come into it at the most. The bound is
 -- that of a cut in textbooks on maximum flow.
-use Rattle.std.specs.Prelude.{ℕ, ◌+◌, Bool, ◌&&◌, List, map, filter, sum_by, if◌then◌else◌}
+use Rattle.std.specs.Prelude.{ℕ, ◌+◌, List, filter, sum_by}
 use Rattle.std.specs.List.{range_with_len}
 use Rattle.order_kinds.specs.declared.order.Kind.{Kind}
 use Rattle.order_kinds.specs.declared.order.Kind.TheVariants as kind
 use Rattle.order_kinds.specs.declared.order.Order.{Order}
-use Rattle.order_kinds.specs.declared.price.Price.{Price}
 use Rattle.order_kinds.specs.declared.side.Side.{Side}
 use Rattle.order_kinds.specs.declared.side.Side.TheVariants.{Buy, Sell}
 use Rattle.order_kinds.specs.Order.{peak_count, peak_price}
@@ -30,9 +29,9 @@ crossing_lots taker other = by_kind other.order.kind
   where
     by_kind : Kind → ℕ
     by_kind (kind.Iceberg peak delta) = sum_by
-      (λ number. lots_if (crosses taker.side taker.price (peak_price other.order.side other.order.price delta number))
+        (λ number. lots_if (crosses taker.side taker.price (peak_price other.order.side other.order.price delta number))
         (peak_left other.order.quantity.0 peak.0 other.filled number))
-      (range_with_len 0 (peak_count other.order.quantity.0 peak.0))
+        (range_with_len 0 (peak_count other.order.quantity.0 peak.0))
     by_kind _ = lots_if (crosses taker.side taker.price other.price) other.left
 
 -- what crosses of the opposite orders that stand in some zones

@@ -1,6 +1,6 @@
 -- What else is to be true of every legal history. These are statements; each is proved only where
 -- the contract of a function says it.
-use Rattle.std.specs.Prelude.{◌≡◌, ℕ, ◌≤◌, Bool, true, false, List, [], ◌∷◌, ◌++◌, map, pos, ◌≤ℤ◌, Option}
+use Rattle.std.specs.Prelude.{◌≡◌, ℕ, Bool, true, false, List, ◌∷◌, ◌++◌, pos, ◌≤ℤ◌}
 use Rattle.std.specs.List.{list_any}
 use Rattle.order_kinds.specs.declared.contract.Part.{Part}
 use Rattle.order_kinds.specs.declared.contract.Part.TheVariants as part
@@ -31,7 +31,7 @@ history_of setup turns = journal_events (run_of setup turns)
 abbrev pub RepliesAreLocal : Type 0
 RepliesAreLocal = (setup : Setup) (turns others : List Turn) (caller : ℕ) (given : Command) → IsMarketSetup setup
     → ((hour : ℕ) → IsIn hour (touched_hours setup caller given)
-      → of_hour hour (history_of setup turns) ≡ of_hour hour (history_of setup others))
+    → of_hour hour (history_of setup turns) ≡ of_hour hour (history_of setup others))
     → reply_to setup (history_of setup turns) caller given ≡ reply_to setup (history_of setup others) caller given
 
 -- and it brings about no event that touches another hour
@@ -57,9 +57,9 @@ NothingIsOversold = (setup : Setup) (turns : List Turn) (before after : List Eve
 abbrev pub NothingLeftToTrade : Type 0
 NothingLeftToTrade = (setup : Setup) (turns : List Turn) (buy sell : Placed) → IsMarketSetup setup
     → let events = history_of setup turns in
-      IsIn buy (placed events) → IsIn sell (placed events) → is_open events buy.name ≡ true → is_open events sell.name ≡ true
-      → buy.order.contract ≡ sell.order.contract → buy.order.side ≡ Buy → sell.order.side ≡ Sell
-      → can_trade (graph_of setup) (rooms_for events (standing events buy)) (standing events buy) (standing events sell) ≡ false
+    IsIn buy (placed events) → IsIn sell (placed events) → is_open events buy.name ≡ true → is_open events sell.name ≡ true
+    → buy.order.contract ≡ sell.order.contract → buy.order.side ≡ Buy → sell.order.side ≡ Sell
+    → can_trade (graph_of setup) (rooms_for events (standing events buy)) (standing events buy) (standing events sell) ≡ false
 
 -- a part is a half of an hour
 abbrev pub is_half : Part → Bool

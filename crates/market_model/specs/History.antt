@@ -1,5 +1,5 @@
 -- Histories: lists of events, in the order in which they happened.
-use Rattle.std.specs.Prelude.{ℕ, ◌+◌, Bool, true, false, ◌==◌, List, [], ◌∷◌, ◌++◌, count_by, filter, flat_map, fold, unwrap_or, Option}
+use Rattle.std.specs.Prelude.{ℕ, Bool, true, false, ◌==◌, List, [], ◌∷◌, ◌++◌, count_by, filter, flat_map, fold, unwrap_or, Option}
 use Rattle.order_kinds.specs.Period.{is_within}
 use Rattle.market_model.specs.declared.entry.Entry.{Entry}
 use Rattle.market_model.specs.declared.event.Event.{Event}

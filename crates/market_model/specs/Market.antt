@@ -1,11 +1,9 @@
 -- The plain market: the reply to each command after the events before it, and the journal of a list
 -- of commands. Everything that is claimed of the program is claimed of these.
-use Rattle.std.specs.Prelude.{◌≡◌, ℕ, ◌+◌, ◌-◌, ◌==◌, Bool, List, [], ◌∷◌, ◌++◌, map, count_by, Option, Some, None}
+use Rattle.std.specs.Prelude.{◌≡◌, ℕ, ◌+◌, ◌-◌, ◌==◌, List, [], ◌∷◌, ◌++◌, map, count_by, Option, Some, None}
 use Rattle.std.specs.List.{filter_map, slice_get}
 use Rattle.std.specs.Option.{option_map, option_and_then}
 use Rattle.order_kinds.specs.declared.contract.Part.{Part}
-use Rattle.order_kinds.specs.declared.contract.Quarter.{Quarter}
-use Rattle.order_kinds.specs.declared.order.OrderName.{OrderName}
 use Rattle.order_kinds.specs.declared.phase.Phase.{Phase}
 use Rattle.order_kinds.specs.declared.phase.Phase.TheVariants as phase
 use Rattle.order_kinds.specs.Period.{hours_from}
@@ -132,7 +130,7 @@ IsLegal setup entries = entries ≡ run_of setup (map turn_of entries)
 abbrev pub turn_at : (commands : List (List Command)) → (caller before : ℕ) → Option Turn
 turn_at commands caller before =
     option_map (λ given. record { caller = caller; command = given })
-      (option_and_then (λ own. slice_get own before) (slice_get commands caller))
+    (option_and_then (λ own. slice_get own before) (slice_get commands caller))
 
 -- the commands of each caller in the order of turns that name the callers: the k-th is the next
 -- command of the k-th caller named

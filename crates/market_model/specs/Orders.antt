@@ -1,10 +1,8 @@
 -- The state of orders and blocks, from the events that name them. Icebergs, and trades by price and
 -- then time, are in the public description of continuous matching; the exact moments are this
 -- profile's. Lots are tenths of a MW.
-use Rattle.std.specs.Prelude.{ℕ, ◌+◌, ◌-◌, ◌%◌, Bool, true, false, ◌==◌, ◌&&◌, ◌||◌, List, [], ◌∷◌, ◌++◌, map, filter, count_by, sum_by, length, nat_lt, Option, Some, None, if◌then◌else◌}
+use Rattle.std.specs.Prelude.{ℕ, ◌+◌, ◌-◌, ◌%◌, Bool, false, ◌==◌, ◌&&◌, ◌||◌, List, [], ◌∷◌, filter, count_by, sum_by, length, nat_lt, Option, Some, None, if◌then◌else◌}
 use Rattle.std.specs.List.{filter_map, find}
-use Rattle.std.specs.Option.{option_map}
-use Rattle.order_kinds.specs.declared.contract.Contract.{Contract}
 use Rattle.order_kinds.specs.declared.order.BlockOrder.{BlockOrder}
 use Rattle.order_kinds.specs.declared.order.Kind.{Kind}
 use Rattle.order_kinds.specs.declared.order.Kind.TheVariants as kind
@@ -17,7 +15,7 @@ use Rattle.zone_graph.specs.Pour.{lots_if}
 use Rattle.market_model.specs.declared.event.Event.{Event}
 use Rattle.market_model.specs.declared.event.Event.TheVariants as event
 use Rattle.market_model.specs.declared.event.Leg.{Leg}
-use Rattle.market_model.specs.History.{and_then, enters, enters_in, of_hour}
+use Rattle.market_model.specs.History.{and_then, enters_in, of_hour}
 
 -- a leg is of an order or block: as its taker or as its maker
 abbrev pub names : Leg → OrderName → Bool

@@ -117,7 +117,7 @@ unfilled_refusal graph events caller (command.Enter order) = if is_fill_or_kill 
   where
     certified : Unit {0} → Option Refusal
     certified _ = let zones = unfilled_zones graph events caller order in
-      unless (is_filled graph events caller order) (refusal.Unfilled zones (bound_of graph events caller order zones))
+        unless (is_filled graph events caller order) (refusal.Unfilled zones (bound_of graph events caller order zones))
 unfilled_refusal graph events caller _ = None
 
 -- an order of a basket is filled, or the basket is refused with its hour, zones and bound
@@ -125,7 +125,7 @@ abbrev pub basket_order_refusal : Graph → List Event → (caller : ℕ) → Or
 basket_order_refusal graph events caller order =
     let zones = unfilled_zones graph events caller order in
     unless (is_filled graph events caller order)
-      (refusal.BasketUnfilled order.contract.hour zones (bound_of graph events caller order zones))
+    (refusal.BasketUnfilled order.contract.hour zones (bound_of graph events caller order zones))
 
 -- the orders of a basket are all filled, each by itself
 abbrev pub basket_refusal : Graph → List Event → (caller : ℕ) → Command → Option Refusal
@@ -154,7 +154,7 @@ order_desk_refusal graph events caller order = rests (rest_of graph events calle
     rests : ℕ → Option Refusal
     rests zero = None
     rests (suc more) =
-      unless (has_desk_room (after_taking graph events caller order) (name_of_next events order)) refusal.DeskFull
+        unless (has_desk_room (after_taking graph events caller order) (name_of_next events order)) refusal.DeskFull
 
 -- a block that finds no partner has room on the desk of its first hour
 abbrev pub block_desk_refusal : Graph → List Event → (caller : ℕ) → BlockOrder → Option Refusal

@@ -1,15 +1,12 @@
 -- What a command names, and the rules that it can break by itself, whatever happened before. The
 -- rules, their order and their limits are this profile's.
-use Rattle.std.specs.Prelude.{ℕ, ◌+◌, ◌-◌, Bool, true, false, ◌==◌, ◌&&◌, ◌||◌, not, List, [], ◌∷◌, map, length, nat_le, nat_lt, Option, Some, None, is_some, is_none, slice_get, if◌then◌else◌}
-use Rattle.std.specs.List.{list_all, list_any}
+use Rattle.std.specs.Prelude.{ℕ, ◌+◌, ◌-◌, Bool, true, false, ◌&&◌, List, [], ◌∷◌, map, length, nat_le, nat_lt, Option, Some, None, is_some, is_none, slice_get, if◌then◌else◌}
+use Rattle.std.specs.List.{list_all}
 use Rattle.std.specs.Option.{option_map_or}
-use Rattle.order_kinds.specs.declared.contract.Contract.{Contract}
 use Rattle.order_kinds.specs.declared.contract.Part.{Part}
 use Rattle.order_kinds.specs.declared.contract.Part.TheVariants as part
-use Rattle.order_kinds.specs.declared.contract.Quarter.{Quarter}
 use Rattle.order_kinds.specs.declared.order.Kind.{Kind}
 use Rattle.order_kinds.specs.declared.order.Kind.TheVariants as kind
-use Rattle.order_kinds.specs.declared.order.Order.{Order}
 use Rattle.order_kinds.specs.declared.price.Lots.{Lots}
 use Rattle.order_kinds.specs.declared.price.Price.{Price}
 use Rattle.order_kinds.specs.Contract.{is_known}

@@ -32,7 +32,7 @@ leg_over room taker maker route = event.Leg taker.order.contract (record {
 unfoldable pub trade : Graph → List Event → (taker maker : Standing) → Option Event
 trade graph events taker maker =
     option_map (leg_over (rooms_for events taker) taker maker)
-      (best_route graph (rooms_for events taker) (seller_zone taker maker) (buyer_zone taker maker))
+    (best_route graph (rooms_for events taker) (seller_zone taker maker) (buyer_zone taker maker))
 
 -- an order as it stands, where it is open
 abbrev pub standing_order : List Event → OrderName → Option Standing

@@ -1,6 +1,6 @@
 -- What every legal history keeps, event by event, given the events before. Over lists of events of
 -- any kind much of what is said of orders and capacity is false; of these lists it holds.
-use Rattle.std.specs.Prelude.{◌≡◌, ℕ, ◌<◌, ◌≤◌, true, List, [], ◌∷◌, length, Option, None, pos, ◌≤ℤ◌}
+use Rattle.std.specs.Prelude.{◌≡◌, ℕ, ◌<◌, ◌≤◌, true, List, [], ◌∷◌, length, None, pos, ◌≤ℤ◌}
 use Rattle.order_kinds.specs.declared.contract.Contract.{Contract}
 use Rattle.order_kinds.specs.declared.contract.Quarter.{Quarter}
 use Rattle.order_kinds.specs.declared.order.BlockOrder.{BlockOrder}
@@ -20,7 +20,7 @@ use Rattle.market_model.specs.declared.event.Event.{Event}
 use Rattle.market_model.specs.declared.event.Event.TheVariants as event
 use Rattle.market_model.specs.declared.event.Leg.{Leg}
 use Rattle.market_model.specs.declared.setup.Setup.{Setup}
-use Rattle.market_model.specs.Blocks.{StandingBlock, block_buyer_zone, block_seller_zone, standing_block}
+use Rattle.market_model.specs.Blocks.{block_buyer_zone, block_seller_zone, standing_block}
 use Rattle.market_model.specs.Capacity.{flow}
 use Rattle.market_model.specs.Grid.{graph_of}
 use Rattle.market_model.specs.History.{and_then}
