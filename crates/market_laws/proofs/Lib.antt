@@ -1,6 +1,13 @@
+pub mod Balances
+pub mod Carrying
 pub mod Growing
+pub mod Legs
 pub mod Members
 pub mod Names
+pub mod Placed
+pub mod Repeats
+pub mod Soundness
 pub mod States
 pub mod Tests
+pub mod Trades
 pub mod Unique
