@@ -1,5 +1,6 @@
 pub mod Balances
 pub mod Carrying
+pub mod Falls
 pub mod Growing
 pub mod Legs
 pub mod Members
