@@ -12,3 +12,4 @@ pub mod States
 pub mod Tests
 pub mod Trades
 pub mod Unique
+pub mod Wholes

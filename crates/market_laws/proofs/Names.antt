@@ -1,6 +1,8 @@
 -- Names are given once: in each hour the orders and blocks that enter are numbered from 1.
 use Rattle.std.proofs.Common.{◌≡◌, ℕ, ◌+◌, ◌≤◌, Bool, true, false, cond, List, [], count_by, refl, sym, ap, subst, nat_eq, eq-eqb, arith}
 use Rattle.std.proofs.lemmas.List.Sums.{sum_by_push}
+use Rattle.order_kinds.specs.declared.order.Order.{Order}
+use Rattle.order_kinds.specs.declared.order.BlockOrder.{BlockOrder}
 use Rattle.order_kinds.specs.declared.order.OrderName.{OrderName}
 use Rattle.order_kinds.specs.Same.{same_name}
 use Rattle.market_model.specs.declared.event.Event.{Event}
@@ -120,3 +122,16 @@ nothing_entered = record { once = λ name. omega arith; numbered = λ name some.
 -- names are given once in every history whose events fit
 pub names-once : (setup : Setup) (events : List Event) → FitAfter setup [] events → NamesOnce events
 names-once setup events fit = grows setup NamesOnce (names-fit setup) [] events fit nothing_entered
+
+-- the name that an order or a block gets is new
+pub order_name-new : (setup : Setup) (before : List Event) (name : OrderName) (caller : ℕ) (order : Order) → NamesOnce before
+    → Fits setup before (event.Entered name caller order) → times_entered before name ≡ 0
+order_name-new setup before name caller order names fits =
+    let hour : name.hour ≡ order.contract.hour = ap (λ (n : OrderName). n.hour) fits.named in
+    is_new before (event.Entered name caller order) name names (subst (λ h. name ≡ next_name before h) (sym hour) fits.named) (λ n. refl) (λ h. refl)
+
+pub block_name-new : (setup : Setup) (before : List Event) (name : OrderName) (caller : ℕ) (order : BlockOrder) → NamesOnce before
+    → Fits setup before (event.EnteredBlock name caller order) → times_entered before name ≡ 0
+block_name-new setup before name caller order names fits =
+    let hour : name.hour ≡ order.first = ap (λ (n : OrderName). n.hour) fits.named in
+    is_new before (event.EnteredBlock name caller order) name names (subst (λ h. name ≡ next_name before h) (sym hour) fits.named) (λ n. refl) (λ h. refl)

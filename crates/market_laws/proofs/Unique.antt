@@ -60,7 +60,7 @@ entered_by-other name (event.Gated hour phase) h = refl
 entered_by-other name (event.Withdrawn given lots) h = refl
 entered_by-other name (event.Reduced given by) h = refl
 
-entered-none : (name : OrderName) (events : List Event) → times_entered events name ≡ 0 → entered events name ≡ 0
+pub entered-none : (name : OrderName) (events : List Event) → times_entered events name ≡ 0 → entered events name ≡ 0
 entered-none name [] none = refl
 entered-none name (event ∷ events) none =
     let counted = rw (times-cons event events name) at none in go (enters_as name event) refl counted (entered-none name events)
