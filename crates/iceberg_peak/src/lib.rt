@@ -1,13 +1,21 @@
 //! The peak of an iceberg order that shows, from what is filled of it.
+//!
+//! An iceberg shows only one peak of its total at a time. The peaks stand one behind the other and
+//! are filled in order, each dearer by a delta than the one before if the order sells, and cheaper
+//! by it if the order buys. So the total, the peak, the delta, the entry price and the lots that
+//! are filled say which peak shows, how much of it is left, and at which price.
+//!
+//! Quantities are lots, tenths of a MW. Prices are cents per MWh. That an iceberg shows one peak at
+//! a time is in the NEMO Committee's public description of the single intraday coupling; the exact
+//! rule is this project's own. No function here takes memory.
 #![tactic(auto)]
 
-ghost use Rattle.std.specs.Prelude.{◌≡◌, ◌≤◌};
-ghost use Rattle.order_kinds.specs.Order.{peak_number};
+mod laws;
+mod peak;
+#[cfg(test)]
+mod tests;
 
-/// The number, counted from 0, of the peak that shows after so many filled lots.
-pub fn number_now(peak: u32, filled: u32) -> u32
-    requires { 1 ≤ peak }
-    ensures { result ≡ peak_number peak filled }
-{
-    filled / peak
-}
+pub use laws::{
+    filled_peak_makes_way_for_the_next, open_iceberg_shows_something, peaks_hold_what_is_left,
+};
+pub use peak::{number_now, price_now, shown};

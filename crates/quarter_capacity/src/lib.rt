@@ -1,12 +1,20 @@
 //! The capacity of a border in one quarter of an hour.
+//!
+//! A border joins two zones and has two arcs, one in each direction. Capacity is offered on each
+//! arc, and flows in opposite directions net: what is allocated on one arc adds to what remains on
+//! the other. So one running number says all of what is allocated on the two: the flow over the
+//! forward arc. That opposite flows net is in the public descriptions of cross-border capacity;
+//! the limit of what is offered is this project's own.
+//!
+//! All numbers are lots, tenths of a MW. No function here takes memory.
 #![tactic(auto)]
 
-ghost use Rattle.std.specs.Prelude.{◌≡◌, pos};
-ghost use Rattle.quarter_capacity.specs.Capacity.{flow_of};
+mod laws;
+mod row;
+#[cfg(test)]
+mod tests;
 
-/// What flows over an arc, in lots.
-pub fn flow(allocated: u32, opposite: u32) -> i64
-    ensures { result ≡ flow_of allocated opposite }
-{
-    i64::from(allocated) - i64::from(opposite)
-}
+pub use laws::{
+    flows_are_opposite, offers_keep_the_flow, opposite_flows_net, taking_moves_the_flow,
+};
+pub use row::{BelowFlow, QuarterRow};
