@@ -6,6 +6,7 @@ pub mod Legs
 pub mod Members
 pub mod Names
 pub mod Placed
+pub mod Pours
 pub mod Repeats
 pub mod Soundness
 pub mod States

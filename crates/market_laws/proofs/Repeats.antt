@@ -1,5 +1,7 @@
 -- Steps that each fit the events before them fit together.
-use Rattle.std.proofs.Common.{◌≡◌, ◌∙◌, ℕ, zero, suc, ◌<◌, ◌≤◌, List, [], ◌∷◌, ◌++◌, Option, Some, None, refl, sym, ap, subst, arith}
+use Rattle.std.proofs.Common.{◌≡◌, ◌∙◌, ℕ, zero, suc, ◌<◌, ◌≤◌, List, [], ◌∷◌, ◌++◌, append_assoc, flat_map, fold, Option, Some, None, refl, sym, ap, subst, arith}
+use Rattle.std.proofs.lemmas.List.{append-nil}
+use Rattle.std.proofs.Math.Seq.{append_snoc}
 use Rattle.std.specs.Option.{option_and_then, option_map}
 use Rattle.zone_graph.specs.Steps.{IsRun, step_and_onward, steps}
 use Rattle.market_model.specs.declared.event.Event.{Event}
@@ -52,3 +54,35 @@ bind-some f (Some a) b e = (a, refl, e)
 pub map-some : {A B : Type 0} (f : A → B) (o : Option A) (b : B) → option_map f o ≡ Some b → (a : A) × (o ≡ Some a) × (f a ≡ b)
 map-some f None b e = absurd (cc)
 map-some f (Some a) b e = let same : f a ≡ b = cc in (a, refl, same)
+
+-- what each step keeps holds where the steps end
+pub steps-keep : {S X : Type 0} (most : ℕ) (step : S → Option X) (after : S → X → S) (Kept : S → Type 0)
+    → ((state : S) (x : X) → Kept state → step state ≡ Some x → Kept (after state x))
+    → (state : S) → Kept state → Kept (fold after state (steps most step after state))
+unfolding steps
+steps-keep zero step after Kept each state kept = kept
+steps-keep {S} {X} (suc most) step after Kept each state kept =
+    go (λ x k. steps-keep most step after Kept each (after state x) k) (step state) refl
+  where
+    go : ((x : X) → Kept (after state x) → Kept (fold after (after state x) (steps most step after (after state x))))
+      → (next : Option X) → step state ≡ next
+      → Kept (fold after state (step_and_onward next (λ x. steps most step after (after state x))))
+    go onward None is = kept
+    go onward (Some x) is = onward x (each state x kept is)
+
+-- events put behind a history one by one are put behind it
+pub fold-and_then : (events more : List Event) → fold and_then events more ≡ events ++ more
+fold-and_then events [] = sym (append-nil events)
+fold-and_then events (e ∷ more) = fold-and_then (and_then events e) more ∙ append_snoc events e more
+
+-- the same of deals of several events each
+pub fold-deals : (events : List Event) (deals : List (List Event)) → fold (λ history deal. history ++ deal) events deals ≡ events ++ flat_map (λ deal. deal) deals
+fold-deals events [] = sym (append-nil events)
+fold-deals events (deal ∷ deals) = fold-deals (events ++ deal) deals ∙ append_assoc events deal (flat_map (λ deal. deal) deals)
+
+-- what each step keeps holds of the history with the steps behind it
+pub history-keep : (most : ℕ) (step : List Event → Option Event) (Kept : List Event → Type 0)
+    → ((events : List Event) (e : Event) → Kept events → step events ≡ Some e → Kept (and_then events e))
+    → (events : List Event) → Kept events → Kept (events ++ steps most step and_then events)
+history-keep most step Kept each events kept =
+    subst Kept (fold-and_then events (steps most step and_then events)) (steps-keep most step and_then Kept each events kept)
