@@ -1,4 +1,6 @@
 pub mod Balances
+pub mod BlockDeals
+pub mod Capacities
 pub mod Carrying
 pub mod Falls
 pub mod Growing
@@ -8,6 +10,7 @@ pub mod Names
 pub mod Placed
 pub mod Pours
 pub mod Repeats
+pub mod Roles
 pub mod Soundness
 pub mod States
 pub mod Tests
