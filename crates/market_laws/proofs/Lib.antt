@@ -1,7 +1,10 @@
+pub mod Admitted
 pub mod Balances
 pub mod BlockDeals
+pub mod BlockEntries
 pub mod Capacities
 pub mod Carrying
+pub mod Entries
 pub mod Falls
 pub mod Growing
 pub mod Legs

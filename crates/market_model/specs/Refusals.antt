@@ -170,9 +170,9 @@ desk_refusal graph events caller (command.Enter order) =
 desk_refusal graph events caller (command.EnterBlock order) = block_desk_refusal graph events caller order
 desk_refusal graph events caller _ = None
 
--- the refusal of a command after some events: the first rule that it breaks, where it breaks one
-unfoldable pub refusal_of_command : Setup → List Event → (caller : ℕ) → Command → Option Refusal
-refusal_of_command setup events caller given = first_broken (
+-- all rules, in order
+abbrev pub rules : Setup → List Event → (caller : ℕ) → Command → List (Unit {0} → Option Refusal)
+rules setup events caller given =
     (λ _. naming_refusal setup caller given)
     ∷ (λ _. numbers_refusal given)
     ∷ (λ _. unless (reduces events caller given) refusal.QuantityOutOfRange)
@@ -184,4 +184,8 @@ refusal_of_command setup events caller given = first_broken (
     ∷ (λ _. unfilled_refusal (graph_of setup) events caller given)
     ∷ (λ _. basket_refusal (graph_of setup) events caller given)
     ∷ (λ _. desk_refusal (graph_of setup) events caller given)
-    ∷ [])
+    ∷ []
+
+-- the refusal of a command after some events: the first rule that it breaks, where it breaks one
+unfoldable pub refusal_of_command : Setup → List Event → (caller : ℕ) → Command → Option Refusal
+refusal_of_command setup events caller given = first_broken (rules setup events caller given)

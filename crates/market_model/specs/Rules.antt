@@ -165,10 +165,10 @@ unless false broken = Some broken
 abbrev pub first_broken : List (Unit {0} → Option Refusal) → Option Refusal
 first_broken rules = first_answer (λ rule. rule tt) rules
 
--- the first broken rule of those on who asks and what is named: the role, the hours, the parts of
--- hours, the zones, the border, the period, the orders of a basket
-unfoldable pub naming_refusal : Setup → (caller : ℕ) → Command → Option Refusal
-naming_refusal setup caller given = first_broken (
+-- the rules on who asks and what is named: the role, the hours, the parts of hours, the zones, the
+-- border, the period, the orders of a basket
+abbrev pub naming_rules : Setup → (caller : ℕ) → Command → List (Unit {0} → Option Refusal)
+naming_rules setup caller given =
     (λ _. unless (has_right setup caller given) refusal.WrongRole)
     ∷ (λ _. unless (list_all (is_within 1 setup.hours) (hours_named given)) refusal.UnknownHour)
     ∷ (λ _. unless (list_all is_known (parts_named given)) refusal.UnknownContract)
@@ -176,15 +176,23 @@ naming_refusal setup caller given = first_broken (
     ∷ (λ _. unless (border_is_known (graph_of setup) given) refusal.UnknownBorder)
     ∷ (λ _. unless (period_is_good given) refusal.BadPeriod)
     ∷ (λ _. unless (basket_is_good given) refusal.BadBasket)
-    ∷ [])
+    ∷ []
 
--- the first broken rule of those on the numbers of orders: prices, quantities, peaks
-unfoldable pub numbers_refusal : Command → Option Refusal
-numbers_refusal given = first_broken (
+-- the first of them that is broken
+unfoldable pub naming_refusal : Setup → (caller : ℕ) → Command → Option Refusal
+naming_refusal setup caller given = first_broken (naming_rules setup caller given)
+
+-- the rules on the numbers of orders: prices, quantities, peaks
+abbrev pub numbers_rules : Command → List (Unit {0} → Option Refusal)
+numbers_rules given =
     (λ _. unless (list_all price_in_range (prices_named given)) refusal.PriceOutOfRange)
     ∷ (λ _. unless (list_all lots_in_range (quantities_named given) && offer_in_range given) refusal.QuantityOutOfRange)
     ∷ (λ _. unless (peaks_are_good given) refusal.BadPeak)
-    ∷ [])
+    ∷ []
+
+-- the first of them that is broken
+unfoldable pub numbers_refusal : Command → Option Refusal
+numbers_refusal given = first_broken (numbers_rules given)
 
 -- the first rule that a command breaks by itself
 abbrev pub early_refusal : Setup → (caller : ℕ) → Command → Option Refusal
