@@ -24,7 +24,7 @@ use Rattle.market_model.specs.History.{and_then}
 use Rattle.market_model.specs.Orders.{PlacedBlock, block_placed_by, blocks_placed, left, next_name}
 use Rattle.market_model.specs.Rules.{is_block_period}
 use Rattle.market_model.specs.Sweep.{sweeps}
-use Rattle.market_model.specs.WellFormed.{IsHistory, IsMarketSetup}
+use Rattle.market_model.specs.WellFormed.{BlockEnters, IsHistory, IsMarketSetup}
 use Rattle.market_laws.proofs.BlockDeals.{IsBlockPartner, IsInBlockLine, IsOpenNow, block_partner-is, deal-history, from_block_line, pour-start}
 use Rattle.market_laws.proofs.Entries.{sweeps-history}
 use Rattle.market_laws.proofs.Legs.{opposite-opposite}
@@ -32,7 +32,8 @@ use Rattle.market_laws.proofs.Members.{IsIn-filter_map, from_first_answer}
 use Rattle.market_laws.proofs.Pours.{ArePair, PourKeeps, pour-keeps}
 use Rattle.market_laws.proofs.Repeats.{fold-deals, map-some, steps-keep}
 use Rattle.market_laws.proofs.Roles.{same_pour}
-use Rattle.market_laws.proofs.Wholes.{history-more}
+use Rattle.market_laws.proofs.Soundness.{block_fault-none, lots_in_range-bounds}
+use Rattle.market_laws.proofs.Wholes.{history-more, new_block-whole}
 use Rattle.zone_graph.proofs.Membership.{IsIn-right}
 
 module _ (setup : Setup) (is_setup : IsMarketSetup setup) (events : List Event) (history : IsHistory setup events) where
@@ -149,10 +150,16 @@ module _ (setup : Setup) (is_setup : IsMarketSetup setup) where
       let entered : Event = event.EnteredBlock name caller order in
       let entry : List Event = entered ∷ [] in
       let block : PlacedBlock = record { name = name; caller = caller; order = order } in
-      let start = history-more setup events entered history (record {
+      let may_fit : BlockEnters setup events name caller order = record {
         named = refl; of_caller = may.of_caller; from_hour = may.from_hour; to_hour = may.to_hour; of_period = may.of_period; in_zone = may.in_zone; sound = may.sound;
-      }) tt in
-      let opened : IsOpenNow (events ++ entry) block = ? in
+      } in
+      let start = history-more setup events entered history may_fit tt in
+      let whole : left (events ++ entry) name ≡ order.quantity.0 = new_block-whole setup events history.fit block entered may_fit refl in
+      let some = (lots_in_range-bounds order.quantity (block_fault-none order may.sound).quantity).0 in
+      let opened : IsOpenNow (events ++ entry) block = record {
+        is_placed = IsIn-filter_map block_placed_by entered block (events ++ entry) (IsIn-right entered events entry (inl refl)) refl;
+        is_left = lt-ltb 0 (left (events ++ entry) name) (omega arith);
+      } in
       let legs : List Event = legs_with (graph_of setup) (events ++ entry) (entering_block events caller order) (partner_found (graph_of setup) events caller order) in
       let dealt = legs_with-history (events ++ entry) block (partner_found (graph_of setup) events caller order) start opened refl in
       let done : List Event = entry ++ legs in

@@ -4,6 +4,7 @@ pub mod BlockDeals
 pub mod BlockEntries
 pub mod Capacities
 pub mod Carrying
+pub mod Changes
 pub mod Entries
 pub mod Falls
 pub mod Growing

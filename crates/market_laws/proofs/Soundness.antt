@@ -1,6 +1,6 @@
 -- What an order with sound numbers keeps.
 use Rattle.std.proofs.Common.{◌≡◌, ◌∙◌, ℕ, ◌+◌, ◌-◌, ◌%◌, ◌<◌, ◌≤◌, ◌&&◌, Bool, true, false, Option, Some, None, nat_lt, nat_le, refl, sym, ap, subst, arith}
-use Rattle.std.proofs.lemmas.Bool.{ltb-true, true≢false}
+use Rattle.std.proofs.lemmas.Bool.{leb-true, ltb-true, true≢false}
 use Rattle.order_kinds.specs.declared.order.BlockOrder.{BlockOrder}
 use Rattle.order_kinds.specs.declared.order.Kind.{Kind}
 use Rattle.order_kinds.specs.declared.order.Kind.TheVariants as kind
@@ -49,3 +49,27 @@ shown-some order sound filled left some = go order.kind refl
     go kind.Fok is = some
     go (kind.Iceberg peak delta) is =
       let least = peak-some order peak delta is (order_fault-none order sound).peaks in omega arith
+
+-- a quantity in range
+pub lots_in_range-bounds : (lots : Lots) → lots_in_range lots ≡ true → (1 ≤ lots.0) × (lots.0 ≤ 9990)
+lots_in_range-bounds lots h =
+    let both = and-true (nat_le 1 lots.0) (nat_le lots.0 9990) h in
+    (leb-true 1 lots.0 both.0, leb-true lots.0 9990 both.1)
+
+-- a sound block's price and quantity are in range
+pub record BlockNumbersAreSound (order : BlockOrder) : Type 0 where
+  pub price : price_in_range order.price ≡ true
+  pub quantity : lots_in_range order.quantity ≡ true
+
+pub block_fault-none : (order : BlockOrder) → block_fault order ≡ None → BlockNumbersAreSound order
+block_fault-none order e =
+    let price = fault_unless-none (price_in_range order.price) _ _ e in
+    let quantity = fault_unless-none (lots_in_range order.quantity) _ _ price.1 in
+    record { price = price.0; quantity = quantity.0 }
+
+-- and numbers in range make an order or a block sound
+pub order_fault-sound : (order : Order) → price_in_range order.price ≡ true → lots_in_range order.quantity ≡ true → has_allowed_peaks order ≡ true → order_fault order ≡ None
+order_fault-sound order price quantity peaks = rw (price, quantity, peaks) refl
+
+pub block_fault-sound : (order : BlockOrder) → price_in_range order.price ≡ true → lots_in_range order.quantity ≡ true → block_fault order ≡ None
+block_fault-sound order price quantity = rw (price, quantity) refl

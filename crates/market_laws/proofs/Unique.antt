@@ -11,7 +11,7 @@ use Rattle.market_laws.proofs.Members.{from_filter_map}
 use Rattle.market_laws.proofs.Names.{NamesOnce, enters_as, times_entered}
 use Rattle.market_laws.proofs.Tests.{same_name-refl}
 
-times-cons : (event : Event) (events : List Event) (name : OrderName)
+pub times-cons : (event : Event) (events : List Event) (name : OrderName)
     → times_entered (event ∷ events) name ≡ cond (enters_as name event) 1 0 + times_entered events name
 times-cons event events name = sum_by-cons (λ e. cond (enters_as name e) 1 0) event events
 

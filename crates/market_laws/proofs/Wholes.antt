@@ -101,7 +101,7 @@ module _ (setup : Setup) (events : List Event) (fit : FitAfter setup [] events) 
       inl (left-untouched events (event.Reduced name by) block.name refl refl (ap (λ b. lots_if b by) (other_name name block.name apart)))
 
   -- a block that enters is whole
-  new_block-whole : (block : PlacedBlock) (e : Event) → Fits setup events e → block_placed_by e ≡ Some block → left (and_then events e) block.name ≡ block.order.quantity.0
+  pub new_block-whole : (block : PlacedBlock) (e : Event) → Fits setup events e → block_placed_by e ≡ Some block → left (and_then events e) block.name ≡ block.order.quantity.0
   new_block-whole block (event.Entered name caller order) fits is = absurd (cc)
   new_block-whole block (event.EnteredBlock name caller order) fits is =
       let same : record { name = name; caller = caller; order = order } ≡ block = cc in

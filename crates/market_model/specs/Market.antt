@@ -31,14 +31,10 @@ use Rattle.market_model.specs.View.{view}
 abbrev pub then_sweeps : List Part → Graph → (hours : List ℕ) → List Event → Event → List Event
 then_sweeps parts graph hours events done = done ∷ sweeps parts graph hours (events ++ done ∷ [])
 
--- the event on the arc from a zone to a zone, and then the sweeps; nothing where no border joins
--- them, which a rule refuses
-abbrev pub on_arc : Graph → (from to : ℕ) → (Arc → List Event) → List Event
-on_arc graph from to happening = happens (arc_between graph from to)
-  where
-    happens : Option Arc → List Event
-    happens None = []
-    happens (Some arc) = happening arc
+-- what happens on an arc; nothing where no border joins the zones, which a rule refuses
+abbrev pub on_arc : Option Arc → (Arc → List Event) → List Event
+on_arc None happening = []
+on_arc (Some arc) happening = happening arc
 
 -- what closing an hour withdraws: its open orders and the open blocks that are named by it, in order
 -- of entry
@@ -60,13 +56,13 @@ events_done parts setup events caller (command.EnterBasket orders) = enter_all p
 events_done parts setup events caller (command.Cancel name) = event.Withdrawn name (left events name) ∷ []
 events_done parts setup events caller (command.Reduce name to) = event.Reduced name (left events name - to) ∷ []
 events_done parts setup events caller (command.Blocks first last) = match_blocks parts (graph_of setup) first last events
-events_done parts setup events caller (command.Offer from to first last lots) = on_arc (graph_of setup) from to
+events_done parts setup events caller (command.Offer from to first last lots) = on_arc (arc_between (graph_of setup) from to)
     (λ arc. then_sweeps parts (graph_of setup) (hours_from first.hour last.hour) events (event.Offered arc first last lots))
-events_done parts setup events caller (command.Request from to first last lots) = on_arc (graph_of setup) from to
+events_done parts setup events caller (command.Request from to first last lots) = on_arc (arc_between (graph_of setup) from to)
     (λ arc. then_sweeps parts (graph_of setup) (hours_from first.hour last.hour) events (event.Granted arc first last lots))
-events_done parts setup events caller (command.Halt from to first last) = on_arc (graph_of setup) from to
+events_done parts setup events caller (command.Halt from to first last) = on_arc (arc_between (graph_of setup) from to)
     (λ arc. then_sweeps parts (graph_of setup) (hours_from first last) events (event.Halted arc.border first last))
-events_done parts setup events caller (command.Resume from to first last) = on_arc (graph_of setup) from to
+events_done parts setup events caller (command.Resume from to first last) = on_arc (arc_between (graph_of setup) from to)
     (λ arc. then_sweeps parts (graph_of setup) (hours_from first last) events (event.Resumed arc.border first last))
 events_done parts setup events caller (command.Gate hour asked) = gate parts (graph_of setup) hour asked events
 events_done parts setup events caller (command.View contract side zone) = []
@@ -77,13 +73,16 @@ answer parts setup events caller (command.View contract side zone) =
     reply.Seen (view (graph_of setup) events contract side zone)
 answer parts setup events caller given = reply.Done (events_done parts setup events caller given)
 
+-- the refusal, where there is one, else an answer; only what is asked for is computed, so the answer
+-- is a function
+abbrev pub refused_or : Option Refusal → (Unit {0} → Reply) → Reply
+refused_or (Some broken) answered = reply.Refused broken
+refused_or None answered = answered tt
+
 -- the reply to a caller's command after some events, in a market whose sweeps try these parts
 unfoldable pub reply_by : List Part → Setup → List Event → (caller : ℕ) → Command → Reply
-reply_by parts setup events caller given = replied (refusal_of_command setup events caller given)
-  where
-    replied : Option Refusal → Reply
-    replied (Some broken) = reply.Refused broken
-    replied None = answer parts setup events caller given
+reply_by parts setup events caller given =
+    refused_or (refusal_of_command setup events caller given) (λ _. answer parts setup events caller given)
 
 -- the reply of the market
 abbrev pub reply_to : Setup → List Event → (caller : ℕ) → Command → Reply

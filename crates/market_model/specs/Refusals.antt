@@ -58,13 +58,14 @@ abbrev pub has_own : List Event → (caller : ℕ) → OrderName → Bool
 has_own events caller name =
     not (is_none (if_own caller (open_order events name)) && is_none (if_own_block caller (open_block events name)))
 
+-- less than is left of an order is to be left; where there is no order nothing is said
+abbrev pub is_below_left : List Event → (to : ℕ) → Option Placed → Bool
+is_below_left events to None = true
+is_below_left events to (Some order) = nat_lt to (left events order.name)
+
 -- a reduction lowers what is left: it is not refused here where there is no order to reduce
 abbrev pub reduces : List Event → (caller : ℕ) → Command → Bool
-reduces events caller (command.Reduce name to) = lowers (own_limit events caller name)
-  where
-    lowers : Option Placed → Bool
-    lowers None = true
-    lowers (Some order) = nat_lt to (left events order.name)
+reduces events caller (command.Reduce name to) = is_below_left events to (own_limit events caller name)
 reduces events caller _ = true
 
 -- the first closed hour of those that a command concerns; gates and views are not asked

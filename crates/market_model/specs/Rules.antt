@@ -2,7 +2,7 @@
 -- rules, their order and their limits are this profile's.
 use Rattle.std.specs.Prelude.{ℕ, ◌+◌, ◌-◌, Bool, true, false, ◌&&◌, List, [], ◌∷◌, map, length, nat_le, nat_lt, Option, Some, None, is_some, is_none, slice_get, if◌then◌else◌}
 use Rattle.std.specs.List.{list_all}
-use Rattle.std.specs.Option.{option_map_or}
+use Rattle.std.specs.Option.{option_map, option_map_or}
 use Rattle.order_kinds.specs.declared.contract.Part.{Part}
 use Rattle.order_kinds.specs.declared.contract.Part.TheVariants as part
 use Rattle.order_kinds.specs.declared.order.Kind.{Kind}
@@ -42,11 +42,7 @@ may_give role.Operator _ = true
 
 -- the role of a caller: nobody else has one
 abbrev pub role_of : Setup → (caller : ℕ) → Option Role
-role_of setup caller = role_in (slice_get setup.callers caller)
-  where
-    role_in : Option Caller → Option Role
-    role_in None = None
-    role_in (Some found) = Some found.role
+role_of setup caller = option_map (λ found. found.role) (slice_get setup.callers caller)
 
 -- the caller may give the command
 abbrev pub has_right : Setup → (caller : ℕ) → Command → Bool
