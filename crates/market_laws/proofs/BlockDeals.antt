@@ -33,6 +33,7 @@ pub record IsInBlockLine (events : List Event) (first last : ℕ) (side : Side) 
   pub of_first : block.order.first ≡ first
   pub of_last : block.order.last ≡ last
   pub on_side : block.order.side ≡ side
+  pub stands : block_stands_in events first last side block ≡ true
   pub is : found ≡ standing_block events block
 
 pub from_block_line : (events : List Event) (first last : ℕ) (side : Side) (found : StandingBlock) → IsIn found (block_line events first last side) → IsInBlockLine events first last side found
@@ -51,6 +52,7 @@ from_block_line events first last side found h =
       of_first = eqb-true stands.0.order.first first period.0;
       of_last = eqb-true stands.0.order.last last period.1;
       on_side = same_side-eq stands.0.order.side side both.1;
+      stands = passes.1;
       is = stands.2;
     }
 
@@ -91,11 +93,25 @@ module _ (setup : Setup) (is_setup : IsMarketSetup setup) (start : List Event) (
     others = λ name not_taker not_maker. refl;
   }
 
-  -- where all is carried, the history stays well-formed
-  pub deal-history : (after : List Event) → PourKeeps setup start taker maker after → left after taker.name ≡ 0 → IsHistory setup after
-  deal-history after kept none = record {
-    fit = kept.fit;
-    whole = λ block h opened. go block h opened (same_name taker.name block.name) (same_name maker.name block.name) refl refl;
+  -- where all is carried, both blocks are closed, and whatever is open was open before
+  pub record IsDealt (after : List Event) : Type 0 where
+    pub well_formed : IsHistory setup after
+    pub blocks : blocks_placed after ≡ blocks_placed start
+    pub taker_closed : left after taker.name ≡ 0
+    pub maker_closed : left after maker.name ≡ 0
+    pub opens : (name : OrderName) → is_open after name ≡ true → is_open start name ≡ true
+
+  pub deal-dealt : (after : List Event) → PourKeeps setup start taker maker after → left after taker.name ≡ 0 → IsDealt after
+  deal-dealt after kept none = record {
+    well_formed = record {
+      fit = kept.fit;
+      whole = λ block h opened. let same = stays block.name opened in
+        same ∙ history.whole block (subst (IsIn block) kept.blocks h) (subst (λ n. nat_lt 0 n ≡ true) same opened);
+    };
+    blocks = kept.blocks;
+    taker_closed = none;
+    maker_closed = kept.equal ∙ none;
+    opens = λ name opened. subst (λ n. nat_lt 0 n ≡ true) (stays name opened) opened;
   }
     where
       closed : (name other : OrderName) → name ≡ other → left after name ≡ 0 → is_open after other ≡ true → ⊥
@@ -103,14 +119,14 @@ module _ (setup : Setup) (is_setup : IsMarketSetup setup) (start : List Event) (
         let some = ltb-true 0 (left after other) opened in
         let nothing : left after other ≡ 0 = ap (left after) (sym same) ∙ zero_left in omega arith
 
-      go : (block : PlacedBlock) → IsIn block (blocks_placed after) → is_open after block.name ≡ true
-        → (of_taker of_maker : Bool) → same_name taker.name block.name ≡ of_taker → same_name maker.name block.name ≡ of_maker
-        → left after block.name ≡ block.order.quantity.0
-      go block h opened true of_maker e k = absurd (closed taker.name block.name (same_name-eq taker.name block.name e) none opened)
-      go block h opened false true e k = absurd (closed maker.name block.name (same_name-eq maker.name block.name k) (kept.equal ∙ none) opened)
-      go block h opened false false e k =
-        let same : left after block.name ≡ left start block.name = kept.others block.name (apart taker.name block.name e) (apart maker.name block.name k) in
-        same ∙ history.whole block (subst (IsIn block) kept.blocks h) (subst (λ n. nat_lt 0 n ≡ true) same opened)
-        where
-          apart : (a b : OrderName) → same_name a b ≡ false → a ≢ b
-          apart a b e same = absurd (true≢false (sym (subst (λ n. same_name a n ≡ true) same (same_name-refl a)) ∙ e))
+      apart : (a b : OrderName) → same_name a b ≡ false → a ≢ b
+      apart a b e same = absurd (true≢false (sym (subst (λ n. same_name a n ≡ true) same (same_name-refl a)) ∙ e))
+
+      go : (name : OrderName) → is_open after name ≡ true → (of_taker of_maker : Bool) → same_name taker.name name ≡ of_taker → same_name maker.name name ≡ of_maker
+        → left after name ≡ left start name
+      go name opened true of_maker e k = absurd (closed taker.name name (same_name-eq taker.name name e) none opened)
+      go name opened false true e k = absurd (closed maker.name name (same_name-eq maker.name name k) (kept.equal ∙ none) opened)
+      go name opened false false e k = kept.others name (apart taker.name name e) (apart maker.name name k)
+
+      stays : (name : OrderName) → is_open after name ≡ true → left after name ≡ left start name
+      stays name opened = go name opened (same_name taker.name name) (same_name maker.name name) refl refl
