@@ -63,7 +63,7 @@ same_numbers (x ∷ xs) (y ∷ ys) e =
     cc
 
 -- two arcs over one border that start in one zone are one arc
-same_arc : (graph : Graph) (x y : Arc) → IsGraph graph → HasArc graph x → x.border ≡ y.border → start_of graph x ≡ start_of graph y → x ≡ y
+pub same_arc : (graph : Graph) (x y : Arc) → IsGraph graph → HasArc graph x → x.border ≡ y.border → start_of graph x ≡ start_of graph y → x ≡ y
 same_arc graph x y is known border start = by_direction x.forward y.forward refl refl
   where
     over : Bool → Arc

@@ -1,4 +1,8 @@
+pub mod Again
 pub mod BestRoute
+pub mod GridLemmas
+pub mod GridNames
+pub mod GridRows
 pub mod Least
 pub mod Membership
 pub mod Routes

@@ -164,7 +164,7 @@ listed_is_route graph room from to arcs h =
     }
 
 -- an arc of a graph leads to a zone of it
-end_within : (graph : Graph) (arc : Arc) → IsGraph graph → HasArc graph arc → HasZone graph (end_of graph arc)
+pub end_within : (graph : Graph) (arc : Arc) → IsGraph graph → HasArc graph arc → HasZone graph (end_of graph arc)
 end_within graph arc is known = directed arc.forward refl
   where
     directed : (b : Bool) → arc.forward ≡ b → HasZone graph (end_of graph arc)

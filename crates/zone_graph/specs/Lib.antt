@@ -1,8 +1,12 @@
 pub mod Examples
 pub mod Graph
+pub mod Grid
+pub mod GridFault
+pub mod GridIndex
 pub mod Name
 pub mod Pour
 pub mod Reach
+pub mod Rooms
 pub mod Route
 pub mod RouteLaws
 pub mod Steps

@@ -3,9 +3,12 @@
 ghost use Rattle.std.specs.Prelude.{◌≡◌, ◌<◌, ◌↔◌, [], ◌∷◌, ◌++◌, length, IsSome, OnOk, OnErr, slice_get, ◌==◌};
 ghost use Rattle.std.specs.Option.{option_copied, option_to_list};
 ghost use Rattle.std.specs.Cmp.Lexicographic.{pointwise, lists_per, lists_equiv};
+ghost use Rattle.std.specs.Hash as fed;
+ghost use Rattle.std.specs.Hash.{items_Alike};
 
 use crate::memory::{Duplicate, NoMemory};
 use std::alloc::Global;
+use std::hash::{Hash, Hasher};
 use std::marker::Model;
 
 /// A list of items, which contracts see as a plain list: two are equal where their items are,
@@ -108,6 +111,16 @@ impl<T: PartialEq> PartialEq for Sequence<T> {
 
 impl<T: Eq> Eq for Sequence<T> {
     ghost laws = { lists_equiv T.Eq.laws };
+}
+
+impl<T: Hash> Hash for Sequence<T> {
+    ghost hash_input = { λ sequence. fed.slice T.hash_input sequence };
+
+    ghost respects_eq = { (items_Alike (record { fed = T.respects_eq })).fed };
+
+    fn hash<H: Hasher>(&self, state: &mut H) {
+        self.items.hash(state);
+    }
 }
 
 impl<T: Duplicate> Duplicate for Sequence<T> {

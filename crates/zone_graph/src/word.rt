@@ -10,7 +10,7 @@ use std::alloc::Global;
 use std::marker::Model;
 
 /// A short byte string: a word of a command line, or a name. Contracts see the list of its bytes.
-#[derive(Debug, Drop, PartialEq, Eq)]
+#[derive(Debug, Drop, PartialEq, Eq, Hash)]
 pub struct Word {
     bytes: Sequence<u8>,
 }
