@@ -140,7 +140,7 @@ block_line-length : (events : List Event) (first last : ℕ) → length (block_l
 unfolding block_line
 block_line-length events first last =
     length-in_order (block_priority_cmp Buy) (map (standing_block events) (filter (block_stands_in events first last Buy) (blocks_placed events)))
-    ∙ length-map (standing_block events) (filter (block_stands_in events first last Buy) (blocks_placed events))
+    ∙ length-map (filter (block_stands_in events first last Buy) (blocks_placed events)) (standing_block events)
 
 -- a block that stands in the line after a deal stood in it before
 stood_too : (before deal : List Event) (first last : ℕ) (block : PlacedBlock) → ((name : OrderName) → is_open (before ++ deal) name ≡ true → is_open before name ≡ true)

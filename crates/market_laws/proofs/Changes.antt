@@ -24,7 +24,8 @@ use Rattle.market_model.specs.declared.event.Event.{Event}
 use Rattle.market_model.specs.declared.event.Event.TheVariants as event
 use Rattle.market_model.specs.declared.setup.Setup.{Setup}
 use Rattle.market_model.specs.Capacity.{flow}
-use Rattle.market_model.specs.Grid.{arc_between, graph_of}
+use Rattle.market_model.specs.Grid.{graph_of}
+use Rattle.zone_graph.specs.Grid.{arc_between}
 use Rattle.market_model.specs.History.{and_then}
 use Rattle.market_model.specs.Market.{gate, then_sweeps, withdrawals}
 use Rattle.market_model.specs.Orders.{Placed, PlacedBlock, is_open, left, name_given, open_names, open_order}

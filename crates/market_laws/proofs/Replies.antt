@@ -31,7 +31,8 @@ use Rattle.market_model.specs.declared.refusal.Refusal.{Refusal}
 use Rattle.market_model.specs.declared.setup.Caller.{Caller}
 use Rattle.market_model.specs.declared.setup.Role.{Role}
 use Rattle.market_model.specs.declared.setup.Setup.{Setup}
-use Rattle.market_model.specs.Grid.{arc_between, graph_of}
+use Rattle.market_model.specs.Grid.{graph_of}
+use Rattle.zone_graph.specs.Grid.{arc_between}
 use Rattle.market_model.specs.History.{and_then, events_of}
 use Rattle.market_model.specs.Market.{answer, events_done, on_arc, refused_or, reply_by}
 use Rattle.market_model.specs.Orders.{Placed, PlacedBlock, is_open, left, open_block, open_order}

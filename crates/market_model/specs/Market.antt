@@ -20,7 +20,8 @@ use Rattle.market_model.specs.declared.reply.Reply.TheVariants as reply
 use Rattle.market_model.specs.declared.setup.Setup.{Setup}
 use Rattle.market_model.specs.Blocks.{enter_block, match_blocks}
 use Rattle.market_model.specs.Entering.{enter, enter_all}
-use Rattle.market_model.specs.Grid.{arc_between, graph_of}
+use Rattle.market_model.specs.Grid.{graph_of}
+use Rattle.zone_graph.specs.Grid.{arc_between}
 use Rattle.market_model.specs.History.{journal_events}
 use Rattle.market_model.specs.Orders.{left, open_names}
 use Rattle.market_model.specs.Refusals.{refusal_of_command}

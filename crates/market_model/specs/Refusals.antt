@@ -24,7 +24,8 @@ use Rattle.market_model.specs.Blocks.{StandingBlock, partner_found, with_block}
 use Rattle.market_model.specs.Capacity.{flow}
 use Rattle.market_model.specs.Certificate.{bound_of, unfilled_zones}
 use Rattle.market_model.specs.Entering.{after_taking, name_of_next, rest_of}
-use Rattle.market_model.specs.Grid.{arc_between, graph_of}
+use Rattle.market_model.specs.Grid.{graph_of}
+use Rattle.zone_graph.specs.Grid.{arc_between}
 use Rattle.market_model.specs.Orders.{Placed, PlacedBlock, left, next_name, open_block, open_names, open_order}
 use Rattle.market_model.specs.Room.{is_closed_phase, lots_of, phase_of, quarter_room}
 use Rattle.market_model.specs.Rules.{first_broken, hours_concerned, is_fill_or_kill, naming_refusal, numbers_refusal, unless}

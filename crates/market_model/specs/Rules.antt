@@ -22,7 +22,8 @@ use Rattle.market_model.specs.declared.setup.Caller.{Caller}
 use Rattle.market_model.specs.declared.setup.Role.{Role}
 use Rattle.market_model.specs.declared.setup.Role.TheVariants as role
 use Rattle.market_model.specs.declared.setup.Setup.{Setup}
-use Rattle.market_model.specs.Grid.{arc_between, graph_of}
+use Rattle.market_model.specs.Grid.{graph_of}
+use Rattle.zone_graph.specs.Grid.{arc_between}
 use Rattle.market_model.specs.Sweep.{first_answer}
 
 -- who may give a command: traders enter and change orders, operators decide on capacity and gates,
