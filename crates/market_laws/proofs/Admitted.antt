@@ -1,7 +1,6 @@
 -- What is known of a command that no rule refuses.
-use Rattle.std.proofs.Common.{◌≡◌, ◌∙◌, ◌⊎◌, inl, inr, ℕ, ◌<◌, ◌≤◌, ◌&&◌, Bool, true, false, List, [], ◌∷◌, Option, Some, None, is_none, refl, sym, ap, subst, nat_lt}
-use Rattle.std.proofs.lemmas.Bool.{true≢false}
-use Rattle.std.specs.List.{list_all, list_any}
+use Rattle.std.proofs.Common.{◌≡◌, ◌∙◌, inl, inr, ℕ, ◌&&◌, Bool, true, false, List, [], ◌∷◌, Option, Some, None, refl, ap, nat_lt}
+use Rattle.std.specs.List.{list_all}
 use Rattle.std.specs.Option.{option_map}
 use Rattle.order_kinds.specs.Contract.{is_known}
 use Rattle.order_kinds.specs.Period.{is_within}
@@ -48,7 +47,7 @@ pub naming-none : (setup : Setup) (caller : ℕ) (given : Command) → naming_re
 unfolding naming_refusal
 naming-none setup caller given e =
     let holds : (b : Bool) (broken : Refusal) → IsIn (λ _. unless b broken) (naming_rules setup caller given) → b ≡ true =
-      λ b broken h. unless-none b broken (unbroken (naming_rules setup caller given) e (λ _. unless b broken) h) in
+    λ b broken h. unless-none b broken (unbroken (naming_rules setup caller given) e (λ _. unless b broken) h) in
     record {
       right = holds (has_right setup caller given) refusal.WrongRole (inl refl);
       hours = holds (list_all (is_within 1 setup.hours) (hours_named given)) refusal.UnknownHour (inr (inl refl));
@@ -70,9 +69,9 @@ pub numbers-none : (given : Command) → numbers_refusal given ≡ None → Numb
 unfolding numbers_refusal
 numbers-none given e =
     let holds : (b : Bool) (broken : Refusal) → IsIn (λ _. unless b broken) (numbers_rules given) → b ≡ true =
-      λ b broken h. unless-none b broken (unbroken (numbers_rules given) e (λ _. unless b broken) h) in
+    λ b broken h. unless-none b broken (unbroken (numbers_rules given) e (λ _. unless b broken) h) in
     let lots = and-true (list_all lots_in_range (quantities_named given)) (offer_in_range given)
-      (holds (list_all lots_in_range (quantities_named given) && offer_in_range given) refusal.QuantityOutOfRange (inr (inl refl))) in
+    (holds (list_all lots_in_range (quantities_named given) && offer_in_range given) refusal.QuantityOutOfRange (inr (inl refl))) in
     record {
       prices = holds (list_all price_in_range (prices_named given)) refusal.PriceOutOfRange (inl refl);
       quantities = lots.0;
@@ -106,12 +105,12 @@ refusal-none setup events caller given e =
       names = naming-none setup caller given (holds (λ _. naming_refusal setup caller given) (inl refl));
       numbers = numbers-none given (holds (λ _. numbers_refusal given) (inr (inl refl)));
       reduces = unless-none (reduces events caller given) refusal.QuantityOutOfRange
-        (holds (λ _. unless (reduces events caller given) refusal.QuantityOutOfRange) (inr (inr (inl refl))));
+          (holds (λ _. unless (reduces events caller given) refusal.QuantityOutOfRange) (inr (inr (inl refl))));
       in_open_hours = map-none (λ hour. refusal.Closed hour) (closed_hour events given)
-        (holds (λ _. option_map (λ hour. refusal.Closed hour) (closed_hour events given)) (inr (inr (inr (inl refl)))));
+          (holds (λ _. option_map (λ hour. refusal.Closed hour) (closed_hour events given)) (inr (inr (inr (inl refl)))));
       gate = holds (λ _. gate_refusal events given) (inr (inr (inr (inr (inl refl)))));
       known = unless-none (order_is_known events caller given) refusal.UnknownOrder
-        (holds (λ _. unless (order_is_known events caller given) refusal.UnknownOrder) (inr (inr (inr (inr (inr (inl refl)))))));
+          (holds (λ _. unless (order_is_known events caller given) refusal.UnknownOrder) (inr (inr (inr (inr (inr (inl refl)))))));
       offer = holds (λ _. offer_refusal (graph_of setup) events given) (inr (inr (inr (inr (inr (inr (inl refl)))))));
       request = holds (λ _. request_refusal (graph_of setup) events given) (inr (inr (inr (inr (inr (inr (inr (inl refl))))))));
       filled = holds (λ _. unfilled_refusal (graph_of setup) events caller given) (inr (inr (inr (inr (inr (inr (inr (inr (inl refl)))))))));

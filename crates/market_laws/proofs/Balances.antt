@@ -1,7 +1,6 @@
 -- What is filled of an order or block and taken off it never passes what was entered, and a trade
 -- lowers what is left of both its sides by its lots.
-use Rattle.std.proofs.Common.{◌≡◌, ◌∙◌, ◌⊎◌, inl, inr, ℕ, ◌+◌, ◌-◌, ◌%◌, ◌<◌, ◌≤◌, ◌||◌, Bool, true, false, cond, List, [], ◌∷◌, ◌++◌, min, refl, sym, ap, subst, arith}
-use Rattle.std.proofs.lemmas.Bool.{true≢false}
+use Rattle.std.proofs.Common.{◌≡◌, inl, inr, ℕ, ◌+◌, ◌-◌, ◌≤◌, ◌||◌, Bool, true, false, List, [], refl, subst, arith}
 use Rattle.order_kinds.specs.declared.contract.Contract.{Contract}
 use Rattle.order_kinds.specs.declared.order.Kind.{Kind}
 use Rattle.order_kinds.specs.declared.order.Kind.TheVariants as kind
@@ -13,8 +12,8 @@ use Rattle.market_model.specs.declared.event.Event.TheVariants as event
 use Rattle.market_model.specs.declared.event.Leg.{Leg}
 use Rattle.market_model.specs.declared.setup.Setup.{Setup}
 use Rattle.market_model.specs.History.{and_then}
-use Rattle.market_model.specs.Orders.{Placed, entered, entered_by, filled, filled_by, left, names, shown_lots, standing, taken_off, taken_off_by}
-use Rattle.market_model.specs.WellFormed.{BlockLegFits, FitAfter, Fits, LegFits, ReductionFits, WithdrawalFits}
+use Rattle.market_model.specs.Orders.{entered, filled, filled_by, left, names, shown_lots, taken_off, taken_off_by}
+use Rattle.market_model.specs.WellFormed.{FitAfter, Fits, LegFits}
 use Rattle.market_laws.proofs.Growing.{grows}
 use Rattle.market_laws.proofs.States.{entered-more, filled-more, left-more, taken_off-more}
 use Rattle.market_laws.proofs.Tests.{or-true, same_name-eq, same_name-refl}

@@ -1,7 +1,6 @@
 -- A deal of two blocks leaves a history well-formed: both are then closed.
-use Rattle.std.proofs.Common.{◌≡◌, ◌≢◌, ◌∙◌, ◌⊎◌, inl, inr, ℕ, zero, suc, ◌+◌, ◌-◌, ◌<◌, ◌≤◌, ◌&&◌, Bool, true, false, cond, List, [], ◌∷◌, ◌++◌, filter, map, Option, Some, None, nat_eq, nat_lt, eqb-true, refl, sym, ap, subst, if◌then◌else◌, arith}
-use Rattle.std.proofs.lemmas.Bool.{lt-ltb, ltb-true, true≢false}
-use Rattle.order_kinds.specs.declared.order.BlockOrder.{BlockOrder}
+use Rattle.std.proofs.Common.{◌≡◌, ◌≢◌, ◌∙◌, ℕ, ◌&&◌, Bool, true, false, List, ◌++◌, filter, map, Some, nat_eq, nat_lt, eqb-true, refl, sym, ap, subst, if◌then◌else◌, arith}
+use Rattle.std.proofs.lemmas.Bool.{ltb-true, true≢false}
 use Rattle.order_kinds.specs.declared.order.OrderName.{OrderName}
 use Rattle.order_kinds.specs.declared.price.Lots.{Lots}
 use Rattle.order_kinds.specs.declared.side.Side.{Side}
@@ -13,12 +12,10 @@ use Rattle.zone_graph.proofs.Membership.{from_filter, from_map}
 use Rattle.market_model.specs.declared.event.Event.{Event}
 use Rattle.market_model.specs.declared.setup.Setup.{Setup}
 use Rattle.market_model.specs.Blocks.{StandingBlock, block_legs, block_line, block_partner, block_priority_cmp, block_stands_in, can_trade_blocks, carries_whole, is_of_period, standing_block}
-use Rattle.market_model.specs.Grid.{graph_of}
 use Rattle.market_model.specs.Orders.{PlacedBlock, blocks_placed, is_open, left}
 use Rattle.market_model.specs.WellFormed.{IsHistory, IsMarketSetup}
-use Rattle.market_laws.proofs.Legs.{opposite-opposite}
 use Rattle.market_laws.proofs.Members.{from_find, from_in_order}
-use Rattle.market_laws.proofs.Pours.{ArePair, PourKeeps, pour-keeps}
+use Rattle.market_laws.proofs.Pours.{ArePair, PourKeeps}
 use Rattle.market_laws.proofs.Tests.{and-true, same_name-eq, same_name-refl, same_side-eq}
 
 -- an open block: it entered, and something is left of it
@@ -67,29 +64,29 @@ unfolding block_partner
 block_partner-is graph events own found e =
     let r = from_find (can_trade_blocks graph events own) found (block_line events own.order.first own.order.last (opposite own.order.side)) e in
     go (from_block_line events own.order.first own.order.last (opposite own.order.side) found r.0) (nat_eq found.order.quantity.0 own.order.quantity.0)
-      (crosses own.order.side own.order.price found.order.price) refl r.1
+    (crosses own.order.side own.order.price found.order.price) refl r.1
   where
     go : IsInBlockLine events own.order.first own.order.last (opposite own.order.side) found → (same cross : Bool) → nat_eq found.order.quantity.0 own.order.quantity.0 ≡ same
-      → (if same && cross then carries_whole graph events own found else false) ≡ true → IsBlockPartner graph events own found
+        → (if same && cross then carries_whole graph events own found else false) ≡ true → IsBlockPartner graph events own found
     go in_line true true e k =
-      let lots : found.order.quantity.0 ≡ own.order.quantity.0 = eqb-true found.order.quantity.0 own.order.quantity.0 e in
-      record {
-        in_line = in_line;
-        one_quantity = λ i. record { 0 = lots i };
-        carried = eqb-true (left (events ++ block_legs graph own found events) own.name) 0 k;
-      }
+        let lots : found.order.quantity.0 ≡ own.order.quantity.0 = eqb-true found.order.quantity.0 own.order.quantity.0 e in
+        record {
+          in_line = in_line;
+          one_quantity = λ i. record { 0 = lots i };
+          carried = eqb-true (left (events ++ block_legs graph own found events) own.name) 0 k;
+        }
     go in_line true false e k = absurd (true≢false (sym k))
     go in_line false cross e k = absurd (true≢false (sym k))
 
 module _ (setup : Setup) (is_setup : IsMarketSetup setup) (start : List Event) (history : IsHistory setup start)
-  (taker maker : PlacedBlock) (is_pair : ArePair taker maker) (taker_open : IsOpenNow start taker) (maker_open : IsOpenNow start maker) where
+    (taker maker : PlacedBlock) (is_pair : ArePair taker maker) (taker_open : IsOpenNow start taker) (maker_open : IsOpenNow start maker) where
   -- what a pour keeps holds at its start
   pub pour-start : PourKeeps setup start taker maker start
   pour-start = record {
     fit = history.fit;
     blocks = refl;
     equal = history.whole maker maker_open.is_placed maker_open.is_left ∙ ap (λ (q : Lots). q.0) is_pair.one_quantity
-      ∙ sym (history.whole taker taker_open.is_placed taker_open.is_left);
+        ∙ sym (history.whole taker taker_open.is_placed taker_open.is_left);
     others = λ name not_taker not_maker. refl;
   }
 
@@ -106,7 +103,7 @@ module _ (setup : Setup) (is_setup : IsMarketSetup setup) (start : List Event) (
     well_formed = record {
       fit = kept.fit;
       whole = λ block h opened. let same = stays block.name opened in
-        same ∙ history.whole block (subst (IsIn block) kept.blocks h) (subst (λ n. nat_lt 0 n ≡ true) same opened);
+          same ∙ history.whole block (subst (IsIn block) kept.blocks h) (subst (λ n. nat_lt 0 n ≡ true) same opened);
     };
     blocks = kept.blocks;
     taker_closed = none;
@@ -116,14 +113,14 @@ module _ (setup : Setup) (is_setup : IsMarketSetup setup) (start : List Event) (
     where
       closed : (name other : OrderName) → name ≡ other → left after name ≡ 0 → is_open after other ≡ true → ⊥
       closed name other same zero_left opened =
-        let some = ltb-true 0 (left after other) opened in
-        let nothing : left after other ≡ 0 = ap (left after) (sym same) ∙ zero_left in omega arith
+          let some = ltb-true 0 (left after other) opened in
+          let nothing : left after other ≡ 0 = ap (left after) (sym same) ∙ zero_left in omega arith
 
       apart : (a b : OrderName) → same_name a b ≡ false → a ≢ b
       apart a b e same = absurd (true≢false (sym (subst (λ n. same_name a n ≡ true) same (same_name-refl a)) ∙ e))
 
       go : (name : OrderName) → is_open after name ≡ true → (of_taker of_maker : Bool) → same_name taker.name name ≡ of_taker → same_name maker.name name ≡ of_maker
-        → left after name ≡ left start name
+          → left after name ≡ left start name
       go name opened true of_maker e k = absurd (closed taker.name name (same_name-eq taker.name name e) none opened)
       go name opened false true e k = absurd (closed maker.name name (same_name-eq maker.name name k) (kept.equal ∙ none) opened)
       go name opened false false e k = kept.others name (apart taker.name name e) (apart maker.name name k)

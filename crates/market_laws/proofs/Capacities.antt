@@ -1,5 +1,5 @@
 -- Rooms after one more event, and histories with the same capacity.
-use Rattle.std.proofs.Common.{◌≡◌, ◌∙◌, ℕ, ◌+◌, Bool, List, [], ◌∷◌, ◌++◌, map, fold, Option, Some, None, unwrap_or, refl, sym, ap, subst}
+use Rattle.std.proofs.Common.{◌≡◌, ℕ, ◌+◌, Bool, List, [], ◌∷◌, map, Option, unwrap_or, refl, ap}
 use Rattle.std.proofs.Math.Path.{fun_ext}
 use Rattle.std.proofs.lemmas.List.Sums.{fold-append, sum_by_push}
 use Rattle.order_kinds.specs.declared.contract.Quarter.{Quarter}
@@ -7,7 +7,7 @@ use Rattle.order_kinds.specs.declared.phase.Phase.{Phase}
 use Rattle.zone_graph.specs.declared.route.Arc.{Arc}
 use Rattle.zone_graph.specs.Pour.{opposite_arc}
 use Rattle.market_model.specs.declared.event.Event.{Event}
-use Rattle.market_model.specs.Capacity.{allocated, allocated_by, flow, offered, offered_by, remaining}
+use Rattle.market_model.specs.Capacity.{allocated, allocated_by, offered, offered_by}
 use Rattle.market_model.specs.History.{and_then, last_said}
 use Rattle.market_model.specs.Room.{halt_by, is_halted, least, phase_by, phase_of, quarter_room, room}
 
@@ -34,8 +34,13 @@ pub record SameCapacity (a b : List Event) : Type 0 where
 -- have the same rooms
 pub quarter_room-same : (a b : List Event) → SameCapacity a b → (arc : Arc) (quarter : Quarter) → quarter_room a arc quarter ≡ quarter_room b arc quarter
 quarter_room-same a b same arc quarter =
-    rw (same.phase_same quarter.hour, same.halted_same arc.border quarter.hour, same.offered_same quarter arc,
-      same.allocated_same quarter arc, same.allocated_same quarter (opposite_arc arc)) refl
+    rw (
+      same.phase_same quarter.hour,
+      same.halted_same arc.border quarter.hour,
+      same.offered_same quarter arc,
+      same.allocated_same quarter arc,
+      same.allocated_same quarter (opposite_arc arc),
+    ) refl
 
 pub room-same : (a b : List Event) → SameCapacity a b → (quarters : List Quarter) → room a quarters ≡ room b quarters
 room-same a b same quarters = fun_ext (λ (arc : Arc). ap (λ (f : Quarter → ℕ). least (map f quarters)) (fun_ext (quarter_room-same a b same arc)))

@@ -1,5 +1,5 @@
 -- What a route carries of some lots.
-use Rattle.std.proofs.Common.{◌≡◌, ◌∙◌, ◌⊎◌, inl, inr, ℕ, ◌<◌, ◌≤◌, List, [], ◌∷◌, min, fold, Option, Some, None, refl, sym, ap, subst, arith}
+use Rattle.std.proofs.Common.{◌≡◌, inl, inr, ℕ, ◌<◌, ◌≤◌, List, [], ◌∷◌, min, Some, refl, sym, subst, arith}
 use Rattle.zone_graph.specs.declared.route.Arc.{Arc}
 use Rattle.zone_graph.specs.Graph.{Graph, IsGraph, end_of}
 use Rattle.zone_graph.specs.Route.{IsIn, IsRoute, IsWay, best_route, carried}
@@ -15,7 +15,7 @@ pub carried-room : (room : Arc → ℕ) (lots : ℕ) (route : List Arc) (arc : A
 carried-room room lots [] arc h = absurd h
 carried-room room lots (first ∷ arcs) arc h = elim h [
   | inl e ↦ let rest = carried-le room (min lots (room first)) arcs in
-    subst (λ a. carried room (min lots (room first)) arcs ≤ room a) (sym e) (omega arith)
+      subst (λ a. carried room (min lots (room first)) arcs ≤ room a) (sym e) (omega arith)
   | inr i ↦ carried-room room (min lots (room first)) arcs arc i
 ]
 

@@ -1,24 +1,21 @@
 -- What happens to arcs, borders, hours and single orders leaves a history well-formed.
-use Rattle.std.proofs.Common.{◌≡◌, ◌≢◌, ◌∙◌, ◌⊎◌, inl, inr, ℕ, zero, suc, ◌+◌, ◌-◌, ◌<◌, ◌≤◌, ◌&&◌, Bool, true, false, cond, not, List, [], ◌∷◌, ◌++◌, append_assoc, filter, map, Option, Some, None, is_none, nat_eq, nat_le, nat_lt, ℤ, pos, negsuc, refl, sym, ap, subst, if◌then◌else◌, arith}
-use Rattle.std.proofs.lemmas.Bool.{leb-true, ltb-false, ltb-true, true≢false}
+use Rattle.std.proofs.Common.{◌≡◌, ◌≢◌, ◌∙◌, inl, inr, ℕ, ◌≤◌, ◌&&◌, Bool, true, false, cond, not, List, [], ◌∷◌, ◌++◌, append_assoc, filter, map, Option, Some, None, nat_eq, ℤ, pos, negsuc, refl, sym, ap, subst, if◌then◌else◌, arith}
+use Rattle.std.proofs.lemmas.Bool.{leb-true, ltb-true}
 use Rattle.std.proofs.lemmas.Int.{ints}
 use Rattle.std.proofs.lemmas.List.{append-nil}
 use Rattle.std.specs.Prelude.{◌≤ℤ◌, int_lt}
-use Rattle.std.specs.List.{cons_option, filter_map, find, list_all}
+use Rattle.std.specs.List.{cons_option, filter_map}
 use Rattle.order_kinds.specs.declared.contract.Part.{Part}
 use Rattle.order_kinds.specs.declared.contract.Quarter.{Quarter}
-use Rattle.order_kinds.specs.declared.order.Kind.{Kind}
-use Rattle.order_kinds.specs.declared.order.Kind.TheVariants as kind
 use Rattle.order_kinds.specs.declared.order.OrderName.{OrderName}
 use Rattle.order_kinds.specs.declared.phase.Phase.{Phase}
 use Rattle.order_kinds.specs.declared.phase.Phase.TheVariants as phase
-use Rattle.order_kinds.specs.Period.{hours_from, is_not_after, is_within, range_quarters}
-use Rattle.order_kinds.specs.Phase.{is_later}
+use Rattle.order_kinds.specs.Period.{range_quarters}
 use Rattle.order_kinds.specs.Same.{same_name}
 use Rattle.zone_graph.specs.declared.route.Arc.{Arc}
 use Rattle.zone_graph.specs.Graph.{Graph, HasArc, arcs_of, end_of, start_of}
 use Rattle.zone_graph.specs.Route.{AreDifferent, IsIn}
-use Rattle.zone_graph.proofs.Membership.{IsIn-filter, from_filter}
+use Rattle.zone_graph.proofs.Membership.{from_filter}
 use Rattle.zone_graph.proofs.Routes.{from_arcs_of}
 use Rattle.market_model.specs.declared.event.Event.{Event}
 use Rattle.market_model.specs.declared.event.Event.TheVariants as event
@@ -28,18 +25,17 @@ use Rattle.market_model.specs.Grid.{graph_of}
 use Rattle.zone_graph.specs.Grid.{arc_between}
 use Rattle.market_model.specs.History.{and_then}
 use Rattle.market_model.specs.Market.{gate, then_sweeps, withdrawals}
-use Rattle.market_model.specs.Orders.{Placed, PlacedBlock, is_open, left, name_given, open_names, open_order}
+use Rattle.market_model.specs.Orders.{is_open, left, name_given, open_names}
 use Rattle.market_model.specs.Refusals.{below_flow, no_room}
-use Rattle.market_model.specs.Room.{phase_of, quarter_room}
-use Rattle.market_model.specs.Rules.{unless}
+use Rattle.market_model.specs.Room.{quarter_room}
 use Rattle.market_model.specs.Sweep.{first_answer, sweeps}
-use Rattle.market_model.specs.WellFormed.{BorderFits, Fits, GateFits, GrantFits, IsHistory, IsMarketSetup, IsRange, OfferFits}
+use Rattle.market_model.specs.WellFormed.{Fits, GateFits, IsHistory, IsMarketSetup}
 use Rattle.market_laws.proofs.Admitted.{unless-none}
 use Rattle.market_laws.proofs.Entries.{sweeps-history}
 use Rattle.market_laws.proofs.Members.{first_answer-none, from_filter_map, from_find}
-use Rattle.market_laws.proofs.Names.{NamesOnce, enters_as, names-once, times_entered}
+use Rattle.market_laws.proofs.Names.{enters_as, names-once, times_entered}
 use Rattle.market_laws.proofs.Unique.{times-cons, times-some}
-use Rattle.market_laws.proofs.Tests.{same_name-eq, same_name-refl}
+use Rattle.market_laws.proofs.Tests.{same_name-refl}
 use Rattle.market_laws.proofs.Wholes.{IsNoBlockLeg, history-more, left-untouched, other_name}
 
 -- an arc that is found between two zones is the graph's
@@ -71,7 +67,7 @@ module _ (setup : Setup) (is_setup : IsMarketSetup setup) where
   then_sweeps-history parts hours events done history fits plain =
       let legs : List Event = sweeps parts (graph_of setup) hours (events ++ done ∷ []) in
       subst (IsHistory setup) (append_assoc events (done ∷ []) legs)
-        (sweeps-history setup is_setup parts hours (events ++ done ∷ []) (history-more setup events done history fits plain))
+      (sweeps-history setup is_setup parts hours (events ++ done ∷ []) (history-more setup events done history fits plain))
 
 -- ---- the withdrawals of a closing hour
 
@@ -105,10 +101,13 @@ names-differ hour (e ∷ events) once =
   where
     go : AreDifferent (filter_map (name_given hour) events) → (o : Option OrderName) → name_given hour e ≡ o → AreDifferent (cons_option o (filter_map (name_given hour) events))
     go rest None is = rest
-    go rest (Some name) is = (λ h.
-      let x = from_filter_map (name_given hour) name events h in
-      let again = times-some name x.0 events x.1 (given-enters hour name x.0 x.2) in
-      let most = rw (times-cons e events name, given-enters hour name e is) at (once name) in omega arith, rest)
+    go rest (Some name) is = (
+      λ h.
+          let x = from_filter_map (name_given hour) name events h in
+          let again = times-some name x.0 events x.1 (given-enters hour name x.0 x.2) in
+          let most = rw (times-cons e events name, given-enters hour name e is) at (once name) in omega arith,
+      rest,
+    )
 
 filter-differ : {X : Type 0} (p : X → Bool) (xs : List X) → AreDifferent xs → AreDifferent (filter p xs)
 filter-differ p [] differ = tt
@@ -133,11 +132,11 @@ module _ (setup : Setup) (is_setup : IsMarketSetup setup) where
       let gone : Event = withdrawn start name in
       let next = history-more setup events gone history (record { some = ltb-true 0 (left start name) own.1; all_left = sym own.0 }) tt in
       let stays : (other : OrderName) → IsIn other names → (left (and_then events gone) other ≡ left start other) × (is_open start other ≡ true) =
-        λ other h. let before = each other (inr h) in
-          let apart : name ≢ other = λ same. differ.0 (subst (λ n. IsIn n names) (sym same) h) in
-          (left-untouched events gone other refl refl (ap (λ b. if b then left start name else 0) (other_name name other apart)) ∙ before.0, before.1) in
+      λ other h. let before = each other (inr h) in
+      let apart : name ≢ other = λ same. differ.0 (subst (λ n. IsIn n names) (sym same) h) in
+      (left-untouched events gone other refl refl (ap (λ b. if b then left start name else 0) (other_name name other apart)) ∙ before.0, before.1) in
       subst (IsHistory setup) (append_assoc events (gone ∷ []) (map (withdrawn start) names))
-        (withdraw_all start names (and_then events gone) differ.1 stays next)
+      (withdraw_all start names (and_then events gone) differ.1 stays next)
 
   -- the open names of an hour differ
   open_names-differ : (events : List Event) (hour : ℕ) → IsHistory setup events → AreDifferent (open_names events hour)
@@ -151,8 +150,8 @@ module _ (setup : Setup) (is_setup : IsMarketSetup setup) where
   withdrawals-history hour phase.Local events before history = subst (IsHistory setup) (sym (append-nil (and_then events (event.Gated hour phase.Local)))) history
   withdrawals-history hour phase.Closed events before history =
       withdraw_all events (open_names events hour) (and_then events (event.Gated hour phase.Closed)) (open_names-differ events hour before)
-        (λ name h. (left-untouched events (event.Gated hour phase.Closed) name refl refl refl, (from_filter (is_open events) name (filter_map (name_given hour) events) h).1))
-        history
+      (λ name h. (left-untouched events (event.Gated hour phase.Closed) name refl refl refl, (from_filter (is_open events) name (filter_map (name_given hour) events) h).1))
+      history
 
   -- a gate leaves a history well-formed
   pub gate-history : (parts : List Part) (hour : ℕ) (asked : Phase) (events : List Event) → IsHistory setup events → GateFits setup events hour asked
@@ -163,4 +162,4 @@ module _ (setup : Setup) (is_setup : IsMarketSetup setup) where
       let done : List Event = gated ∷ withdrawals events hour asked in
       let all = subst (IsHistory setup) (append_assoc events (gated ∷ []) (withdrawals events hour asked)) (withdrawals-history hour asked events history next) in
       subst (IsHistory setup) (append_assoc events done (sweeps parts (graph_of setup) (hour ∷ []) (events ++ done)))
-        (sweeps-history setup is_setup parts (hour ∷ []) (events ++ done) all)
+      (sweeps-history setup is_setup parts (hour ∷ []) (events ++ done) all)

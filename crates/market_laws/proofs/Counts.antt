@@ -1,6 +1,6 @@
 -- How many pass a test, and how many are in a list in order.
-use Rattle.std.proofs.Common.{◌≡◌, ◌≢◌, ◌∙◌, ◌⊎◌, inl, inr, ℕ, zero, suc, ◌+◌, ◌-◌, ◌<◌, ◌≤◌, ◌&&◌, Bool, true, false, cond, List, [], ◌∷◌, ◌++◌, filter, fold, length, map, Option, Some, None, nat_lt, refl, sym, ap, subst, if◌then◌else◌, arith}
-use Rattle.std.proofs.lemmas.Bool.{ltb-true, true≢false}
+use Rattle.std.proofs.Common.{◌≡◌, ◌∙◌, ◌⊎◌, inl, inr, suc, ◌+◌, ◌<◌, ◌≤◌, Bool, true, false, cond, List, [], ◌∷◌, filter, fold, length, refl, sym, ap, if◌then◌else◌, arith}
+use Rattle.std.proofs.lemmas.Bool.{true≢false}
 use Rattle.std.specs.Ordering.{is_lt}
 use Rattle.std.specs.declared.cmp.Ordering.{Ordering}
 use Rattle.zone_graph.specs.Route.{IsIn}
@@ -28,7 +28,7 @@ fewer-le p q [] each = omega arith
 fewer-le {X} p q (x ∷ xs) each = go (fewer-le p q xs (λ y h. each y (inr h))) (p x) (q x) refl refl
   where
     go : length (filter p xs) ≤ length (filter q xs) → (a b : Bool) → p x ≡ a → q x ≡ b
-      → length (cond a (x ∷ filter p xs) (filter p xs)) ≤ length (cond b (x ∷ filter q xs) (filter q xs))
+        → length (cond a (x ∷ filter p xs) (filter p xs)) ≤ length (cond b (x ∷ filter q xs) (filter q xs))
     go rest true true e k = omega arith
     go rest true false e k = absurd (true≢false (sym (each x (inl refl) e) ∙ k))
     go rest false true e k = omega arith
@@ -41,8 +41,8 @@ fewer-lt {X} p q (y ∷ xs) x h each was is =
     go (fewer-le p q xs (λ z i. each z (inr i))) (p y) (q y) refl refl h (λ i. fewer-lt p q xs x i (λ z j. each z (inr j)) was is)
   where
     go : length (filter p xs) ≤ length (filter q xs) → (a b : Bool) → p y ≡ a → q y ≡ b → (x ≡ y) ⊎ IsIn x xs
-      → (IsIn x xs → length (filter p xs) < length (filter q xs))
-      → length (cond a (y ∷ filter p xs) (filter p xs)) < length (cond b (y ∷ filter q xs) (filter q xs))
+        → (IsIn x xs → length (filter p xs) < length (filter q xs))
+        → length (cond a (y ∷ filter p xs) (filter p xs)) < length (cond b (y ∷ filter q xs) (filter q xs))
     go rest true true e k (inl s) later = absurd (true≢false (sym e ∙ ap p (sym s) ∙ is))
     go rest true true e k (inr i) later = let less = later i in omega arith
     go rest true false e k s later = absurd (true≢false (sym (each y (inl refl) e) ∙ k))

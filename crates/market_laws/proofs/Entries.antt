@@ -1,6 +1,5 @@
 -- What happens as orders enter leaves a history well-formed.
-use Rattle.std.proofs.Common.{◌≡◌, ◌∙◌, ◌⊎◌, inl, inr, ℕ, zero, suc, ◌+◌, ◌-◌, ◌<◌, ◌≤◌, ◌&&◌, Bool, true, false, List, [], ◌∷◌, ◌++◌, append_assoc, length, Option, Some, None, nat_lt, refl, sym, ap, subst, arith}
-use Rattle.std.proofs.lemmas.Bool.{ltb-true, true≢false}
+use Rattle.std.proofs.Common.{◌≡◌, ◌∙◌, inl, inr, ℕ, zero, suc, ◌<◌, true, List, [], ◌∷◌, ◌++◌, append_assoc, length, Some, None, refl, sym, ap, subst, arith}
 use Rattle.std.proofs.lemmas.List.{append-nil}
 use Rattle.order_kinds.specs.declared.contract.Part.{Part}
 use Rattle.order_kinds.specs.declared.order.Kind.{Kind}
@@ -8,9 +7,8 @@ use Rattle.order_kinds.specs.declared.order.Kind.TheVariants as kind
 use Rattle.order_kinds.specs.declared.order.Order.{Order}
 use Rattle.order_kinds.specs.declared.order.OrderName.{OrderName}
 use Rattle.order_kinds.specs.Contract.{is_known}
-use Rattle.order_kinds.specs.Order.{has_allowed_peaks, order_fault}
+use Rattle.order_kinds.specs.Order.{order_fault}
 use Rattle.order_kinds.specs.Period.{is_within}
-use Rattle.order_kinds.specs.Price.{lots_in_range, price_in_range}
 use Rattle.zone_graph.specs.Graph.{Graph, HasZone}
 use Rattle.zone_graph.specs.Route.{IsIn}
 use Rattle.market_model.specs.declared.event.Event.{Event}
@@ -18,12 +16,11 @@ use Rattle.market_model.specs.declared.event.Event.TheVariants as event
 use Rattle.market_model.specs.declared.setup.Setup.{Setup}
 use Rattle.market_model.specs.Entering.{enter, enter_all, name_of_next, rest_withdrawn}
 use Rattle.market_model.specs.Grid.{graph_of}
-use Rattle.market_model.specs.History.{and_then}
 use Rattle.market_model.specs.Lines.{partner}
-use Rattle.market_model.specs.Orders.{left, standing}
+use Rattle.market_model.specs.Orders.{left}
 use Rattle.market_model.specs.Sweep.{sweep, sweep_leg, sweeps}
-use Rattle.market_model.specs.Taking.{next_leg, standing_order, take, trade}
-use Rattle.market_model.specs.WellFormed.{Fits, IsHistory, IsMarketSetup, OrderEnters}
+use Rattle.market_model.specs.Taking.{next_leg, standing_order, take}
+use Rattle.market_model.specs.WellFormed.{IsHistory, IsMarketSetup}
 use Rattle.market_laws.proofs.Falls.{sweep_leg-hour, trade-leg}
 use Rattle.market_laws.proofs.Legs.{next_leg-fits, sweep_leg-fits}
 use Rattle.market_laws.proofs.Repeats.{bind-some, history-keep}
@@ -54,23 +51,23 @@ module _ (setup : Setup) (is_setup : IsMarketSetup setup) where
   unfolding take
   take-history events name history =
       history-keep (left events name) (next_leg (graph_of setup) name) (IsHistory setup)
-        (λ before e kept is. history-more setup before e kept (next_leg-fits setup is_setup before kept.fit name e is) (next_leg-plain (graph_of setup) name before e is))
-        events history
+      (λ before e kept is. history-more setup before e kept (next_leg-fits setup is_setup before kept.fit name e is) (next_leg-plain (graph_of setup) name before e is))
+      events history
 
   -- so does a sweep
   pub sweep-history : (parts : List Part) (hour : ℕ) (events : List Event) → IsHistory setup events → IsHistory setup (events ++ sweep parts (graph_of setup) hour events)
   unfolding sweep
   sweep-history parts hour events history =
       history-keep _ (sweep_leg parts (graph_of setup) hour) (IsHistory setup)
-        (λ before e kept is. history-more setup before e kept (sweep_leg-fits setup is_setup before kept.fit parts hour e is) (sweep_leg-plain parts (graph_of setup) hour before e is))
-        events history
+      (λ before e kept is. history-more setup before e kept (sweep_leg-fits setup is_setup before kept.fit parts hour e is) (sweep_leg-plain parts (graph_of setup) hour before e is))
+      events history
 
   pub sweeps-history : (parts : List Part) (hours : List ℕ) (events : List Event) → IsHistory setup events → IsHistory setup (events ++ sweeps parts (graph_of setup) hours events)
   sweeps-history parts [] events history = subst (IsHistory setup) (sym (append-nil events)) history
   sweeps-history parts (hour ∷ hours) events history =
       let legs : List Event = sweep parts (graph_of setup) hour events in
       subst (IsHistory setup) (append_assoc events legs (sweeps parts (graph_of setup) hours (events ++ legs)))
-        (sweeps-history parts hours (events ++ legs) (sweep-history parts hour events history))
+      (sweeps-history parts hours (events ++ legs) (sweep-history parts hour events history))
 
   -- the withdrawal of an immediate-or-cancel order's rest
   rest-history : (kind : Kind) (events : List Event) (name : OrderName) (rest : ℕ) → rest ≡ left events name → IsHistory setup events
@@ -91,7 +88,12 @@ module _ (setup : Setup) (is_setup : IsMarketSetup setup) where
       let entered : Event = event.Entered name caller order in
       let entry : List Event = entered ∷ [] in
       let start = history-more setup events entered history (record {
-        named = refl; of_caller = may.of_caller; in_hour = may.in_hour; in_part = may.in_part; in_zone = may.in_zone; sound = may.sound;
+        named = refl;
+        of_caller = may.of_caller;
+        in_hour = may.in_hour;
+        in_part = may.in_part;
+        in_zone = may.in_zone;
+        sound = may.sound;
       }) tt in
       let legs : List Event = take (graph_of setup) (events ++ entry) name in
       let taken = take-history (events ++ entry) name start in
@@ -99,10 +101,10 @@ module _ (setup : Setup) (is_setup : IsMarketSetup setup) where
       let withdrawn = rest-history order.kind (events ++ entry ++ legs) name (left (events ++ entry ++ legs) name) refl taken in
       let done : List Event = entry ++ legs ++ rest in
       let same : (events ++ entry ++ legs) ++ rest ≡ events ++ done =
-        ap (λ xs. xs ++ rest) (append_assoc events entry legs) ∙ append_assoc events (entry ++ legs) rest in
+      ap (λ xs. xs ++ rest) (append_assoc events entry legs) ∙ append_assoc events (entry ++ legs) rest in
       let all = subst (IsHistory setup) same withdrawn in
       subst (IsHistory setup) (append_assoc events done (sweep parts (graph_of setup) order.contract.hour (events ++ done)))
-        (sweep-history parts order.contract.hour (events ++ done) all)
+      (sweep-history parts order.contract.hour (events ++ done) all)
 
   -- so do several, one after the other
   pub enter_all-history : (parts : List Part) (caller : ℕ) (orders : List Order) (events : List Event) → ((order : Order) → IsIn order orders → MayEnter setup caller order)
@@ -111,4 +113,4 @@ module _ (setup : Setup) (is_setup : IsMarketSetup setup) where
   enter_all-history parts caller (order ∷ orders) events may history =
       let done : List Event = enter parts (graph_of setup) caller order events in
       subst (IsHistory setup) (append_assoc events done (enter_all parts (graph_of setup) caller orders (events ++ done)))
-        (enter_all-history parts caller orders (events ++ done) (λ o i. may o (inr i)) (enter-history parts caller order events (may order (inl refl)) history))
+      (enter_all-history parts caller orders (events ++ done) (λ o i. may o (inr i)) (enter-history parts caller order events (may order (inl refl)) history))

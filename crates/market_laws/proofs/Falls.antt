@@ -1,8 +1,7 @@
 -- Each leg lowers what can still be traded, so that takings and sweeps end: with the fuel that the
 -- definitions give them they are runs to the end.
-use Rattle.std.proofs.Common.{◌≡◌, ◌∙◌, ◌⊎◌, inl, inr, if◌then◌else◌, ℕ, ◌+◌, ◌-◌, ◌<◌, ◌≤◌, Bool, true, false, cond, List, [], ◌∷◌, ◌++◌, filter, sum_by, Option, Some, None, nat_eq, eq-eqb, refl, sym, ap, subst, arith}
+use Rattle.std.proofs.Common.{◌≡◌, ◌∙◌, inl, inr, if◌then◌else◌, ℕ, ◌<◌, ◌≤◌, Bool, true, false, List, [], ◌∷◌, filter, sum_by, Some, nat_eq, eq-eqb, refl, sym, ap, subst, arith}
 use Rattle.std.proofs.lemmas.List.Sums.{sum_by-cons}
-use Rattle.std.specs.Option.{option_map}
 use Rattle.std.specs.Ordering.{is_lt}
 use Rattle.order_kinds.specs.declared.contract.Contract.{Contract}
 use Rattle.order_kinds.specs.declared.contract.Part.{Part}
@@ -19,7 +18,7 @@ use Rattle.market_model.specs.declared.setup.Setup.{Setup}
 use Rattle.market_model.specs.Grid.{graph_of}
 use Rattle.market_model.specs.History.{and_then}
 use Rattle.market_model.specs.Lines.{buyer_zone, line, partner, rooms_for, seller_zone, time_cmp}
-use Rattle.market_model.specs.Orders.{Placed, Standing, left, names, open_order, placed, placed_by, standing}
+use Rattle.market_model.specs.Orders.{Placed, Standing, left, open_order, placed, placed_by, standing}
 use Rattle.market_model.specs.Sweep.{IsSweep, left_in_hour, leg_in, leg_of_buy, resting_trade, sweep, sweep_leg}
 use Rattle.market_model.specs.Taking.{IsTaking, leg_over, next_leg, standing_order, take, trade}
 use Rattle.market_model.specs.WellFormed.{FitAfter, Fits, IsMarketSetup, LegFits}
@@ -40,7 +39,7 @@ pub trade-leg : (graph : Graph) (events : List Event) (taker maker : Standing) (
 unfolding trade
 trade-leg graph events taker maker e is =
     let found = map-some (leg_over (rooms_for events taker) taker maker)
-      (best_route graph (rooms_for events taker) (seller_zone taker maker) (buyer_zone taker maker)) e is in
+    (best_route graph (rooms_for events taker) (seller_zone taker maker) (buyer_zone taker maker)) e is in
     record { route = found.0; is = found.2 }
 
 -- ---- takings
@@ -76,8 +75,8 @@ pub take-run : (setup : Setup) → IsMarketSetup setup → (events : List Event)
 unfolding take
 take-run setup is_setup events fit name =
     run-kept (left events name) (next_leg (graph_of setup) name) and_then (λ state. left state name) (λ state. FitAfter setup [] state)
-      (λ state e kept is. (fit-more setup state e kept (next_leg-fits setup is_setup state kept name e is), next_leg-lowers setup is_setup state kept name e is))
-      events fit (omega arith)
+    (λ state e kept is. (fit-more setup state e kept (next_leg-fits setup is_setup state kept name e is), next_leg-lowers setup is_setup state kept name e is))
+    events fit (omega arith)
 
 -- ---- sweeps
 
@@ -100,7 +99,7 @@ leg_of_buy-contract graph events contract buy e in_line is =
     let own : buy.order.contract ≡ contract = ap (λ (s : Standing). s.order.contract) in_line.is ∙ in_line.of_contract in
     let its : other.0.order.contract ≡ contract = ap (λ (s : Standing). s.order.contract) found.in_line.is ∙ found.in_line.of_contract ∙ own in
     elim (is_lt (time_cmp buy other.0))
-      as (λ b. (if b then trade graph events other.0 buy else trade graph events buy other.0) ≡ Some e → IsLegIn contract e) [
+    as (λ b. (if b then trade graph events other.0 buy else trade graph events buy other.0) ≡ Some e → IsLegIn contract e) [
       | true ↦ λ k. trade-contract graph events other.0 buy contract e its k
       | false ↦ λ k. trade-contract graph events buy other.0 contract e own k
     ] other.2
@@ -147,8 +146,8 @@ lowers-hour setup events contract leg fit fits =
     let there = IsIn-filter in_hour fits.taker (placed events) fits.taker_open.is_placed (eq-eqb fits.taker.name.hour contract.hour hour) in
     let lower = subst (λ n. left after n < left events n) (sym fits.taker_open.is_named) (lowers-taker setup events contract leg fits) in
     subst (λ orders. sum_by (λ order. left after order.name) (filter in_hour orders) < left_in_hour events contract.hour) (sym same)
-      (sum-lt (λ (order : Placed). left after order.name) (λ order. left events order.name) (filter in_hour (placed events)) fits.taker there lower
-        (λ order. leg-lowers events contract leg order.name))
+    (sum-lt (λ (order : Placed). left after order.name) (λ order. left events order.name) (filter in_hour (placed events)) fits.taker there lower
+    (λ order. leg-lowers events contract leg order.name))
 
 module _ (setup : Setup) (is_setup : IsMarketSetup setup) (events : List Event) (fit : FitAfter setup [] events) where
   -- the next leg of a sweep lowers what is left in its hour
@@ -167,5 +166,5 @@ pub sweep-run : (setup : Setup) → IsMarketSetup setup → (parts : List Part) 
 unfolding sweep
 sweep-run setup is_setup parts hour events fit =
     run-kept (left_in_hour events hour) (sweep_leg parts (graph_of setup) hour) and_then (λ state. left_in_hour state hour) (λ state. FitAfter setup [] state)
-      (λ state e kept is. (fit-more setup state e kept (sweep_leg-fits setup is_setup state kept parts hour e is), sweep_leg-lowers setup is_setup state kept parts hour e is))
-      events fit (omega arith)
+    (λ state e kept is. (fit-more setup state e kept (sweep_leg-fits setup is_setup state kept parts hour e is), sweep_leg-lowers setup is_setup state kept parts hour e is))
+    events fit (omega arith)

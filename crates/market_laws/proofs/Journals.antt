@@ -1,10 +1,9 @@
 -- The history of every journal is well-formed.
-use Rattle.std.proofs.Common.{◌≡◌, ◌∙◌, ◌⊎◌, inl, inr, ℕ, List, [], ◌∷◌, ◌++◌, append_assoc, flat_map, refl, sym, ap, subst}
+use Rattle.std.proofs.Common.{◌≡◌, ◌∙◌, List, [], ◌∷◌, ◌++◌, append_assoc, sym, ap, subst}
 use Rattle.std.proofs.lemmas.List.{append-nil}
 use Rattle.std.proofs.lemmas.List.Concat.{flat_map-append}
 use Rattle.order_kinds.specs.declared.contract.Part.{Part}
 use Rattle.market_model.specs.declared.entry.Entry.{Entry}
-use Rattle.market_model.specs.declared.event.Event.{Event}
 use Rattle.market_model.specs.declared.setup.Setup.{Setup}
 use Rattle.market_model.specs.History.{events_of, journal_events}
 use Rattle.market_model.specs.Market.{Turn, entry_of, run_after, run_by}
@@ -24,9 +23,9 @@ module _ (setup : Setup) (is_setup : IsMarketSetup setup) (parts : List Part) wh
   run_after-history (turn ∷ turns) before history =
       let entry : Entry = entry_of parts setup before turn in
       let next = subst (IsHistory setup) (sym (journal_events-more before entry))
-        (reply-history setup is_setup parts (journal_events before) turn.caller history turn.command) in
+      (reply-history setup is_setup parts (journal_events before) turn.caller history turn.command) in
       subst (λ es. IsHistory setup (journal_events es)) (append_assoc before (entry ∷ []) (run_after parts setup (before ++ entry ∷ []) turns))
-        (run_after-history turns (before ++ entry ∷ []) next)
+      (run_after-history turns (before ++ entry ∷ []) next)
 
   nothing-history : IsHistory setup []
   nothing-history = record { fit = tt; whole = λ block h opened. absurd h }

@@ -1,7 +1,5 @@
 -- The next leg of a taking and of a sweep fits the events before it.
-use Rattle.std.proofs.Common.{◌≡◌, ◌∙◌, ℕ, ◌&&◌, Bool, true, false, List, [], ◌∷◌, ◌++◌, Option, Some, None, refl, sym, ap, subst, if◌then◌else◌}
-use Rattle.std.proofs.lemmas.Bool.{true≢false}
-use Rattle.std.specs.Option.{option_and_then, option_map}
+use Rattle.std.proofs.Common.{◌≡◌, ◌∙◌, ℕ, ◌&&◌, true, false, List, [], Some, refl, sym, ap, subst, if◌then◌else◌}
 use Rattle.std.specs.Ordering.{is_lt}
 use Rattle.order_kinds.specs.declared.contract.Contract.{Contract}
 use Rattle.order_kinds.specs.declared.contract.Part.{Part}
@@ -10,14 +8,12 @@ use Rattle.order_kinds.specs.declared.side.Side.{Side}
 use Rattle.order_kinds.specs.declared.side.Side.TheVariants.{Buy, Sell}
 use Rattle.order_kinds.specs.Same.{same_name}
 use Rattle.order_kinds.specs.Side.{opposite}
-use Rattle.zone_graph.specs.Route.{IsIn}
 use Rattle.market_model.specs.declared.event.Event.{Event}
 use Rattle.market_model.specs.declared.setup.Setup.{Setup}
 use Rattle.market_model.specs.Grid.{graph_of}
-use Rattle.market_model.specs.History.{and_then}
 use Rattle.market_model.specs.Lines.{line, partner, time_cmp}
 use Rattle.market_model.specs.Orders.{Placed, Standing, is_open, open_order, placed, standing}
-use Rattle.market_model.specs.Sweep.{first_answer, leg_in, leg_of_buy, resting_trade, sweep, sweep_leg, left_in_hour}
+use Rattle.market_model.specs.Sweep.{leg_in, leg_of_buy, resting_trade, sweep, sweep_leg}
 use Rattle.market_model.specs.Taking.{next_leg, standing_order, take, trade}
 use Rattle.market_model.specs.WellFormed.{FitAfter, Fits, IsMarketSetup}
 use Rattle.market_laws.proofs.Members.{from_find, from_first_answer}
@@ -52,8 +48,8 @@ module _ (setup : Setup) (is_setup : IsMarketSetup setup) (events : List Event) 
   partner_trade-fits own found e own_open is_partner is =
       let other = is_partner.in_line in
       trade-fits setup events own other.order e is_setup own_open other.is_open (sound.orders own own_open.is_placed)
-        (sound.orders other.order other.is_open.is_placed) other.of_contract other.on_side
-        (subst (λ s. trade (graph_of setup) events (standing events own) s ≡ Some e) other.is is)
+      (sound.orders other.order other.is_open.is_placed) other.of_contract other.on_side
+      (subst (λ s. trade (graph_of setup) events (standing events own) s ≡ Some e) other.is is)
 
   pub partner_taker-fits : (own : Placed) (found : Standing) (e : Event) → IsOpen events own
       → IsPartner (graph_of setup) events (standing events own) found
@@ -62,8 +58,8 @@ module _ (setup : Setup) (is_setup : IsMarketSetup setup) (events : List Event) 
       let other = is_partner.in_line in
       let side : own.order.side ≡ opposite other.order.order.side = sym (ap opposite other.on_side ∙ opposite-opposite own.order.side) in
       trade-fits setup events other.order own e is_setup other.is_open own_open (sound.orders other.order other.is_open.is_placed)
-        (sound.orders own own_open.is_placed) (sym other.of_contract) side
-        (subst (λ s. trade (graph_of setup) events s (standing events own) ≡ Some e) other.is is)
+      (sound.orders own own_open.is_placed) (sym other.of_contract) side
+      (subst (λ s. trade (graph_of setup) events s (standing events own) ≡ Some e) other.is is)
 
   pub next_leg-fits : (name : OrderName) (e : Event) → next_leg (graph_of setup) name events ≡ Some e → Fits setup events e
   unfolding next_leg
@@ -74,7 +70,7 @@ module _ (setup : Setup) (is_setup : IsMarketSetup setup) (events : List Event) 
       let other = bind-some _ (partner (graph_of setup) events own.0) e own.2 in
       let at_own = subst (λ s. partner (graph_of setup) events s ≡ Some other.0) (sym found.2) other.1 in
       partner_trade-fits found.0 other.0 e order.is_open (partner-is (graph_of setup) events (standing events found.0) other.0 at_own)
-        (subst (λ s. trade (graph_of setup) events s other.0 ≡ Some e) (sym found.2) other.2)
+      (subst (λ s. trade (graph_of setup) events s other.0 ≡ Some e) (sym found.2) other.2)
 
   -- the leg of a resting buy with its partner fits
   resting-fits : (own : Placed) (found : Standing) (e : Event) → IsOpen events own
@@ -82,7 +78,7 @@ module _ (setup : Setup) (is_setup : IsMarketSetup setup) (events : List Event) 
       → resting_trade (graph_of setup) events (standing events own) found ≡ Some e → Fits setup events e
   resting-fits own found e own_open is_partner is =
       elim (is_lt (time_cmp (standing events own) found))
-        as (λ b. (if b then trade (graph_of setup) events found (standing events own) else trade (graph_of setup) events (standing events own) found) ≡ Some e → Fits setup events e) [
+      as (λ b. (if b then trade (graph_of setup) events found (standing events own) else trade (graph_of setup) events (standing events own) found) ≡ Some e → Fits setup events e) [
         | true ↦ λ k. partner_taker-fits own found e own_open is_partner k
         | false ↦ λ k. partner_trade-fits own found e own_open is_partner k
       ] is
@@ -92,9 +88,9 @@ module _ (setup : Setup) (is_setup : IsMarketSetup setup) (events : List Event) 
   leg_of_buy-fits contract buy e in_line is =
       let at_order = subst (λ s. leg_of_buy (graph_of setup) events s ≡ Some e) in_line.is is in
       let other = bind-some (resting_trade (graph_of setup) events (standing events in_line.order))
-        (partner (graph_of setup) events (standing events in_line.order)) e at_order in
+      (partner (graph_of setup) events (standing events in_line.order)) e at_order in
       resting-fits in_line.order other.0 e in_line.is_open
-        (partner-is (graph_of setup) events (standing events in_line.order) other.0 other.1) other.2
+      (partner-is (graph_of setup) events (standing events in_line.order) other.0 other.1) other.2
 
   pub sweep_leg-fits : (parts : List Part) (hour : ℕ) (e : Event) → sweep_leg parts (graph_of setup) hour events ≡ Some e → Fits setup events e
   unfolding sweep_leg

@@ -1,17 +1,15 @@
 -- What is known of every order and block that entered, from the event that entered it.
-use Rattle.std.proofs.Common.{◌≡◌, ◌∙◌, ◌⊎◌, inl, inr, ℕ, ◌<◌, ◌≤◌, Bool, true, false, List, [], ◌∷◌, ◌++◌, length, Option, Some, None, refl, sym, ap, subst}
+use Rattle.std.proofs.Common.{◌≡◌, ◌∙◌, ◌⊎◌, inl, inr, ◌<◌, true, List, [], ◌∷◌, ◌++◌, length, Option, Some, None, refl, sym, ap, subst}
 use Rattle.std.proofs.lemmas.List.{append-nil}
 use Rattle.std.proofs.lemmas.List.Elements.{filter_map-append}
 use Rattle.std.specs.List.{cons_option, filter_map}
-use Rattle.order_kinds.specs.declared.order.BlockOrder.{BlockOrder}
-use Rattle.order_kinds.specs.declared.order.Order.{Order}
 use Rattle.order_kinds.specs.declared.order.OrderName.{OrderName}
 use Rattle.order_kinds.specs.Contract.{is_known}
 use Rattle.order_kinds.specs.Order.{block_fault, order_fault}
 use Rattle.order_kinds.specs.Period.{is_within}
 use Rattle.zone_graph.specs.Graph.{HasZone}
 use Rattle.zone_graph.specs.Route.{IsIn}
-use Rattle.zone_graph.proofs.Membership.{IsIn-append, IsIn-left, IsIn-right}
+use Rattle.zone_graph.proofs.Membership.{IsIn-append, IsIn-left}
 use Rattle.market_model.specs.declared.event.Event.{Event}
 use Rattle.market_model.specs.declared.event.Event.TheVariants as event
 use Rattle.market_model.specs.declared.setup.Setup.{Setup}
@@ -19,7 +17,7 @@ use Rattle.market_model.specs.Grid.{graph_of}
 use Rattle.market_model.specs.History.{and_then}
 use Rattle.market_model.specs.Orders.{Placed, PlacedBlock, block_placed_by, blocks_placed, placed, placed_by}
 use Rattle.market_model.specs.Rules.{is_block_period}
-use Rattle.market_model.specs.WellFormed.{BlockEnters, FitAfter, Fits, OrderEnters}
+use Rattle.market_model.specs.WellFormed.{FitAfter, Fits}
 use Rattle.market_laws.proofs.Growing.{grows}
 
 -- what one more event picks is its own or was picked before

@@ -1,15 +1,14 @@
 -- The legs of the pour between two blocks fit, keep what is left of both equal, and touch no other
 -- order or block.
-use Rattle.std.proofs.Common.{◌≡◌, ◌≢◌, ◌∙◌, ◌⊎◌, inl, inr, ℕ, zero, suc, ◌+◌, ◌-◌, ◌<◌, ◌≤◌, Bool, true, false, List, [], ◌∷◌, ◌++◌, Option, Some, None, nat_lt, refl, sym, ap, subst, arith}
-use Rattle.std.proofs.lemmas.Bool.{lt-ltb, ltb-true, true≢false}
-use Rattle.std.specs.Option.{option_map}
+use Rattle.std.proofs.Common.{◌≡◌, ◌≢◌, ◌∙◌, ℕ, zero, suc, ◌-◌, ◌<◌, ◌≤◌, List, [], ◌++◌, Some, refl, sym, ap, subst, arith}
+use Rattle.std.proofs.lemmas.Bool.{lt-ltb}
 use Rattle.order_kinds.specs.declared.order.BlockOrder.{BlockOrder}
 use Rattle.order_kinds.specs.declared.order.OrderName.{OrderName}
 use Rattle.order_kinds.specs.Period.{block_quarters}
 use Rattle.order_kinds.specs.Side.{opposite}
 use Rattle.zone_graph.specs.declared.route.Arc.{Arc}
 use Rattle.zone_graph.specs.declared.route.RouteLeg.{RouteLeg}
-use Rattle.zone_graph.specs.Graph.{Graph, IsGraph}
+use Rattle.zone_graph.specs.Graph.{Graph}
 use Rattle.zone_graph.specs.Pour.{lots_if, pour_leg}
 use Rattle.zone_graph.specs.Route.{IsIn, IsRoute, best_route, carried}
 use Rattle.market_model.specs.declared.event.Event.{Event}
@@ -19,7 +18,7 @@ use Rattle.market_model.specs.declared.setup.Setup.{Setup}
 use Rattle.market_model.specs.Blocks.{IsBlockPour, StandingBlock, block_buyer_zone, block_leg, block_leg_over, block_legs, block_seller_zone, standing_block}
 use Rattle.market_model.specs.Grid.{graph_of}
 use Rattle.market_model.specs.History.{and_then}
-use Rattle.market_model.specs.Orders.{PlacedBlock, block_placed_by, blocks_placed, filled_by, is_open, left, names}
+use Rattle.market_model.specs.Orders.{PlacedBlock, block_placed_by, blocks_placed, left}
 use Rattle.market_model.specs.Room.{room}
 use Rattle.market_model.specs.WellFormed.{BlockLegFits, Fits, FitAfter, IsMarketSetup}
 use Rattle.market_laws.proofs.Balances.{left-block_leg, names-maker, names-taker}
@@ -56,26 +55,25 @@ pub record PourKeeps (setup : Setup) (start : List Event) (taker maker : PlacedB
   pub others : (name : OrderName) → taker.name ≢ name → maker.name ≢ name → left events name ≡ left start name
 
 module _ (setup : Setup) (is_setup : IsMarketSetup setup) (start : List Event) (taker maker : PlacedBlock) (own other : StandingBlock)
-  (is_pair : ArePair taker maker) (taker_in : IsIn taker (blocks_placed start)) (maker_in : IsIn maker (blocks_placed start))
-  (own_named : own.name ≡ taker.name) (own_order : own.order ≡ taker.order)
-  (other_named : other.name ≡ maker.name) (other_order : other.order ≡ maker.order) where
-
+    (is_pair : ArePair taker maker) (taker_in : IsIn taker (blocks_placed start)) (maker_in : IsIn maker (blocks_placed start))
+    (own_named : own.name ≡ taker.name) (own_order : own.order ≡ taker.order)
+    (other_named : other.name ≡ maker.name) (other_order : other.order ≡ maker.order) where
   -- the leg of the pour, in terms of the blocks as they stand
   pub record IsBlockLeg (events : List Event) (e : Event) : Type 0 where
     pub leg : RouteLeg
     pub is_leg : IsPourLeg (graph_of setup) (room events (block_quarters own.order.first own.order.last))
-      (block_seller_zone own other) (block_buyer_zone own other) (left events own.name) leg
+        (block_seller_zone own other) (block_buyer_zone own other) (left events own.name) leg
     pub is : block_leg_over own other leg ≡ e
 
   pub block_leg-is : (events : List Event) (e : Event) → block_leg (graph_of setup) own other events ≡ Some e → IsBlockLeg events e
   unfolding block_leg
   block_leg-is events e is =
       let found = map-some (block_leg_over own other) (pour_leg (graph_of setup) (room events (block_quarters own.order.first own.order.last))
-        (block_seller_zone own other) (block_buyer_zone own other) (left events own.name)) e is in
+      (block_seller_zone own other) (block_buyer_zone own other) (left events own.name)) e is in
       record {
         leg = found.0;
         is_leg = pour_leg-is (graph_of setup) (room events (block_quarters own.order.first own.order.last))
-          (block_seller_zone own other) (block_buyer_zone own other) (left events own.name) found.0 found.1;
+            (block_seller_zone own other) (block_buyer_zone own other) (left events own.name) found.0 found.1;
         is = found.2;
       }
 
@@ -119,12 +117,12 @@ module _ (setup : Setup) (is_setup : IsMarketSetup setup) (start : List Event) (
         one_quantity = is_pair.one_quantity;
         price = ap (λ (o : BlockOrder). o.price) other_order;
         some = rw is_leg.carries (carried-some rooms (left events own.name) leg.route
-          (λ arc i. way-room (graph_of setup) rooms (block_seller_zone own other) (block_buyer_zone own other) leg.route found.way arc i) is_leg.some_left);
+            (λ arc i. way-room (graph_of setup) rooms (block_seller_zone own other) (block_buyer_zone own other) leg.route found.way arc i) is_leg.some_left);
         taker_has = most;
         maker_has = omega arith;
         carried = record {
           is_route = subst (λ z. IsRoute (graph_of setup) rooms z (block_buyer_zone (standing_block events taker) (standing_block events maker)) leg.route) (same_seller events)
-            (subst (λ z. IsRoute (graph_of setup) rooms (block_seller_zone own other) z leg.route) (same_buyer events) found);
+              (subst (λ z. IsRoute (graph_of setup) rooms (block_seller_zone own other) z leg.route) (same_buyer events) found);
           has_room = λ arc i. rw is_leg.carries (carried-room rooms (left events own.name) leg.route arc i);
         };
       }
@@ -145,11 +143,11 @@ module _ (setup : Setup) (is_setup : IsMarketSetup setup) (start : List Event) (
       let of_taker : left after own.name ≡ left events own.name - made.leg.lots = left-block_leg events own.order.first own.order.last leg own.name (names-taker leg) in
       let of_maker : left after other.name ≡ left events other.name - made.leg.lots = left-block_leg events own.order.first own.order.last leg other.name (names-maker leg) in
       let equal : left after maker.name ≡ left after taker.name =
-        ap (left after) (sym other_named) ∙ of_maker ∙ ap (λ n. n - made.leg.lots) (ap (left events) other_named ∙ kept.equal ∙ ap (left events) (sym own_named)) ∙ sym of_taker ∙ ap (left after) own_named in
+      ap (left after) (sym other_named) ∙ of_maker ∙ ap (λ n. n - made.leg.lots) (ap (left events) other_named ∙ kept.equal ∙ ap (left events) (sym own_named)) ∙ sym of_taker ∙ ap (left after) own_named in
       let others : (name : OrderName) → taker.name ≢ name → maker.name ≢ name → left after name ≡ left start name =
-        λ name not_taker not_maker. left-untouched events happened name refl
-          (ap (λ b. lots_if b made.leg.lots) (names-other leg name (λ same. not_taker (sym own_named ∙ same)) (λ same. not_maker (sym other_named ∙ same)))) refl
-          ∙ kept.others name not_taker not_maker in
+      λ name not_taker not_maker. left-untouched events happened name refl
+      (ap (λ b. lots_if b made.leg.lots) (names-other leg name (λ same. not_taker (sym own_named ∙ same)) (λ same. not_maker (sym other_named ∙ same)))) refl
+      ∙ kept.others name not_taker not_maker in
       subst (IsPourStep events) made.is (record {
         fits = fits;
         kept = record {
@@ -166,11 +164,11 @@ module _ (setup : Setup) (is_setup : IsMarketSetup setup) (start : List Event) (
   unfolding block_legs
   pour-keeps events kept =
       history-keep (left events own.name) (block_leg (graph_of setup) own other) (PourKeeps setup start taker maker)
-        (λ before e k is. (pour-step before e k is).kept) events kept
+      (λ before e k is. (pour-step before e k is).kept) events kept
 
   -- and are a run: each is the next one, and after the last there is none
   pub pour-run : (events : List Event) → PourKeeps setup start taker maker events → IsBlockPour (graph_of setup) own other events (block_legs (graph_of setup) own other events)
   unfolding block_legs
   pour-run events kept =
       run-kept (left events own.name) (block_leg (graph_of setup) own other) and_then (λ state. left state own.name) (PourKeeps setup start taker maker)
-        (λ state e k is. let step = pour-step state e k is in (step.kept, step.lowers)) events kept (omega arith)
+      (λ state e k is. let step = pour-step state e k is in (step.kept, step.lowers)) events kept (omega arith)

@@ -1,5 +1,5 @@
 -- Steps that each fit the events before them fit together.
-use Rattle.std.proofs.Common.{◌≡◌, ◌∙◌, ℕ, zero, suc, ◌<◌, ◌≤◌, List, [], ◌∷◌, ◌++◌, append_assoc, flat_map, fold, Option, Some, None, refl, sym, ap, subst, arith}
+use Rattle.std.proofs.Common.{◌≡◌, ◌∙◌, ℕ, zero, suc, ◌<◌, ◌≤◌, List, [], ◌∷◌, ◌++◌, append_assoc, flat_map, fold, Option, Some, None, refl, sym, subst, arith}
 use Rattle.std.proofs.lemmas.List.{append-nil}
 use Rattle.std.proofs.Math.Seq.{append_snoc}
 use Rattle.std.specs.Option.{option_and_then, option_map}
@@ -23,7 +23,7 @@ steps-fit setup (suc most) step each events fit =
     go (λ e more. steps-fit setup most step each (and_then events e) more) (step events) refl
   where
     go : ((e : Event) → FitAfter setup [] (and_then events e) → FitAfter setup (and_then events e) (steps most step and_then (and_then events e)))
-      → (o : Option Event) → step events ≡ o → FitAfter setup events (step_and_onward o (λ e. steps most step and_then (and_then events e)))
+        → (o : Option Event) → step events ≡ o → FitAfter setup events (step_and_onward o (λ e. steps most step and_then (and_then events e)))
     go onward None is = tt
     go onward (Some e) is = let fits = each events e fit is in (fits, onward e (fit-more setup events e fit fits))
 
@@ -41,8 +41,8 @@ run-kept {S} {X} (suc most) step after measure Kept falls state kept enough =
     go (λ x k less. run-kept most step after measure Kept falls (after state x) k less) (step state) refl
   where
     go : ((x : X) → Kept (after state x) → measure (after state x) ≤ most → IsRun step after (after state x) (steps most step after (after state x)))
-      → (next : Option X) → step state ≡ next
-      → IsRun step after state (step_and_onward next (λ x. steps most step after (after state x)))
+        → (next : Option X) → step state ≡ next
+        → IsRun step after state (step_and_onward next (λ x. steps most step after (after state x)))
     go onward None is = is
     go onward (Some x) is = let less = falls state x kept is in (is, onward x less.0 (omega (arith, less.1)))
 
@@ -65,8 +65,8 @@ steps-keep {S} {X} (suc most) step after Kept each state kept =
     go (λ x k. steps-keep most step after Kept each (after state x) k) (step state) refl
   where
     go : ((x : X) → Kept (after state x) → Kept (fold after (after state x) (steps most step after (after state x))))
-      → (next : Option X) → step state ≡ next
-      → Kept (fold after state (step_and_onward next (λ x. steps most step after (after state x))))
+        → (next : Option X) → step state ≡ next
+        → Kept (fold after state (step_and_onward next (λ x. steps most step after (after state x))))
     go onward None is = kept
     go onward (Some x) is = onward x (each state x kept is)
 

@@ -1,5 +1,5 @@
 -- Every reply leaves a history well-formed, and so does every journal.
-use Rattle.std.proofs.Common.{◌≡◌, ◌≢◌, ◌∙◌, ◌⊎◌, inl, inr, ℕ, zero, suc, ◌+◌, ◌-◌, ◌<◌, ◌≤◌, ◌&&◌, Bool, true, false, not, List, [], ◌∷◌, ◌++◌, append_assoc, flat_map, length, map, Option, Some, None, is_none, is_some, nat_eq, nat_le, nat_lt, eqb-true, refl, sym, ap, subst, if◌then◌else◌, arith}
+use Rattle.std.proofs.Common.{◌≡◌, inl, inr, ℕ, zero, suc, ◌-◌, ◌<◌, ◌≤◌, ◌&&◌, Bool, true, false, not, List, [], ◌∷◌, ◌++◌, length, map, Option, Some, None, is_none, nat_eq, nat_lt, refl, sym, subst, if◌then◌else◌, arith}
 use Rattle.std.proofs.lemmas.Bool.{leb-true, ltb-true, true≢false}
 use Rattle.std.proofs.lemmas.List.{append-nil}
 use Rattle.std.specs.List.{list_all, slice_get}
@@ -11,8 +11,6 @@ use Rattle.order_kinds.specs.declared.order.Kind.{Kind}
 use Rattle.order_kinds.specs.declared.order.Kind.TheVariants as kind
 use Rattle.order_kinds.specs.declared.order.Order.{Order}
 use Rattle.order_kinds.specs.declared.order.OrderName.{OrderName}
-use Rattle.order_kinds.specs.declared.price.Lots.{Lots}
-use Rattle.order_kinds.specs.declared.price.Price.{Price}
 use Rattle.order_kinds.specs.Contract.{is_known}
 use Rattle.order_kinds.specs.Order.{has_allowed_peaks}
 use Rattle.order_kinds.specs.Period.{hours_from, is_not_after, is_within, range_quarters}
@@ -21,7 +19,6 @@ use Rattle.order_kinds.specs.Price.{lots_in_range, price_in_range}
 use Rattle.order_kinds.specs.Same.{same_name}
 use Rattle.zone_graph.specs.declared.route.Arc.{Arc}
 use Rattle.zone_graph.specs.Graph.{zone_count}
-use Rattle.zone_graph.specs.Route.{IsIn}
 use Rattle.zone_graph.proofs.Membership.{IsIn-map}
 use Rattle.market_model.specs.declared.command.Command.{Command}
 use Rattle.market_model.specs.declared.command.Command.TheVariants as command
@@ -29,27 +26,25 @@ use Rattle.market_model.specs.declared.event.Event.{Event}
 use Rattle.market_model.specs.declared.event.Event.TheVariants as event
 use Rattle.market_model.specs.declared.refusal.Refusal.{Refusal}
 use Rattle.market_model.specs.declared.setup.Caller.{Caller}
-use Rattle.market_model.specs.declared.setup.Role.{Role}
 use Rattle.market_model.specs.declared.setup.Setup.{Setup}
 use Rattle.market_model.specs.Grid.{graph_of}
 use Rattle.zone_graph.specs.Grid.{arc_between}
-use Rattle.market_model.specs.History.{and_then, events_of}
+use Rattle.market_model.specs.History.{events_of}
 use Rattle.market_model.specs.Market.{answer, events_done, on_arc, refused_or, reply_by}
 use Rattle.market_model.specs.Orders.{Placed, PlacedBlock, is_open, left, open_block, open_order}
 use Rattle.market_model.specs.Refusals.{below_flow, has_own, if_limit, if_own, if_own_block, is_below_left, is_limit, no_room, own_limit, refusal_of_command}
 use Rattle.market_model.specs.Room.{phase_of}
-use Rattle.market_model.specs.Rules.{has_right, is_fill_or_kill, is_block_period, may_give, role_of}
+use Rattle.market_model.specs.Rules.{has_right, is_fill_or_kill, may_give}
 use Rattle.market_model.specs.Sweep.{first_answer}
-use Rattle.market_model.specs.WellFormed.{Fits, IsHistory, IsMarketSetup, IsRange}
+use Rattle.market_model.specs.WellFormed.{IsHistory, IsMarketSetup, IsRange}
 use Rattle.market_laws.proofs.Admitted.{IsAdmitted, all-pass, refusal-none, unless-none}
-use Rattle.market_laws.proofs.BlockEntries.{MayEnterBlock, enter_block-history, match_blocks-history}
+use Rattle.market_laws.proofs.BlockEntries.{enter_block-history, match_blocks-history}
 use Rattle.market_laws.proofs.Changes.{arc_between-has, gate-history, offer-covers, request-room, then_sweeps-history}
-use Rattle.market_laws.proofs.Entries.{MayEnter, enter-history, enter_all-history}
+use Rattle.market_laws.proofs.Entries.{enter-history, enter_all-history}
 use Rattle.market_laws.proofs.Legs.{open_order-is}
 use Rattle.market_laws.proofs.Members.{from_find}
 use Rattle.market_laws.proofs.Soundness.{block_fault-sound, lots_in_range-bounds, order_fault-sound}
 use Rattle.market_laws.proofs.Tests.{and-true, same_name-eq}
-use Rattle.market_laws.proofs.Trades.{IsOpen}
 use Rattle.market_laws.proofs.Wholes.{history-more}
 
 slice_get-within : {X : Type 0} (xs : List X) (i : ℕ) (x : X) → slice_get xs i ≡ Some x → i < length xs
@@ -62,7 +57,7 @@ pub right-within : (setup : Setup) (caller : ℕ) (given : Command) → has_righ
 right-within setup caller given right = go (slice_get setup.callers caller) refl right
   where
     go : (o : Option Caller) → slice_get setup.callers caller ≡ o
-      → option_map_or (λ role. may_give role given) (option_map (λ (found : Caller). found.role) o) false ≡ true → caller < length setup.callers
+        → option_map_or (λ role. may_give role given) (option_map (λ (found : Caller). found.role) o) false ≡ true → caller < length setup.callers
     go None e k = absurd (true≢false (sym k))
     go (Some found) e k = slice_get-within setup.callers caller found e
 
@@ -116,11 +111,11 @@ module _ (setup : Setup) (is_setup : IsMarketSetup setup) (parts : List Part) (e
         in_hour = all-pass (is_within 1 setup.hours) (map (λ (o : Order). o.contract.hour) orders) may.names.hours order.contract.hour (IsIn-map (λ (o : Order). o.contract.hour) order orders h);
         in_part = all-pass is_known (map (λ (o : Order). o.contract.part) orders) may.names.parts order.contract.part (IsIn-map (λ (o : Order). o.contract.part) order orders h);
         in_zone = ltb-true order.zone (zone_count (graph_of setup)) (all-pass (λ zone. nat_lt zone (zone_count (graph_of setup))) (map (λ (o : Order). o.zone) orders) may.names.zones
-          order.zone (IsIn-map (λ (o : Order). o.zone) order orders h));
+            order.zone (IsIn-map (λ (o : Order). o.zone) order orders h));
         sound = order_fault-sound order
-          (all-pass price_in_range (map (λ (o : Order). o.price) orders) may.numbers.prices order.price (IsIn-map (λ (o : Order). o.price) order orders h))
-          (all-pass lots_in_range (map (λ (o : Order). o.quantity) orders) may.numbers.quantities order.quantity (IsIn-map (λ (o : Order). o.quantity) order orders h))
-          (kills-peaks order (all-pass (λ (o : Order). is_fill_or_kill o.kind) orders kills order h));
+            (all-pass price_in_range (map (λ (o : Order). o.price) orders) may.numbers.prices order.price (IsIn-map (λ (o : Order). o.price) order orders h))
+            (all-pass lots_in_range (map (λ (o : Order). o.quantity) orders) may.numbers.quantities order.quantity (IsIn-map (λ (o : Order). o.quantity) order orders h))
+            (kills-peaks order (all-pass (λ (o : Order). is_fill_or_kill o.kind) orders kills order h));
       }) history
 
   -- ---- single orders
@@ -130,16 +125,16 @@ module _ (setup : Setup) (is_setup : IsMarketSetup setup) (parts : List Part) (e
   own-left name has = go (open_order events name) (open_block events name) refl refl has
     where
       go : (o : Option Placed) (b : Option PlacedBlock) → open_order events name ≡ o → open_block events name ≡ b
-        → not (is_none (if_own caller o) && is_none (if_own_block caller b)) ≡ true → 1 ≤ left events name
+          → not (is_none (if_own caller o) && is_none (if_own_block caller b)) ≡ true → 1 ≤ left events name
       go (Some order) b is is_block k =
-        let found = open_order-is events name order is in
-        let some = ltb-true 0 (left events order.name) found.is_open.is_left in
-        subst (λ n. 1 ≤ left events n) found.is_named some
+          let found = open_order-is events name order is in
+          let some = ltb-true 0 (left events order.name) found.is_open.is_left in
+          subst (λ n. 1 ≤ left events n) found.is_named some
       go None (Some block) is is_block k =
-        let r = from_find (λ (b : PlacedBlock). same_name b.name name && is_open events b.name) block _ is_block in
-        let both = and-true (same_name block.name name) (is_open events block.name) r.1 in
-        let some = ltb-true 0 (left events block.name) both.1 in
-        subst (λ n. 1 ≤ left events n) (same_name-eq block.name name both.0) some
+          let r = from_find (λ (b : PlacedBlock). same_name b.name name && is_open events b.name) block _ is_block in
+          let both = and-true (same_name block.name name) (is_open events block.name) r.1 in
+          let some = ltb-true 0 (left events block.name) both.1 in
+          subst (λ n. 1 ≤ left events n) (same_name-eq block.name name both.0) some
       go None None is is_block k = absurd (true≢false (sym k))
 
   cancelled : (name : OrderName) → IsAdmitted setup events caller (command.Cancel name) → IsHistory setup (events ++ events_done parts setup events caller (command.Cancel name))
@@ -161,10 +156,10 @@ module _ (setup : Setup) (is_setup : IsMarketSetup setup) (parts : List Part) (e
   own_limit-is name order e = go (open_order events name) refl e
     where
       by_kind : (found : Placed) → open_order events name ≡ Some found → (limit : Bool) → is_limit found.order.kind ≡ limit
-        → (if limit then Some found else None) ≡ Some order → IsOwnLimit name order
+          → (if limit then Some found else None) ≡ Some order → IsOwnLimit name order
       by_kind found is true l k =
-        let same : found ≡ order = cc in
-        subst (IsOwnLimit name) same (record { is_order = is; is_limit = limit_kind found.order.kind l })
+          let same : found ≡ order = cc in
+          subst (IsOwnLimit name) same (record { is_order = is; is_limit = limit_kind found.order.kind l })
       by_kind found is false l k = absurd (cc)
 
       by_caller : (found : Placed) → open_order events name ≡ Some found → (own : Bool) → if_limit (if own then Some found else None) ≡ Some order → IsOwnLimit name order
@@ -180,24 +175,24 @@ module _ (setup : Setup) (is_setup : IsMarketSetup setup) (parts : List Part) (e
   reduced name to may = go (own_limit events caller name) refl may.known may.reduces
     where
       go : (o : Option Placed) → own_limit events caller name ≡ o → not (is_none o) ≡ true → is_below_left events to o ≡ true
-        → IsHistory setup (events ++ event.Reduced name (left events name - to) ∷ [])
+          → IsHistory setup (events ++ event.Reduced name (left events name - to) ∷ [])
       go None is k below = absurd (true≢false (sym k))
       go (Some order) is k below =
-        let own = own_limit-is name order is in
-        let found = open_order-is events name order own.is_order in
-        let less : to < left events name = subst (λ n. to < left events n) found.is_named (ltb-true to (left events order.name) below) in
-        let some = (lots_in_range-bounds (record { 0 = to }) (one-pass lots_in_range (record { 0 = to }) may.numbers.quantities)).0 in
-        history-more setup events (event.Reduced name (left events name - to)) history (record {
-          order = order;
-          order_open = record {
-            is_placed = found.is_open.is_placed;
-            is_named = found.is_named;
-            is_left = subst (λ n. is_open events n ≡ true) found.is_named found.is_open.is_left;
-          };
-          is_limit = own.is_limit;
-          some = omega arith;
-          less = omega arith;
-        }) tt
+          let own = own_limit-is name order is in
+          let found = open_order-is events name order own.is_order in
+          let less : to < left events name = subst (λ n. to < left events n) found.is_named (ltb-true to (left events order.name) below) in
+          let some = (lots_in_range-bounds (record { 0 = to }) (one-pass lots_in_range (record { 0 = to }) may.numbers.quantities)).0 in
+          history-more setup events (event.Reduced name (left events name - to)) history (record {
+            order = order;
+            order_open = record {
+              is_placed = found.is_open.is_placed;
+              is_named = found.is_named;
+              is_left = subst (λ n. is_open events n ≡ true) found.is_named found.is_open.is_left;
+            };
+            is_limit = own.is_limit;
+            some = omega arith;
+            less = omega arith;
+          }) tt
 
   -- ---- arcs and hours
 
@@ -223,45 +218,45 @@ module _ (setup : Setup) (is_setup : IsMarketSetup setup) (parts : List Part) (e
       → IsHistory setup (events ++ events_done parts setup events caller (command.Offer from to first last lots))
   unfolding events_done
   offered from to first last lots may = at_arc from to _ (λ arc is.
-    let none = subst (λ o. option_and_then (λ a. first_answer (below_flow events a lots) (range_quarters first last)) o ≡ None) is may.offer in
-    then_sweeps-history setup is_setup parts (hours_from first.hour last.hour) events (event.Offered arc first last lots) history (record {
-      range = range from to first last arc is may.names.hours may.names.period;
-      most = leb-true lots 1000000 may.numbers.offer;
-      covers_flow = offer-covers events arc lots first last none;
-    }) tt)
+      let none = subst (λ o. option_and_then (λ a. first_answer (below_flow events a lots) (range_quarters first last)) o ≡ None) is may.offer in
+      then_sweeps-history setup is_setup parts (hours_from first.hour last.hour) events (event.Offered arc first last lots) history (record {
+        range = range from to first last arc is may.names.hours may.names.period;
+        most = leb-true lots 1000000 may.numbers.offer;
+        covers_flow = offer-covers events arc lots first last none;
+      }) tt)
 
   requested : (from to : ℕ) (first last : Quarter) (lots : ℕ) → IsAdmitted setup events caller (command.Request from to first last lots)
       → IsHistory setup (events ++ events_done parts setup events caller (command.Request from to first last lots))
   unfolding events_done
   requested from to first last lots may = at_arc from to _ (λ arc is.
-    let none = subst (λ o. option_and_then (λ a. first_answer (no_room events a lots) (range_quarters first last)) o ≡ None) is may.request in
-    then_sweeps-history setup is_setup parts (hours_from first.hour last.hour) events (event.Granted arc first last lots) history (record {
-      range = range from to first last arc is may.names.hours may.names.period;
-      some = (lots_in_range-bounds (record { 0 = lots }) (one-pass lots_in_range (record { 0 = lots }) may.numbers.quantities)).0;
-      has_room = request-room events arc lots first last none;
-    }) tt)
+      let none = subst (λ o. option_and_then (λ a. first_answer (no_room events a lots) (range_quarters first last)) o ≡ None) is may.request in
+      then_sweeps-history setup is_setup parts (hours_from first.hour last.hour) events (event.Granted arc first last lots) history (record {
+        range = range from to first last arc is may.names.hours may.names.period;
+        some = (lots_in_range-bounds (record { 0 = lots }) (one-pass lots_in_range (record { 0 = lots }) may.numbers.quantities)).0;
+        has_room = request-room events arc lots first last none;
+      }) tt)
 
   halted : (from to first last : ℕ) → IsAdmitted setup events caller (command.Halt from to first last)
       → IsHistory setup (events ++ events_done parts setup events caller (command.Halt from to first last))
   unfolding events_done
   halted from to first last may = at_arc from to _ (λ arc is.
-    then_sweeps-history setup is_setup parts (hours_from first last) events (event.Halted arc.border first last) history (record {
-      on_border = arc_between-has (graph_of setup) from to arc is;
-      from_hour = all-pass (is_within 1 setup.hours) (first ∷ last ∷ []) may.names.hours first (inl refl);
-      to_hour = second-pass (is_within 1 setup.hours) first last may.names.hours;
-      in_order = leb-true first last may.names.period;
-    }) tt)
+      then_sweeps-history setup is_setup parts (hours_from first last) events (event.Halted arc.border first last) history (record {
+        on_border = arc_between-has (graph_of setup) from to arc is;
+        from_hour = all-pass (is_within 1 setup.hours) (first ∷ last ∷ []) may.names.hours first (inl refl);
+        to_hour = second-pass (is_within 1 setup.hours) first last may.names.hours;
+        in_order = leb-true first last may.names.period;
+      }) tt)
 
   resumed : (from to first last : ℕ) → IsAdmitted setup events caller (command.Resume from to first last)
       → IsHistory setup (events ++ events_done parts setup events caller (command.Resume from to first last))
   unfolding events_done
   resumed from to first last may = at_arc from to _ (λ arc is.
-    then_sweeps-history setup is_setup parts (hours_from first last) events (event.Resumed arc.border first last) history (record {
-      on_border = arc_between-has (graph_of setup) from to arc is;
-      from_hour = all-pass (is_within 1 setup.hours) (first ∷ last ∷ []) may.names.hours first (inl refl);
-      to_hour = second-pass (is_within 1 setup.hours) first last may.names.hours;
-      in_order = leb-true first last may.names.period;
-    }) tt)
+      then_sweeps-history setup is_setup parts (hours_from first last) events (event.Resumed arc.border first last) history (record {
+        on_border = arc_between-has (graph_of setup) from to arc is;
+        from_hour = all-pass (is_within 1 setup.hours) (first ∷ last ∷ []) may.names.hours first (inl refl);
+        to_hour = second-pass (is_within 1 setup.hours) first last may.names.hours;
+        in_order = leb-true first last may.names.period;
+      }) tt)
 
   -- the events of a command that is admitted leave a history well-formed
   pub done-history : (given : Command) → IsAdmitted setup events caller given → IsHistory setup (events ++ events_done parts setup events caller given)
@@ -304,6 +299,6 @@ module _ (setup : Setup) (is_setup : IsMarketSetup setup) (parts : List Part) (e
   reply-history given = go (refusal_of_command setup events caller given) refl
     where
       go : (o : Option Refusal) → refusal_of_command setup events caller given ≡ o
-        → IsHistory setup (events ++ events_of (refused_or o (λ _. answer parts setup events caller given)))
+          → IsHistory setup (events ++ events_of (refused_or o (λ _. answer parts setup events caller given)))
       go (Some broken) is = subst (IsHistory setup) (sym (append-nil events)) history
       go None is = answer-history given (refusal-none setup events caller given is)

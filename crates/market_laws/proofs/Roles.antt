@@ -1,18 +1,15 @@
 -- A pour between two blocks carries as much whichever of them is the taker.
-use Rattle.std.proofs.Common.{◌≡◌, ◌∙◌, ℕ, zero, suc, ◌+◌, ◌-◌, Bool, true, false, List, [], ◌∷◌, ◌++◌, fold, Option, Some, None, refl, sym, ap, subst, arith}
+use Rattle.std.proofs.Common.{◌≡◌, ◌∙◌, ℕ, zero, suc, ◌-◌, List, ◌++◌, fold, Option, Some, None, refl, sym, ap, subst}
 use Rattle.std.specs.Option.{option_map}
-use Rattle.order_kinds.specs.declared.order.BlockOrder.{BlockOrder}
 use Rattle.order_kinds.specs.declared.side.Side.{Side}
 use Rattle.order_kinds.specs.declared.side.Side.TheVariants.{Buy, Sell}
 use Rattle.order_kinds.specs.Period.{block_quarters}
 use Rattle.order_kinds.specs.Side.{opposite}
-use Rattle.zone_graph.specs.declared.route.Arc.{Arc}
 use Rattle.zone_graph.specs.declared.route.RouteLeg.{RouteLeg}
 use Rattle.zone_graph.specs.Graph.{Graph}
 use Rattle.zone_graph.specs.Pour.{pour_leg}
 use Rattle.zone_graph.specs.Steps.{step_and_onward, steps}
 use Rattle.market_model.specs.declared.event.Event.{Event}
-use Rattle.market_model.specs.declared.event.Event.TheVariants as event
 use Rattle.market_model.specs.declared.event.Leg.{Leg}
 use Rattle.market_model.specs.Blocks.{StandingBlock, block_buyer_zone, block_leg, block_leg_over, block_legs, block_seller_zone}
 use Rattle.market_model.specs.History.{and_then}
@@ -29,7 +26,7 @@ lowered taker maker events leg =
     left-block_leg events taker.order.first taker.order.last made taker.name (names-taker made)
 
 module _ (graph : Graph) (a b : StandingBlock) (first : b.order.first ≡ a.order.first) (last : b.order.last ≡ a.order.last)
-  (opposed : b.order.side ≡ opposite a.order.side) where
+    (opposed : b.order.side ≡ opposite a.order.side) where
   -- the zones are the same, whichever block is named first
   seller : block_seller_zone b a ≡ block_seller_zone a b
   seller = go a.order.side b.order.side refl refl opposed
@@ -55,7 +52,7 @@ module _ (graph : Graph) (a b : StandingBlock) (first : b.order.first ≡ a.orde
   -- the routes and lots of the next leg are the same
   next_same : (xs ys : List Event) → SameCapacity xs ys → left xs a.name ≡ left ys b.name
       → pour_leg graph (room ys (block_quarters b.order.first b.order.last)) (block_seller_zone b a) (block_buyer_zone b a) (left ys b.name)
-        ≡ pour_leg graph (room xs (block_quarters a.order.first a.order.last)) (block_seller_zone a b) (block_buyer_zone a b) (left xs a.name)
+      ≡ pour_leg graph (room xs (block_quarters a.order.first a.order.last)) (block_seller_zone a b) (block_buyer_zone a b) (left xs a.name)
   next_same xs ys same lots =
       rw (seller, buyer, quarters, ← room-same xs ys same (block_quarters a.order.first a.order.last), ← lots) refl
 
@@ -70,24 +67,24 @@ module _ (graph : Graph) (a b : StandingBlock) (first : b.order.first ≡ a.orde
   same_steps zero xs ys same lots = lots
   same_steps (suc most) xs ys same lots =
       go (λ leg. same_steps most (and_then xs (block_leg_over a b leg)) (and_then ys (block_leg_over b a leg)) (after_leg leg xs ys same))
-        (pour_leg graph (room xs (block_quarters a.order.first a.order.last)) (block_seller_zone a b) (block_buyer_zone a b) (left xs a.name))
-        (pour_leg graph (room ys (block_quarters b.order.first b.order.last)) (block_seller_zone b a) (block_buyer_zone b a) (left ys b.name))
-        (next_same xs ys same lots)
+      (pour_leg graph (room xs (block_quarters a.order.first a.order.last)) (block_seller_zone a b) (block_buyer_zone a b) (left xs a.name))
+      (pour_leg graph (room ys (block_quarters b.order.first b.order.last)) (block_seller_zone b a) (block_buyer_zone b a) (left ys b.name))
+      (next_same xs ys same lots)
     where
       go : ((leg : RouteLeg) → left (and_then xs (block_leg_over a b leg)) a.name ≡ left (and_then ys (block_leg_over b a leg)) b.name
           → left (fold and_then (and_then xs (block_leg_over a b leg)) (steps most (block_leg graph a b) and_then (and_then xs (block_leg_over a b leg)))) a.name
-            ≡ left (fold and_then (and_then ys (block_leg_over b a leg)) (steps most (block_leg graph b a) and_then (and_then ys (block_leg_over b a leg)))) b.name)
-        → (o p : Option RouteLeg) → p ≡ o
-        → left (fold and_then xs (step_and_onward (option_map (block_leg_over a b) o) (λ e. steps most (block_leg graph a b) and_then (and_then xs e)))) a.name
+          ≡ left (fold and_then (and_then ys (block_leg_over b a leg)) (steps most (block_leg graph b a) and_then (and_then ys (block_leg_over b a leg)))) b.name)
+          → (o p : Option RouteLeg) → p ≡ o
+          → left (fold and_then xs (step_and_onward (option_map (block_leg_over a b) o) (λ e. steps most (block_leg graph a b) and_then (and_then xs e)))) a.name
           ≡ left (fold and_then ys (step_and_onward (option_map (block_leg_over b a) p) (λ e. steps most (block_leg graph b a) and_then (and_then ys e)))) b.name
       go onward None None e = lots
       go onward None (Some leg) e = absurd (cc)
       go onward (Some leg) None e = absurd (cc)
       go onward (Some leg) (Some other) e =
-        let same_leg : leg ≡ other = cc in
-        let of_a : left (and_then xs (block_leg_over a b leg)) a.name ≡ left xs a.name - leg.lots = lowered a b xs leg in
-        let of_b : left (and_then ys (block_leg_over b a leg)) b.name ≡ left ys b.name - leg.lots = lowered b a ys leg in
-        subst (λ l. left (fold and_then (and_then xs (block_leg_over a b leg)) (steps most (block_leg graph a b) and_then (and_then xs (block_leg_over a b leg)))) a.name
+          let same_leg : leg ≡ other = cc in
+          let of_a : left (and_then xs (block_leg_over a b leg)) a.name ≡ left xs a.name - leg.lots = lowered a b xs leg in
+          let of_b : left (and_then ys (block_leg_over b a leg)) b.name ≡ left ys b.name - leg.lots = lowered b a ys leg in
+          subst (λ l. left (fold and_then (and_then xs (block_leg_over a b leg)) (steps most (block_leg graph a b) and_then (and_then xs (block_leg_over a b leg)))) a.name
           ≡ left (fold and_then (and_then ys (block_leg_over b a l)) (steps most (block_leg graph b a) and_then (and_then ys (block_leg_over b a l)))) b.name) same_leg
           (onward leg (of_a ∙ ap (λ n. n - leg.lots) lots ∙ sym of_b))
 
@@ -97,7 +94,10 @@ module _ (graph : Graph) (a b : StandingBlock) (first : b.order.first ≡ a.orde
   unfolding block_legs
   same_pour events lots =
       let same : SameCapacity events events = record {
-        allocated_same = λ quarter arc. refl; offered_same = λ quarter arc. refl; phase_same = λ hour. refl; halted_same = λ border hour. refl;
+        allocated_same = λ quarter arc. refl;
+        offered_same = λ quarter arc. refl;
+        phase_same = λ hour. refl;
+        halted_same = λ border hour. refl;
       } in
       let in_steps = same_steps (left events a.name) events events same lots in
       let one = ap (λ xs. left xs a.name) (fold-and_then events (steps (left events a.name) (block_leg graph a b) and_then events)) in

@@ -1,6 +1,6 @@
 -- What an order with sound numbers keeps.
-use Rattle.std.proofs.Common.{◌≡◌, ◌∙◌, ℕ, ◌+◌, ◌-◌, ◌%◌, ◌<◌, ◌≤◌, ◌&&◌, Bool, true, false, Option, Some, None, nat_lt, nat_le, refl, sym, ap, subst, arith}
-use Rattle.std.proofs.lemmas.Bool.{leb-true, ltb-true, true≢false}
+use Rattle.std.proofs.Common.{◌≡◌, ℕ, ◌≤◌, ◌&&◌, Bool, true, false, Option, None, nat_lt, nat_le, refl, arith}
+use Rattle.std.proofs.lemmas.Bool.{leb-true, ltb-true}
 use Rattle.order_kinds.specs.declared.order.BlockOrder.{BlockOrder}
 use Rattle.order_kinds.specs.declared.order.Kind.{Kind}
 use Rattle.order_kinds.specs.declared.order.Kind.TheVariants as kind
@@ -34,7 +34,7 @@ pub peak-some : (order : Order) (peak : Lots) (delta : ℕ) → order.kind ≡ k
 peak-some order peak delta is allowed =
     let peaks : peaks_allowed order.side order.price order.quantity.0 peak.0 delta ≡ true = rw is at allowed in
     let a = and-true (nat_lt 0 peak.0 && nat_lt peak.0 order.quantity.0 && nat_le (peak_count order.quantity.0 peak.0) 100)
-      (price_in_range (last_peak_price order.side order.price order.quantity.0 peak.0 delta)) peaks in
+    (price_in_range (last_peak_price order.side order.price order.quantity.0 peak.0 delta)) peaks in
     let b = and-true (nat_lt 0 peak.0 && nat_lt peak.0 order.quantity.0) (nat_le (peak_count order.quantity.0 peak.0) 100) a.0 in
     let c = and-true (nat_lt 0 peak.0) (nat_lt peak.0 order.quantity.0) b.0 in
     ltb-true 0 peak.0 c.0
@@ -48,7 +48,7 @@ shown-some order sound filled left some = go order.kind refl
     go kind.Ioc is = some
     go kind.Fok is = some
     go (kind.Iceberg peak delta) is =
-      let least = peak-some order peak delta is (order_fault-none order sound).peaks in omega arith
+        let least = peak-some order peak delta is (order_fault-none order sound).peaks in omega arith
 
 -- a quantity in range
 pub lots_in_range-bounds : (lots : Lots) → lots_in_range lots ≡ true → (1 ≤ lots.0) × (lots.0 ≤ 9990)

@@ -1,14 +1,9 @@
 -- A trade that the definitions make fits the events before it.
-use Rattle.std.proofs.Common.{◌≡◌, ◌∙◌, ◌⊎◌, inl, inr, ℕ, ◌+◌, ◌-◌, ◌%◌, ◌<◌, ◌≤◌, ◌&&◌, Bool, true, false, List, [], ◌∷◌, ◌++◌, map, filter, min, Option, Some, None, nat_lt, ltb, refl, sym, ap, subst, arith}
-use Rattle.std.proofs.lemmas.Bool.{ltb-true, true≢false}
+use Rattle.std.proofs.Common.{◌≡◌, ℕ, ◌<◌, ◌≤◌, ◌&&◌, true, List, map, filter, min, Option, Some, None, refl, subst, arith}
+use Rattle.std.proofs.lemmas.Bool.{ltb-true}
 use Rattle.std.specs.Option.{option_map}
 use Rattle.order_kinds.specs.declared.contract.Contract.{Contract}
-use Rattle.order_kinds.specs.declared.order.Kind.{Kind}
-use Rattle.order_kinds.specs.declared.order.Kind.TheVariants as kind
-use Rattle.order_kinds.specs.declared.order.Order.{Order}
-use Rattle.order_kinds.specs.declared.order.OrderName.{OrderName}
 use Rattle.order_kinds.specs.declared.side.Side.{Side}
-use Rattle.order_kinds.specs.Order.{fault_unless, has_allowed_peaks, order_fault, peaks_allowed}
 use Rattle.order_kinds.specs.Same.{same_contract, same_side}
 use Rattle.order_kinds.specs.Side.{opposite}
 use Rattle.zone_graph.specs.declared.route.Arc.{Arc}
@@ -16,13 +11,12 @@ use Rattle.zone_graph.specs.Graph.{Graph}
 use Rattle.zone_graph.specs.Route.{IsIn, best_route, carried}
 use Rattle.zone_graph.proofs.Membership.{from_filter, from_map}
 use Rattle.market_model.specs.declared.event.Event.{Event}
-use Rattle.market_model.specs.declared.event.Event.TheVariants as event
 use Rattle.market_model.specs.declared.setup.Setup.{Setup}
 use Rattle.market_model.specs.Grid.{graph_of}
 use Rattle.market_model.specs.Lines.{buyer_zone, can_trade, line, partner, priority_cmp, rooms_for, seller_zone, stands_in}
-use Rattle.market_model.specs.Orders.{Placed, Standing, is_open, left, placed, shown_lots, standing}
+use Rattle.market_model.specs.Orders.{Placed, Standing, is_open, left, placed, standing}
 use Rattle.market_model.specs.Taking.{leg_over, trade}
-use Rattle.market_model.specs.WellFormed.{Fits, IsMarketSetup, IsOpenOrder, LegFits}
+use Rattle.market_model.specs.WellFormed.{Fits, IsMarketSetup}
 use Rattle.market_laws.proofs.Carrying.{best_route-route, carried-le, carried-room, carried-some, way-room}
 use Rattle.market_laws.proofs.Members.{from_find, from_in_order}
 use Rattle.market_laws.proofs.Placed.{OrderIsSound}
@@ -95,33 +89,33 @@ trade-fits setup events taker maker e is_setup taker_open maker_open taker_sound
     rooms = rooms_for events own
 
     made : (route : List Arc) → best_route (graph_of setup) rooms (seller_zone own other) (buyer_zone own other) ≡ Some route
-      → Fits setup events (leg_over rooms own other route)
+        → Fits setup events (leg_over rooms own other route)
     made route found =
-      let taker_left : 0 < left events taker.name = ltb-true 0 (left events taker.name) taker_open.is_left in
-      let maker_left : 0 < left events maker.name = ltb-true 0 (left events maker.name) maker_open.is_left in
-      let taker_shows = shown-some taker.order taker_sound.sound own.filled own.left taker_left in
-      let maker_shows = shown-some maker.order maker_sound.sound other.filled other.left maker_left in
-      let most = carried-le rooms (min own.shown other.shown) route in
-      record {
-        taker = taker;
-        maker = maker;
-        taker_open = record { is_placed = taker_open.is_placed; is_named = refl; is_left = taker_open.is_left };
-        maker_open = record { is_placed = maker_open.is_placed; is_named = refl; is_left = maker_open.is_left };
-        taker_contract = refl;
-        maker_contract = contract;
-        opposed = opposed;
-        price = refl;
-        some = made_lots setup rooms (seller_zone own other) (buyer_zone own other) own.shown other.shown route is_setup found taker_shows maker_shows;
-        taker_shows = omega arith;
-        maker_shows = omega arith;
-        carried = record {
-          is_route = best_route-route (graph_of setup) rooms (seller_zone own other) (buyer_zone own other) route is_setup found;
-          has_room = λ arc i. carried-room rooms (min own.shown other.shown) route arc i;
-        };
-      }
+        let taker_left : 0 < left events taker.name = ltb-true 0 (left events taker.name) taker_open.is_left in
+        let maker_left : 0 < left events maker.name = ltb-true 0 (left events maker.name) maker_open.is_left in
+        let taker_shows = shown-some taker.order taker_sound.sound own.filled own.left taker_left in
+        let maker_shows = shown-some maker.order maker_sound.sound other.filled other.left maker_left in
+        let most = carried-le rooms (min own.shown other.shown) route in
+        record {
+          taker = taker;
+          maker = maker;
+          taker_open = record { is_placed = taker_open.is_placed; is_named = refl; is_left = taker_open.is_left };
+          maker_open = record { is_placed = maker_open.is_placed; is_named = refl; is_left = maker_open.is_left };
+          taker_contract = refl;
+          maker_contract = contract;
+          opposed = opposed;
+          price = refl;
+          some = made_lots setup rooms (seller_zone own other) (buyer_zone own other) own.shown other.shown route is_setup found taker_shows maker_shows;
+          taker_shows = omega arith;
+          maker_shows = omega arith;
+          carried = record {
+            is_route = best_route-route (graph_of setup) rooms (seller_zone own other) (buyer_zone own other) route is_setup found;
+            has_room = λ arc i. carried-room rooms (min own.shown other.shown) route arc i;
+          };
+        }
 
     go : (o : Option (List Arc)) → best_route (graph_of setup) rooms (seller_zone own other) (buyer_zone own other) ≡ o
-      → option_map (leg_over rooms own other) o ≡ Some e → Fits setup events e
+        → option_map (leg_over rooms own other) o ≡ Some e → Fits setup events e
     go None found made_it = absurd (cc)
     go (Some route) found made_it =
-      let same : leg_over rooms own other route ≡ e = cc in subst (Fits setup events) same (made route found)
+        let same : leg_over rooms own other route ≡ e = cc in subst (Fits setup events) same (made route found)

@@ -1,7 +1,6 @@
 -- Open blocks stay whole: whatever is no leg of blocks changes nothing that is left of an open block.
-use Rattle.std.proofs.Common.{◌≡◌, ◌≢◌, ◌∙◌, ◌⊎◌, inl, inr, ℕ, ◌+◌, ◌-◌, ◌<◌, ◌≤◌, ◌||◌, Bool, true, false, List, [], ◌∷◌, ◌++◌, Option, Some, None, nat_lt, refl, sym, ap, subst, arith}
-use Rattle.std.proofs.lemmas.Bool.{ltb-true, true≢false}
-use Rattle.order_kinds.specs.declared.order.BlockOrder.{BlockOrder}
+use Rattle.std.proofs.Common.{◌≡◌, ◌≢◌, ◌∙◌, ◌⊎◌, inl, inr, ◌+◌, ◌-◌, ◌≤◌, Bool, true, false, List, [], Some, nat_lt, refl, ap, subst, arith}
+use Rattle.std.proofs.lemmas.Bool.{ltb-true}
 use Rattle.order_kinds.specs.declared.order.OrderName.{OrderName}
 use Rattle.order_kinds.specs.Same.{same_name}
 use Rattle.zone_graph.specs.Pour.{lots_if}
@@ -11,15 +10,15 @@ use Rattle.market_model.specs.declared.event.Event.TheVariants as event
 use Rattle.market_model.specs.declared.event.Leg.{Leg}
 use Rattle.market_model.specs.declared.setup.Setup.{Setup}
 use Rattle.market_model.specs.History.{and_then}
-use Rattle.market_model.specs.Orders.{Placed, PlacedBlock, block_placed_by, blocks_placed, entered, entered_by, filled, filled_by, is_open, left, names, taken_off, taken_off_by}
-use Rattle.market_model.specs.WellFormed.{BlocksAreWhole, FitAfter, Fits, IsHistory, LegFits}
+use Rattle.market_model.specs.Orders.{PlacedBlock, block_placed_by, blocks_placed, entered, entered_by, filled, filled_by, left, names, taken_off, taken_off_by}
+use Rattle.market_model.specs.WellFormed.{BlocksAreWhole, FitAfter, Fits, IsHistory}
 use Rattle.market_laws.proofs.Balances.{covered}
 use Rattle.market_laws.proofs.Members.{from_filter_map}
-use Rattle.market_laws.proofs.Names.{NamesOnce, block_name-new, enters_as, names-once, order_name-new, times_entered}
+use Rattle.market_laws.proofs.Names.{NamesOnce, block_name-new, names-once, order_name-new, times_entered}
 use Rattle.market_laws.proofs.Placed.{from_picked-more}
 use Rattle.market_laws.proofs.Repeats.{fit-more}
 use Rattle.market_laws.proofs.States.{entered-more, filled-more, left-more, taken_off-more}
-use Rattle.market_laws.proofs.Tests.{or-true, same_name-eq, same_name-refl}
+use Rattle.market_laws.proofs.Tests.{same_name-eq, same_name-refl}
 use Rattle.market_laws.proofs.Unique.{entered-none, enters-block_placed, order_is_no_block, times-some}
 
 -- an event is no leg of blocks
@@ -88,13 +87,13 @@ module _ (setup : Setup) (events : List Event) (fit : FitAfter setup [] events) 
   block_stays block (event.Withdrawn name lots) h fits plain = go (same_name name block.name) refl
     where
       go : (b : Bool) → same_name name block.name ≡ b
-        → (left (and_then events (event.Withdrawn name lots)) block.name ≡ left events block.name) ⊎ (left (and_then events (event.Withdrawn name lots)) block.name ≡ 0)
+          → (left (and_then events (event.Withdrawn name lots)) block.name ≡ left events block.name) ⊎ (left (and_then events (event.Withdrawn name lots)) block.name ≡ 0)
       go true e =
-        let same : name ≡ block.name = same_name-eq name block.name e in
-        let all : lots ≡ left events block.name = subst (λ n. lots ≡ left events n) same fits.all_left in
-        let less = left-more events (event.Withdrawn name lots) block.name refl in
-        let lower : left (and_then events (event.Withdrawn name lots)) block.name ≡ left events block.name - (0 + lots) = rw e at less in
-        inr (omega arith)
+          let same : name ≡ block.name = same_name-eq name block.name e in
+          let all : lots ≡ left events block.name = subst (λ n. lots ≡ left events n) same fits.all_left in
+          let less = left-more events (event.Withdrawn name lots) block.name refl in
+          let lower : left (and_then events (event.Withdrawn name lots)) block.name ≡ left events block.name - (0 + lots) = rw e at less in
+          inr (omega arith)
       go false e = inl (left-untouched events (event.Withdrawn name lots) block.name refl refl (ap (λ b. lots_if b lots) e))
   block_stays block (event.Reduced name by) h fits plain =
       let apart : name ≢ block.name = λ same. order_is_no_block events once fits.order block fits.order_open.is_placed h (fits.order_open.is_named ∙ same) in
@@ -110,7 +109,7 @@ module _ (setup : Setup) (events : List Event) (fit : FitAfter setup [] events) 
       let itself = same_name-refl name in
       let own : entered_by name e ≡ order.quantity.0 = ap (λ b. lots_if b order.quantity.0) itself in
       let here : left (and_then events e) name ≡ order.quantity.0 =
-        rw (entered-more events e name, filled-more events e name, taken_off-more events e name, own) (omega arith) in
+      rw (entered-more events e name, filled-more events e name, taken_off-more events e name, own) (omega arith) in
       subst (λ (b : PlacedBlock). left (and_then events e) b.name ≡ b.order.quantity.0) same here
   new_block-whole block (event.Leg contract leg) fits is = absurd (cc)
   new_block-whole block (event.BlockLeg first last leg) fits is = absurd (cc)

@@ -1,0 +1,3 @@
+-- What the laws of the market say.
+pub mod Histories
+pub mod Repetitions

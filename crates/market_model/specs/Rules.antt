@@ -18,7 +18,6 @@ use Rattle.market_model.specs.declared.command.Command.{Command}
 use Rattle.market_model.specs.declared.command.Command.TheVariants as command
 use Rattle.market_model.specs.declared.refusal.Refusal.{Refusal}
 use Rattle.market_model.specs.declared.refusal.Refusal.TheVariants as refusal
-use Rattle.market_model.specs.declared.setup.Caller.{Caller}
 use Rattle.market_model.specs.declared.setup.Role.{Role}
 use Rattle.market_model.specs.declared.setup.Role.TheVariants as role
 use Rattle.market_model.specs.declared.setup.Setup.{Setup}
