@@ -1,0 +1,6 @@
+-- What the contracts of this crate cite.
+pub mod Draws
+pub mod Commands
+pub mod Lines
+pub mod Session
+pub mod Summary
