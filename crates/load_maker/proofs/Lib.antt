@@ -1,2 +1,3 @@
-pub mod Texts
+pub mod Lengths
 pub mod Summaries
+pub mod Texts

@@ -17,7 +17,7 @@ text_of_push lines line =
     ∙ ap (λ rest. text_of lines ++ rest) (append-nil (line ++ codes "\n"))
 
 -- one more command
-session_text_more : (place : ℕ) → session_text (place + 1) ≡ session_text place ++ (command_line place ++ codes "\n")
+pub session_text_more : (place : ℕ) → session_text (place + 1) ≡ session_text place ++ (command_line place ++ codes "\n")
 session_text_more place =
     ap (λ lines. text_of (header ++ lines)) (map-range_with_len_more command_line 0 place place (omega arith))
     ∙ ap text_of (sym (append_assoc header (map command_line (range_with_len 0 place)) (command_line place ∷ [])))

@@ -1,6 +1,7 @@
 -- The text of a generated session.
 use Rattle.std.specs.Prelude.{ℕ, zero, suc, List, [], ◌∷◌, ◌++◌, map, codes}
 use Rattle.std.specs.List.{range_with_len}
+use Rattle.load_maker.specs.declared.given.Given.{Given}
 use Rattle.load_maker.specs.Commands.{borders, command_from, state_left}
 use Rattle.load_maker.specs.Lines.{spaced, zone_name, trader_name, line_of, text_of}
 
@@ -19,9 +20,13 @@ unfoldable pub state_before : (place : ℕ) → ℕ
 state_before zero = 1
 state_before (suc place) = state_left place (state_before place)
 
--- the line of the command of this place
+-- the command of this place
+abbrev pub command_at : (place : ℕ) → Given
+command_at place = command_from place (state_before place)
+
+-- its line
 unfoldable pub command_line : (place : ℕ) → List ℕ
-command_line place = line_of (command_from place (state_before place))
+command_line place = line_of (command_at place)
 
 -- the text of the session of n commands
 abbrev pub session_text : (n : ℕ) → List ℕ

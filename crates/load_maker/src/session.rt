@@ -1,6 +1,6 @@
 //! The text of a generated session.
 
-ghost use Rattle.std.specs.Prelude.{◌≡◌, ◌≤◌, ◌++◌, codes, string_bytes, IfOk, OnOk};
+ghost use Rattle.std.specs.Prelude.{◌≡◌, ◌<◌, ◌≤◌, ◌++◌, length, codes, string_bytes, IfOk, OnOk};
 ghost use Rattle.load_maker.specs.Lines.{line_of};
 ghost use Rattle.load_maker.specs.Session as sessions;
 
@@ -28,7 +28,8 @@ const HEADER: &str = "\
 
 /// The text of the session of so many commands, from 1 to 100000: of one day of 24 hours, with
 /// twelve zones, six traders and one operator. Its first 40 commands offer capacity, all others
-/// enter orders and blocks, which are drawn by a fixed generator of numbers.
+/// enter orders and blocks, which are drawn by a fixed generator of numbers. It is shorter than
+/// 5000000 bytes.
 ///
 /// # Errors
 ///
@@ -36,7 +37,8 @@ const HEADER: &str = "\
 pub fn session_text(alloc: Global, n: u32) -> Result<Text, NoMemory>
     requires some { 1 ≤ n }
     requires few { n ≤ 100000 }
-    ensures { IfOk result (λ text. text ≡ sessions.session_text n) }
+    ensures text { IfOk result (λ text. text ≡ sessions.session_text n) }
+    ensures short { IfOk result (λ text. length text < 5000000) }
 {
     let mut text = String::from_str(alloc, HEADER)?;
     let mut draws = Draws::new();
