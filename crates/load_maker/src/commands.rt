@@ -58,7 +58,7 @@ fn offered_arc(place: u32) -> (u32, u32)
 }
 
 // The two zones of a border: the first 12 join each zone with the next in a ring, the other 8
-// join each zone with the fourth one after it.
+// join each of the first eight zones with the fourth one after it.
 fn border_ends(border: u32) -> (u32, u32)
     requires { border < 20 }
     ensures { result ≡ drawn.border_ends border }
