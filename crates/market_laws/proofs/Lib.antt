@@ -23,4 +23,5 @@ pub mod States
 pub mod Tests
 pub mod Trades
 pub mod Unique
+pub mod Uses
 pub mod Wholes

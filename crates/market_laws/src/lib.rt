@@ -3,9 +3,11 @@
 //! the crates above.
 #![tactic(auto)]
 
+mod capacity;
 mod histories;
 mod repetitions;
 
+pub use capacity::{capacity_remains, nothing_is_oversold};
 pub use histories::{
     block_legs_lower_both, journals_are_histories, legs_lower_both, names_are_given_once,
     nothing_falls_below_zero, orders_show_what_is_left, replies_keep_histories,
