@@ -20,6 +20,7 @@ pub mod Replies
 pub mod Roles
 pub mod Soundness
 pub mod States
+pub mod Table
 pub mod Tests
 pub mod Trades
 pub mod Unique

@@ -1,11 +1,10 @@
 -- Each event uses no more capacity than remained before it, so that something from nothing on
 -- remains.
-use Rattle.std.proofs.Common.{◌≡◌, ◌≢◌, ◌∙◌, ◌⊎◌, inl, inr, ℕ, ◌+◌, ◌-◌, ◌<◌, ◌≤◌, ◌&&◌, ◌||◌, Bool, true, false, not, List, [], ◌∷◌, ◌++◌, filter, flat_map, fold, map, min, Option, Some, None, unwrap_or, nat_eq, nat_le, nat_lt, ℤ, pos, negsuc, ◌-ℤ◌, ◌≤ℤ◌, eqb-true, refl, sym, ap, subst, if◌then◌else◌, arith}
+use Rattle.std.proofs.Common.{◌≡◌, ◌⊎◌, inl, inr, ℕ, ◌+◌, ◌-◌, ◌≤◌, ◌&&◌, Bool, true, false, not, List, [], ◌∷◌, fold, map, min, nat_eq, nat_le, nat_lt, ℤ, pos, negsuc, ◌-ℤ◌, ◌≤ℤ◌, eqb-true, refl, sym, subst, if◌then◌else◌, arith}
 use Rattle.std.proofs.lemmas.Bool.{le-leb, leb-true, ltb-true, true≢false}
 use Rattle.std.proofs.lemmas.Int.{ints}
-use Rattle.std.specs.List.{list_any, range_with_len}
+use Rattle.std.specs.List.{list_any}
 use Rattle.order_kinds.specs.declared.contract.Contract.{Contract}
-use Rattle.order_kinds.specs.declared.contract.Part.{Part}
 use Rattle.order_kinds.specs.declared.contract.Quarter.{Quarter}
 use Rattle.order_kinds.specs.Contract.{covers, quarters}
 use Rattle.order_kinds.specs.Period.{block_has, block_quarters, contract_has, contract_quarters, hour_quarters, hours_from, is_not_after, is_quarter, is_within, quarter_of, range_has, range_quarters}
@@ -16,9 +15,8 @@ use Rattle.zone_graph.specs.Route.{IsIn}
 use Rattle.zone_graph.proofs.Membership.{IsIn-filter, IsIn-flat_map, IsIn-map, IsIn-range}
 use Rattle.market_model.specs.declared.event.Event.{Event}
 use Rattle.market_model.specs.declared.event.Event.TheVariants as event
-use Rattle.market_model.specs.declared.event.Leg.{Leg}
 use Rattle.market_model.specs.declared.setup.Setup.{Setup}
-use Rattle.market_model.specs.Capacity.{allocated, allocated_by, flow, offered, offered_by, remaining}
+use Rattle.market_model.specs.Capacity.{allocated, allocated_by, flow, offered, remaining}
 use Rattle.market_model.specs.History.{and_then}
 use Rattle.market_model.specs.Room.{is_halted, is_open_phase, least, lots_of, phase_of, quarter_room, room}
 use Rattle.market_model.specs.WellFormed.{Fits, FitAfter}
@@ -64,7 +62,7 @@ contract_has-is contract quarter h =
     let found = any-is (λ number. nat_eq number quarter.number) (quarters contract.part) both.1 in
     let number : found.0 ≡ quarter.number = eqb-true found.0 quarter.number found.2 in
     subst (λ q. IsIn q (contract_quarters contract)) (quarter-eta quarter contract.hour found.0 hour number)
-      (IsIn-map (quarter_of contract.hour) found.0 (quarters contract.part) found.1)
+    (IsIn-map (quarter_of contract.hour) found.0 (quarters contract.part) found.1)
 
 -- one of an hour's four quarters is listed among them
 hour_quarters-is : (quarter : Quarter) → is_quarter quarter ≡ true → IsIn quarter (hour_quarters quarter.hour)
@@ -74,7 +72,7 @@ hour_quarters-is quarter h =
   where
     go : (n : ℕ) → quarter.number ≡ n → 1 ≤ n → n ≤ 4 → IsIn quarter (hour_quarters quarter.hour)
     go n e low high =
-      subst (λ q. IsIn q (hour_quarters quarter.hour)) (quarter-eta quarter quarter.hour n refl (sym e))
+        subst (λ q. IsIn q (hour_quarters quarter.hour)) (quarter-eta quarter quarter.hour n refl (sym e))
         (IsIn-map (quarter_of quarter.hour) n (1 ∷ 2 ∷ 3 ∷ 4 ∷ []) (listed n low high))
       where
         listed : (n : ℕ) → 1 ≤ n → n ≤ 4 → IsIn n (1 ∷ 2 ∷ 3 ∷ 4 ∷ [])
@@ -87,7 +85,7 @@ block_quarters-is first last quarter within quartered =
     let low = leb-true first quarter.hour both.0 in
     let high = leb-true quarter.hour last both.1 in
     IsIn-flat_map hour_quarters quarter.hour quarter (hours_from first last)
-      (IsIn-range quarter.hour first (last + 1 - first) low (omega arith)) (hour_quarters-is quarter quartered)
+    (IsIn-range quarter.hour first (last + 1 - first) low (omega arith)) (hour_quarters-is quarter quartered)
 
 pub block_has-is : (first last : ℕ) (quarter : Quarter) → block_has first last quarter ≡ true → IsIn quarter (block_quarters first last)
 block_has-is first last quarter h =
@@ -97,7 +95,7 @@ not_after-hours : (a b : Quarter) → is_not_after a b ≡ true → a.hour ≤ b
 not_after-hours a b h = elim (or-true (nat_lt a.hour b.hour) (nat_eq a.hour b.hour && nat_le a.number b.number) h) [
   | inl l ↦ let less = ltb-true a.hour b.hour l in omega arith
   | inr e ↦ let both = and-true (nat_eq a.hour b.hour) (nat_le a.number b.number) e in
-    let same : a.hour ≡ b.hour = eqb-true a.hour b.hour both.0 in omega arith
+      let same : a.hour ≡ b.hour = eqb-true a.hour b.hour both.0 in omega arith
 ]
 
 pub range_has-is : (first last quarter : Quarter) → range_has first last quarter ≡ true → IsIn quarter (range_quarters first last)
@@ -107,10 +105,10 @@ range_has-is first last quarter h =
     let low = not_after-hours first quarter front.1 in
     let high = not_after-hours quarter last both.1 in
     let within : is_within first.hour last.hour quarter.hour ≡ true =
-      and-intro (nat_le first.hour quarter.hour) (nat_le quarter.hour last.hour) (le-leb first.hour quarter.hour low) (le-leb quarter.hour last.hour high) in
+    and-intro (nat_le first.hour quarter.hour) (nat_le quarter.hour last.hour) (le-leb first.hour quarter.hour low) (le-leb quarter.hour last.hour high) in
     IsIn-filter (λ q. is_not_after first q && is_not_after q last) quarter (block_quarters first.hour last.hour)
-      (block_quarters-is first.hour last.hour quarter within front.0)
-      (and-intro (is_not_after first quarter) (is_not_after quarter last) front.1 both.1)
+    (block_quarters-is first.hour last.hour quarter within front.0)
+    (and-intro (is_not_after first quarter) (is_not_after quarter last) front.1 both.1)
 
 -- ---- what remains, as a difference of numbers
 
@@ -134,18 +132,20 @@ quarter_room-le events arc quarter =
     go (is_open_phase (phase_of events quarter.hour) && not (is_halted events arc.border quarter.hour)) lots
   where
     go : (b : Bool) → lots_of (remaining events quarter arc) ≡ free events quarter arc
-      → (if b then lots_of (remaining events quarter arc) else 0) ≤ free events quarter arc
+        → (if b then lots_of (remaining events quarter arc) else 0) ≤ free events quarter arc
     go true e = omega arith
     go false e = omega arith
 
 least-from : (n : ℕ) (ns : List ℕ) → (fold min n ns ≤ n) × ((m : ℕ) → IsIn m ns → fold min n ns ≤ m)
 least-from n [] = (omega arith, λ m h. absurd h)
 least-from n (k ∷ ns) =
-    let rest = least-from (min n k) ns in
-    (let most = rest.0 in omega arith, λ m h. elim h [
-      | inl e ↦ (let most = rest.0 in omega arith)
-      | inr i ↦ rest.1 m i
-    ])
+    let rest = least-from (min n k) ns in (
+      let most = rest.0 in omega arith,
+      λ m h. elim h [
+        | inl e ↦ (let most = rest.0 in omega arith)
+        | inr i ↦ rest.1 m i
+      ],
+    )
 
 -- the least is none of the others' more
 least-le : (ns : List ℕ) (m : ℕ) → IsIn m ns → least ns ≤ m
@@ -171,22 +171,22 @@ uses-free setup before (event.Entered name caller order) fits quarter arc = omeg
 uses-free setup before (event.EnteredBlock name caller order) fits quarter arc = omega arith
 uses-free setup before (event.Leg contract leg) fits quarter arc =
     if_free (contract_has contract quarter && uses leg.route arc) leg.lots (free before quarter arc) (λ h.
-      let both = and-true (contract_has contract quarter) (uses leg.route arc) h in
-      let has = fits.carried.has_room arc (uses-is leg.route arc both.1) in
-      let in_quarter = room-le before (contract_quarters contract) arc quarter (contract_has-is contract quarter both.0) in
-      let most = quarter_room-le before arc quarter in omega arith)
+    let both = and-true (contract_has contract quarter) (uses leg.route arc) h in
+    let has = fits.carried.has_room arc (uses-is leg.route arc both.1) in
+    let in_quarter = room-le before (contract_quarters contract) arc quarter (contract_has-is contract quarter both.0) in
+    let most = quarter_room-le before arc quarter in omega arith)
 uses-free setup before (event.BlockLeg first last leg) fits quarter arc =
     if_free (block_has first last quarter && uses leg.route arc) leg.lots (free before quarter arc) (λ h.
-      let both = and-true (block_has first last quarter) (uses leg.route arc) h in
-      let has = fits.carried.has_room arc (uses-is leg.route arc both.1) in
-      let in_quarter = room-le before (block_quarters first last) arc quarter (block_has-is first last quarter both.0) in
-      let most = quarter_room-le before arc quarter in omega arith)
+    let both = and-true (block_has first last quarter) (uses leg.route arc) h in
+    let has = fits.carried.has_room arc (uses-is leg.route arc both.1) in
+    let in_quarter = room-le before (block_quarters first last) arc quarter (block_has-is first last quarter both.0) in
+    let most = quarter_room-le before arc quarter in omega arith)
 uses-free setup before (event.Granted granted first last lots) fits quarter arc =
     if_free (range_has first last quarter && same_arc granted arc) lots (free before quarter arc) (λ h.
-      let both = and-true (range_has first last quarter) (same_arc granted arc) h in
-      let same : granted ≡ arc = same_arc-eq granted arc both.1 in
-      let has : lots ≤ quarter_room before arc quarter = subst (λ a. lots ≤ quarter_room before a quarter) same (fits.has_room quarter (range_has-is first last quarter both.0)) in
-      let most = quarter_room-le before arc quarter in omega arith)
+    let both = and-true (range_has first last quarter) (same_arc granted arc) h in
+    let same : granted ≡ arc = same_arc-eq granted arc both.1 in
+    let has : lots ≤ quarter_room before arc quarter = subst (λ a. lots ≤ quarter_room before a quarter) same (fits.has_room quarter (range_has-is first last quarter both.0)) in
+    let most = quarter_room-le before arc quarter in omega arith)
 uses-free setup before (event.Offered given first last lots) fits quarter arc = omega arith
 uses-free setup before (event.Halted border first last) fits quarter arc = omega arith
 uses-free setup before (event.Resumed border first last) fits quarter arc = omega arith
@@ -208,25 +208,25 @@ covers_flow-lots there back lots h = omega (arith, ints)
 -- what is offered after one more event: its own offer, which covers the flow, or what was offered
 offer_after : (setup : Setup) (before : List Event) (e : Event) → Fits setup before e → (quarter : Quarter) (arc : Arc)
     → (offered (and_then before e) quarter arc ≡ offered before quarter arc)
-      ⊎ ((allocated_by quarter arc e ≡ 0) × (allocated before quarter arc ≤ offered (and_then before e) quarter arc + allocated before quarter (opposite_arc arc))
-        × (offered (and_then before e) quarter arc ≤ 1000000))
+    ⊎ ((allocated_by quarter arc e ≡ 0) × (allocated before quarter arc ≤ offered (and_then before e) quarter arc + allocated before quarter (opposite_arc arc))
+    × (offered (and_then before e) quarter arc ≤ 1000000))
 offer_after setup before (event.Offered given first last lots) fits quarter arc =
     go (range_has first last quarter && same_arc given arc) refl
   where
     go : (b : Bool) → (range_has first last quarter && same_arc given arc) ≡ b
-      → (offered (and_then before (event.Offered given first last lots)) quarter arc ≡ offered before quarter arc)
+        → (offered (and_then before (event.Offered given first last lots)) quarter arc ≡ offered before quarter arc)
         ⊎ ((◌≡◌ {A = ℕ} 0 0) × (allocated before quarter arc ≤ offered (and_then before (event.Offered given first last lots)) quarter arc + allocated before quarter (opposite_arc arc))
-          × (offered (and_then before (event.Offered given first last lots)) quarter arc ≤ 1000000))
+        × (offered (and_then before (event.Offered given first last lots)) quarter arc ≤ 1000000))
     go false e = inl (rw (offered-more before (event.Offered given first last lots) quarter arc, e) refl)
     go true e =
-      let both = and-true (range_has first last quarter) (same_arc given arc) e in
-      let same : given ≡ arc = same_arc-eq given arc both.1 in
-      let now : offered (and_then before (event.Offered given first last lots)) quarter arc ≡ lots =
+        let both = and-true (range_has first last quarter) (same_arc given arc) e in
+        let same : given ≡ arc = same_arc-eq given arc both.1 in
+        let now : offered (and_then before (event.Offered given first last lots)) quarter arc ≡ lots =
         rw (offered-more before (event.Offered given first last lots) quarter arc, e) refl in
-      let flows = subst (λ a. flow before quarter a ≤ℤ pos lots) same (fits.covers_flow quarter (range_has-is first last quarter both.0)) in
-      let within = covers_flow-lots (allocated before quarter arc) (allocated before quarter (opposite_arc arc)) lots flows in
-      let most = fits.most in
-      inr (refl, omega arith, omega arith)
+        let flows = subst (λ a. flow before quarter a ≤ℤ pos lots) same (fits.covers_flow quarter (range_has-is first last quarter both.0)) in
+        let within = covers_flow-lots (allocated before quarter arc) (allocated before quarter (opposite_arc arc)) lots flows in
+        let most = fits.most in
+        inr (refl, omega arith, omega arith)
 offer_after setup before (event.Entered name caller order) fits quarter arc = inl (offered-more before (event.Entered name caller order) quarter arc)
 offer_after setup before (event.EnteredBlock name caller order) fits quarter arc = inl (offered-more before (event.EnteredBlock name caller order) quarter arc)
 offer_after setup before (event.Leg contract leg) fits quarter arc = inl (offered-more before (event.Leg contract leg) quarter arc)
@@ -241,12 +241,12 @@ offer_after setup before (event.Reduced name by) fits quarter arc = inl (offered
 within-fit : (setup : Setup) (before : List Event) (e : Event) → IsWithinOffers before → Fits setup before e → IsWithinOffers (and_then before e)
 within-fit setup before e within fits = record {
   covered = λ quarter arc.
-    let had = within.covered quarter arc in
-    let used = uses-free setup before e fits quarter arc in
-    rw (allocated-more before e quarter arc, allocated-more before e quarter (opposite_arc arc)) (elim (offer_after setup before e fits quarter arc) [
-      | inl same ↦ omega arith
-      | inr new ↦ (let none = new.0 in let covers = new.1 in omega arith)
-    ]);
+      let had = within.covered quarter arc in
+      let used = uses-free setup before e fits quarter arc in
+      rw (allocated-more before e quarter arc, allocated-more before e quarter (opposite_arc arc)) (elim (offer_after setup before e fits quarter arc) [
+        | inl same ↦ omega arith
+        | inr new ↦ (let none = new.0 in let covers = new.1 in omega arith)
+      ]);
   most = λ quarter arc. elim (offer_after setup before e fits quarter arc) [
     | inl same ↦ (let had = within.most quarter arc in omega arith)
     | inr new ↦ new.2
@@ -274,9 +274,9 @@ pub remaining-within : (events : List Event) → IsWithinOffers events → (quar
     → (pos 0 ≤ℤ remaining events quarter arc) × (remaining events quarter arc ≤ℤ pos 2000000)
 remaining-within events within quarter arc =
     let back : allocated events quarter (opposite_arc arc) ≤ offered events quarter (opposite_arc arc) + allocated events quarter arc =
-      subst (λ a. allocated events quarter (opposite_arc arc) ≤ offered events quarter (opposite_arc arc) + allocated events quarter a) (opposite-opposite_arc arc) (within.covered quarter (opposite_arc arc)) in
+    subst (λ a. allocated events quarter (opposite_arc arc) ≤ offered events quarter (opposite_arc arc) + allocated events quarter a) (opposite-opposite_arc arc) (within.covered quarter (opposite_arc arc)) in
     remaining-bounds (offered events quarter arc) (offered events quarter (opposite_arc arc)) (allocated events quarter arc) (allocated events quarter (opposite_arc arc))
-      (within.covered quarter arc) back (within.most quarter arc) (within.most quarter (opposite_arc arc))
+    (within.covered quarter arc) back (within.most quarter arc) (within.most quarter (opposite_arc arc))
 
 -- and what is free is what remains
 free-remaining : (offer there back lots : ℕ) → there ≤ offer + back → lots ≤ offer + back - there → pos lots ≤ℤ remaining_of offer (flow_of there back)
@@ -287,4 +287,4 @@ pub uses-remaining : (setup : Setup) (before : List Event) (e : Event) → IsWit
     → pos (allocated_by quarter arc e) ≤ℤ remaining before quarter arc
 uses-remaining setup before e within fits quarter arc =
     free-remaining (offered before quarter arc) (allocated before quarter arc) (allocated before quarter (opposite_arc arc)) (allocated_by quarter arc e)
-      (within.covered quarter arc) (uses-free setup before e fits quarter arc)
+    (within.covered quarter arc) (uses-free setup before e fits quarter arc)

@@ -11,6 +11,7 @@ pub mod Market
 pub mod Naming
 pub mod Orders
 pub mod Refusal
+pub mod RefusalTable
 pub mod Refusals
 pub mod Room
 pub mod Rules

@@ -6,5 +6,5 @@ use Rattle.market_laws.proofs.capacity.capacity_remains.Goals as goal
 
 pub returns : goal.returns
 returns c = λ setup turns quarter arc is_setup has is_real.
-  let history = run-history setup is_setup all_parts turns in
-  remaining-within (history_of setup turns) (within_offers setup (history_of setup turns) history.fit) quarter arc
+    let history = run-history setup is_setup all_parts turns in
+    remaining-within (history_of setup turns) (within_offers setup (history_of setup turns) history.fit) quarter arc
