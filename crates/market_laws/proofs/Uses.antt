@@ -91,7 +91,8 @@ pub block_has-is : (first last : ℕ) (quarter : Quarter) → block_has first la
 block_has-is first last quarter h =
     let both = and-true (is_within first last quarter.hour) (is_quarter quarter) h in block_quarters-is first last quarter both.0 both.1
 
-not_after-hours : (a b : Quarter) → is_not_after a b ≡ true → a.hour ≤ b.hour
+-- the hour of a quarter that is not after another is not either
+pub not_after-hours : (a b : Quarter) → is_not_after a b ≡ true → a.hour ≤ b.hour
 not_after-hours a b h = elim (or-true (nat_lt a.hour b.hour) (nat_eq a.hour b.hour && nat_le a.number b.number) h) [
   | inl l ↦ let less = ltb-true a.hour b.hour l in omega arith
   | inr e ↦ let both = and-true (nat_eq a.hour b.hour) (nat_le a.number b.number) e in

@@ -1,0 +1,9 @@
+pub mod Answers
+pub mod Blocks
+pub mod Entries
+pub mod Lines
+pub mod Named
+pub mod Replies
+pub mod Restrict
+pub mod States
+pub mod Within

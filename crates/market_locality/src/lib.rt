@@ -1,0 +1,6 @@
+//! Locality: a reply depends on the events of the hours that its command touches alone.
+#![tactic(auto)]
+
+mod locality;
+
+pub use locality::{events_stay_in_their_hours, replies_are_local};
