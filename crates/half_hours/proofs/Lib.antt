@@ -1,0 +1,2 @@
+pub mod Halfless
+pub mod Without

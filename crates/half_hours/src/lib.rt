@@ -1,0 +1,6 @@
+//! Half hours: they change nothing for those who name none.
+#![tactic(auto)]
+
+mod halves;
+
+pub use halves::halves_change_nothing_else;
