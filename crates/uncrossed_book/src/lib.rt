@@ -1,0 +1,6 @@
+//! The book is never crossed: after every entry no two open orders of one contract can trade.
+#![tactic(auto)]
+
+mod book;
+
+pub use book::nothing_is_left_to_trade;
