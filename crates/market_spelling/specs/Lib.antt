@@ -1,0 +1,6 @@
+-- What the contracts of this crate cite.
+pub mod Chain
+pub mod Dates
+pub mod Hours
+pub mod Numbers
+pub mod Words

@@ -1,0 +1,117 @@
+// Numbers, quantities, amounts of cents and prices.
+ghost use Rattle.std.specs.Prelude.{◌≡◌, ◌<◌, ◌≤◌, ◌^◌, length, IsTrue, IfSome};
+ghost use Rattle.std.specs.List.{list_all};
+ghost use Rattle.std.specs.Char.{is_ascii_digit};
+ghost use Rattle.market_spelling.specs.Numbers as numbers;
+
+use order_kinds::{Lots, Price};
+
+/// A quantity in lots (tenths of a MW): megawatts of 1 to 7 digits, a point and one digit. No 0
+/// stands in front of another digit of the whole part.
+#[tactic(auto, unfolding(crate::specs::Numbers::quantity_of))]
+pub fn read_quantity(bytes: &[u8]) -> Option<Lots>
+    ensures { result ≡ numbers.quantity_of bytes.now }
+{
+    let [whole @ .., b'.', tenth] = bytes else {
+        return None;
+    };
+    let whole = read_whole(whole)?;
+    let tenth = read_digit(*tenth)?;
+    Some(Lots(10 * whole + tenth))
+}
+
+/// A price in cents per MWh: an amount of cents, and a minus sign in front where it is below 0.
+#[tactic(auto, unfolding(crate::specs::Numbers::price_of))]
+pub fn read_price(bytes: &[u8]) -> Option<Price>
+    ensures { result ≡ numbers.price_of bytes.now }
+{
+    match bytes {
+        [b'-', amount @ ..] => {
+            let cents = read_cents(amount)?;
+            if cents == 0 {
+                return None;
+            }
+            Some(Price(-(cents as i32)))
+        }
+        amount => {
+            let cents = read_cents(amount)?;
+            Some(Price(cents as i32))
+        }
+    }
+}
+
+/// An amount that is not below 0, in cents: 1 to 7 digits, a point and two digits. No 0 stands in
+/// front of another digit of the whole part.
+#[tactic(auto, unfolding(crate::specs::Numbers::cents_of))]
+pub fn read_cents(bytes: &[u8]) -> Option<u32>
+    ensures value { result ≡ numbers.cents_of bytes.now }
+    ensures below { IfSome result (λ cents. cents < 1000000000) }
+{
+    let [whole @ .., b'.', tenth, hundredth] = bytes else {
+        return None;
+    };
+    let whole = read_whole(whole)?;
+    let tenth = read_digit(*tenth)?;
+    let hundredth = read_digit(*hundredth)?;
+    Some(100 * whole + 10 * tenth + hundredth)
+}
+
+// The whole part of a number with a point: one to seven digits, of which the first is 0 only where
+// it is the only one.
+#[tactic(auto, unfolding(crate::specs::Numbers::whole_of))]
+fn read_whole(bytes: &[u8]) -> Option<u32>
+    ensures value { result ≡ numbers.whole_of bytes.now }
+    ensures below { IfSome result (λ whole. whole < 10000000) }
+{
+    match bytes {
+        [b'0', _, ..] => None,
+        digits => read_number(digits, 7),
+    }
+}
+
+// The number of one to so many decimal digits.
+#[tactic(auto, unfolding(crate::specs::Numbers::number_of))]
+pub(crate) fn read_number(bytes: &[u8], most: usize) -> Option<u32>
+    requires { most ≤ 9 }
+    ensures value { result ≡ numbers.number_of most bytes.now }
+    ensures below { IfSome result (λ number. number < 10 ^ most) }
+{
+    if bytes.is_empty() || bytes.len() > most || !are_digits(bytes) {
+        return None;
+    }
+    Some(value_of_digits(bytes))
+}
+
+// The value of a decimal digit.
+#[tactic(auto, unfolding(crate::specs::Numbers::digit_of))]
+pub(crate) fn read_digit(byte: u8) -> Option<u32>
+    ensures value { result ≡ numbers.digit_of byte }
+    ensures below { IfSome result (λ digit. digit < 10) }
+{
+    if byte.is_ascii_digit() {
+        Some(u32::from(byte - b'0'))
+    } else {
+        None
+    }
+}
+
+// The number that decimal digits stand for.
+fn value_of_digits(digits: &[u8]) -> u32
+    requires few { length digits.now ≤ 9 }
+    requires digits { IsTrue (list_all is_ascii_digit digits.now) }
+    ensures value { result ≡ numbers.digits_value digits.now }
+    ensures below { result < 10 ^ length digits.now }
+{
+    let mut value = 0;
+    for digit in digits {
+        value = 10 * value + u32::from(*digit - b'0');
+    }
+    value
+}
+
+// Whether each byte is a decimal digit.
+fn are_digits(bytes: &[u8]) -> bool
+    ensures { result ≡ list_all is_ascii_digit bytes.now }
+{
+    bytes.iter().all(|byte| byte.is_ascii_digit())
+}
