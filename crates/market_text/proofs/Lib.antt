@@ -1,5 +1,7 @@
-pub mod Digits
-pub mod LineLemmas
+pub mod Answering
+pub mod ItemLemmas
 pub mod Lists
 pub mod NameLemmas
 pub mod ReadingLemmas
+pub mod StepLemmas
+pub mod TextLemmas

@@ -1,8 +1,10 @@
 -- Lists that grow by one item, and counts of them.
-use Rattle.std.proofs.Common.{◌≡◌, ℕ, zero, suc, ◌+◌, ◌<◌, ◌==◌, Bool, true, false, cond, List, [], ◌∷◌, ◌++◌, length, map, get_or, take, refl, ap, ◌∙◌, arith, All, count_by, zero-add}
+use Rattle.std.proofs.Common.{◌≡◌, ℕ, zero, suc, ◌+◌, ◌-◌, ◌*◌, ◌<◌, ◌≤◌, ◌==◌, Bool, true, false, cond, List, [], ◌∷◌, ◌++◌, length, map, get_or, take, refl, sym, ap, ◌∙◌, arith, All, count_by, replicate, add-zero, append_assoc, append-nil}
+use Rattle.std.specs.List.{flat_map, range_with_len}
 use Rattle.std.proofs.lemmas.List.{map-append, take_more}
 use Rattle.std.proofs.lemmas.List.Elements.{All-append}
-use Rattle.std.proofs.lemmas.List.Sums.{sum_by_push, sum_by-append}
+use Rattle.std.proofs.lemmas.List.Sums.{sum_by-append}
+use Rattle.std.proofs.lemmas.List.Folds.{sum_by-replicate}
 use Rattle.std.proofs.lemmas.Bool.Decides.{nat_tests}
 
 -- a list of one item
@@ -37,18 +39,38 @@ count_none (m ∷ ns) n h =
     let differs : (m == n) ≡ false = grind (arith, nat_tests) in
     rw differs rest
 
--- one number more, which equals this one
-pub count_push_same : (ns : List ℕ) (n : ℕ) → count_by (λ m. m == n) (ns ++ n ∷ []) ≡ count_by (λ m. m == n) ns + 1
-count_push_same ns n =
-    let yes : (n == n) ≡ true = grind (arith, nat_tests) in
-    sum_by_push (λ m. cond (m == n) 1 0) ns n ∙ ap (λ b. count_by (λ m. m == n) ns + cond b 1 0) yes
+-- one number several times more
+pub count_more : (ns : List ℕ) (n x k : ℕ)
+    → count_by (λ m. m == n) (ns ++ replicate k x) ≡ count_by (λ m. m == n) ns + k * cond (x == n) 1 0
+count_more ns n x k =
+    sum_by-append (λ m. cond (m == n) 1 0) ns (replicate k x)
+    ∙ ap (λ s. count_by (λ m. m == n) ns + s) (sum_by-replicate (λ m. cond (m == n) 1 0) k x)
 
--- one number more, which does not
-pub count_push_other : (ns : List ℕ) (n x : ℕ) → (x == n) ≡ false → count_by (λ m. m == n) (ns ++ x ∷ []) ≡ count_by (λ m. m == n) ns
-count_push_other ns n x differs =
-    let one = sum_by_push (λ m. cond (m == n) 1 0) ns x ∙ ap (λ b. count_by (λ m. m == n) ns + cond b 1 0) differs in
-    one ∙ (omega arith)
+-- the lists of one item more
+flat_map_push : {X Y : Type 0} (f : Y → List X) (ys : List Y) (y : Y) → flat_map f (ys ++ y ∷ []) ≡ flat_map f ys ++ f y
+flat_map_push f [] y = append-nil (f y)
+flat_map_push f (x ∷ ys) y = ap (λ rest. f x ++ rest) (flat_map_push f ys y) ∙ sym (append_assoc (f x) (flat_map f ys) (f y))
 
--- one item more in front
-pub count-cons : {X : Type 0} (p : X → Bool) (x : X) (xs : List X) → count_by p (x ∷ xs) ≡ cond (p x) 1 0 + count_by p xs
-count-cons p x xs = sum_by-append (λ y. cond (p y) 1 0) (x ∷ []) xs ∙ ap (λ n. n + count_by p xs) (zero-add (cond (p x) 1 0))
+-- one number more in a row of numbers
+pub range_more : (first count : ℕ) → range_with_len first (suc count) ≡ range_with_len first count ++ (first + count) ∷ []
+range_more first zero = rw add-zero refl
+range_more first (suc count) =
+    let next : (first + 1) + count ≡ first + suc count = omega arith in
+    ap (λ rest. first ∷ rest) (range_more (first + 1) count ∙ ap (λ last. range_with_len (first + 1) count ++ last ∷ []) next)
+
+-- the lists of one number more in a row of numbers
+pub flat_map_range_more : {X : Type 0} (f : ℕ → List X) (first count : ℕ)
+    → flat_map f (range_with_len first (suc count)) ≡ flat_map f (range_with_len first count) ++ f (first + count)
+flat_map_range_more f first count = ap (flat_map f) (range_more first count) ∙ flat_map_push f (range_with_len first count) (first + count)
+
+-- the lists of one hour more, of hours from 1
+pub one_hour_more : {X : Type 0} (f : ℕ → List X) (hour : ℕ) (before more : List X) → 1 ≤ hour
+    → before ≡ flat_map f (range_with_len 1 (hour - 1)) → more ≡ before ++ f hour
+    → more ≡ flat_map f (range_with_len 1 (hour + 1 - 1))
+one_hour_more f hour before more some is longer =
+    let count : suc (hour - 1) ≡ hour + 1 - 1 = omega arith in
+    let at : 1 + (hour - 1) ≡ hour = omega arith in
+    longer ∙ ap (λ items. items ++ f hour) is
+    ∙ ap (λ h. flat_map f (range_with_len 1 (hour - 1)) ++ f h) (sym at)
+    ∙ sym (flat_map_range_more f 1 (hour - 1))
+    ∙ ap (λ n. flat_map f (range_with_len 1 n)) count

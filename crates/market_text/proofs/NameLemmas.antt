@@ -1,5 +1,5 @@
 -- Places in a list of names.
-use Rattle.std.proofs.Common.{◌≡◌, ℕ, ◌+◌, ◌≤◌, ◌||◌, Bool, true, false, not, cond, List, [], ◌∷◌, length, map, refl, ap, nat_lt, Some, None, arith}
+use Rattle.std.proofs.Common.{◌≡◌, ℕ, ◌+◌, ◌≤◌, ◌||◌, Bool, true, false, not, cond, List, [], ◌∷◌, length, map, refl, ap, nat_lt, ◌<◌, Some, None, arith}
 use Rattle.std.proofs.Common.{nat_eq, ◌++◌, ◌∙◌, sym, if◌then◌else◌}
 use Rattle.std.specs.Cmp.Lexicographic.{pointwise}
 use Rattle.indexmap.specs.IndexSet.{insert_key}
@@ -48,3 +48,11 @@ declared bytes keys key names name as_names as_name none =
     ∙ map-push bytes keys key
     ∙ ap (λ n. map bytes keys ++ n ∷ []) as_name
     ∙ ap (λ ns. ns ++ name ∷ []) as_names
+
+-- a place that is found is the first that passes
+pub some_place : (n len place : ℕ) → cond (nat_lt n len) (Some n) None ≡ Some place → (place ≡ n) × (n < len)
+some_place n len place h = by (nat_lt n len) refl h
+  where
+    by : (b : Bool) → nat_lt n len ≡ b → cond b (Some n) None ≡ Some place → (place ≡ n) × (n < len)
+    by true e some = (cc, grind (arith, nat_tests))
+    by false e some = cc

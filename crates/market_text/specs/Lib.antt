@@ -1,9 +1,11 @@
 -- What the contracts of this crate cite.
+pub mod Clocks
+pub mod CommandLines
 pub mod Commands
-pub mod Day
 pub mod Fault
-pub mod Lines
 pub mod Names
+pub mod Played
 pub mod Reading
 pub mod Session
-pub mod Spelling
+pub mod Steps
+pub mod Text

@@ -1,11 +1,8 @@
--- What each session that is read keeps, and which lines a text has.
-use Rattle.std.specs.Prelude.{◌≡◌, ℕ, ◌+◌, ◌<◌, ◌≤◌, ◌==◌, List, length, map, count_by, All}
+-- What each session that is read keeps.
+use Rattle.std.specs.Prelude.{◌≡◌, ℕ, ◌<◌, ◌≤◌, ◌==◌, length, map, count_by, All}
 use Rattle.market_model.specs.Command.{IsLimitEntry}
 use Rattle.market_model.specs.Naming.{IsNamed}
 use Rattle.market_text.specs.declared.session.Session.{Session}
-use Rattle.market_text.specs.declared.fault.TextFault.{TextFault}
-use Rattle.market_text.specs.declared.fault.TextFault.TheVariants as fault
-use Rattle.market_text.specs.Lines.{line_feeds}
 use Rattle.market_text.specs.Commands.{commands_of}
 
 -- a day of 23 to 25 hours, at most 64 zones, 128 borders and 64 callers with their names, at most
@@ -26,8 +23,3 @@ pub record IsSession (session : Session) : Type 0 where
   pub rooms : map (λ caller. caller.room) session.setup.callers ≡ map length session.commands
   pub few : length session.turns ≤ 262144
   pub entries : All (All IsLimitEntry) session.commands
-
--- a line that is reported is a line of the text, or the one after its last
-abbrev pub IsLineOf : List ℕ → TextFault → Type 0
-IsLineOf bytes (fault.BadSession line) = (1 ≤ line) × (line ≤ line_feeds bytes + 1)
-IsLineOf bytes fault.NoMemory = Unit {0}

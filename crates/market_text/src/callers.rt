@@ -1,7 +1,7 @@
 //! The commands that each caller gives.
 
 ghost use Rattle.std.specs.Prelude.{◌≡◌, ◌<◌, ◌∷◌, ◌++◌, [], length, OnOk};
-ghost use Rattle.market_text.specs.Commands.{with_command, commands_of};
+ghost use Rattle.market_text.specs.Commands.{with_commands, commands_of};
 
 use market_model::{Command, Commands, NoMemory, Sequence};
 use std::alloc::Global;
@@ -40,12 +40,12 @@ impl CommandLists {
         Ok(())
     }
 
-    /// Puts a command at the end of those of a caller.
-    pub fn give(&mut self, caller: usize, command: Command) -> Result<(), NoMemory>
+    /// Puts commands at the end of those of a caller.
+    pub fn give(&mut self, caller: usize, commands: Commands) -> Result<(), NoMemory>
         requires { caller < length self.old }
-        ensures { OnOk result (self.new ≡ with_command self.old caller command) }
+        ensures { OnOk result (self.new ≡ with_commands self.old caller commands) }
     {
-        self.lists[caller].push(command)
+        append(&mut self.lists[caller], commands)
     }
 
     /// How many commands a caller has given.
@@ -62,4 +62,14 @@ impl CommandLists {
     {
         Sequence::from(self.lists)
     }
+}
+
+// Puts commands at the end of a list.
+fn append(list: &mut Commands, commands: Commands) -> Result<(), NoMemory>
+    ensures { OnOk result (list.new ≡ list.old ++ commands) }
+{
+    for command in commands.into_vec() {
+        list.push(command)?;
+    }
+    Ok(())
 }

@@ -1,34 +1,33 @@
-//! What was read of a session text so far, line by line.
+//! What was read of a session text so far, and how commands are taken.
 
-ghost use Rattle.std.specs.Prelude.{◌≡◌};
-ghost use Rattle.std.specs.List.{list_any};
-ghost use Rattle.market_text.specs.Names.{joins_zones};
+ghost use Rattle.std.specs.Prelude.{◌≡◌, ◌<◌, ◌∷◌, ◌++◌, [], length, map, replicate, OnOk, IfOk, unwrap_or};
+ghost use Rattle.std.specs.List.{list_all};
+ghost use Rattle.market_text.specs.Fault.{Answers};
+ghost use Rattle.market_text.specs.Played.{is_played, is_limit};
+ghost use Rattle.market_text.specs.Reading.{IsReading};
+ghost use Rattle.market_text.specs.Steps as steps;
 
 use crate::callers::CommandLists;
-use crate::day::count_hours;
+use crate::clocks::{ClockTable, list_gates};
+use crate::commands::command_of_words;
 use crate::fault::LineFault;
 use crate::names::NameTable;
-use crate::session::{Session, Turns};
-use crate::spelling::read_date;
-use market_model::{Caller, Callers, NoMemory, Pairs, Role, Sequence, Setup, Word};
+use crate::session::Turns;
+use crate::words::{first_word, only_word};
+use contract_calendar::Day;
+use market_model::{Command, Commands, Kind, NoMemory, Pairs, Role, Sequence};
+use market_spelling::{Verb, read_instant, read_verb};
 use std::alloc::Global;
-use zone_graph::is_name;
 
-/// The most bidding zones of a session.
-pub const MOST_ZONES: usize = 64;
-
-/// The most borders of a session.
-pub const MOST_BORDERS: usize = 128;
-
-/// The most callers of a session.
-pub const MOST_CALLERS: usize = 64;
+/// The most commands of a session.
+pub const MOST_COMMANDS: usize = 262144;
 
 /// What the lines so far stand for. The lines come in this order: the day, the zones, the borders,
 /// the callers, `begin`, the commands; so which line may come next follows from what is there.
 #[derive(Drop)]
 pub struct Reader {
-    /// How many hours the day has, once it is read.
-    pub hours: Option<u32>,
+    /// The delivery day, once it is read.
+    pub day: Option<Day>,
     /// The zones' names.
     pub zones: NameTable,
     /// The two zones of each border.
@@ -41,27 +40,27 @@ pub struct Reader {
     pub has_begun: bool,
     /// The commands of each caller.
     pub commands: CommandLists,
+    /// The instant of each caller's last clock line.
+    pub clocks: ClockTable,
     /// The caller of each command, in the order of the text.
     pub turns: Turns,
 }
 
 impl Reader {
-    ghost use Rattle.std.specs.Prelude.{length, map, IfOk};
-    ghost use Rattle.market_text.specs.Reading.{IsReading};
-    ghost use Rattle.market_text.specs.Session.{IsSession};
-
     /// Nothing is read yet.
     pub fn new(alloc: Global) -> Reader
-        ensures { IsReading result }
+        ensures value { result ≡ steps.nothing_read }
+        ensures kept { IsReading result }
     {
         Reader {
-            hours: None,
+            day: None,
             zones: NameTable::new(alloc),
             borders: Pairs::new(alloc),
             callers: NameTable::new(alloc),
             roles: Sequence::new(alloc),
             has_begun: false,
             commands: CommandLists::new(alloc),
+            clocks: ClockTable::new(alloc),
             turns: Turns::new(alloc),
         }
     }
@@ -69,156 +68,150 @@ impl Reader {
     /// Reads a line that counts, by its words.
     pub fn read_words(self, alloc: Global, words: &[&[u8]]) -> Result<Reader, LineFault>
         requires { IsReading self }
-        ensures { IfOk result IsReading }
+        ensures kept { IfOk result IsReading }
+        ensures exact { Answers (steps.words_step self (map (λ word. word.now) words.now)) result }
     {
         if self.has_begun {
-            return self.read_command(words);
-        }
-        match words {
-            [b"day", date] => self.read_day(*date),
-            [b"zone", name] => self.read_zone(alloc, *name),
-            [b"border", one, other] => self.read_border(*one, *other),
-            [b"trader", name] => self.read_caller(alloc, *name, Role::Trader),
-            [b"operator", name] => self.read_caller(alloc, *name, Role::Operator),
-            [b"begin"] => self.read_begin(),
-            _ => Err(LineFault::Bad),
+            self.read_command(alloc, words)
+        } else {
+            self.read_header(alloc, words)
         }
     }
 
-    // `day` and a date, the first line that counts.
-    fn read_day(mut self, date: &[u8]) -> Result<Reader, LineFault>
+    // Reads the line of a command: the name of a declared caller, a verb, and its words.
+    #[tactic(auto, unfolding(crate::specs::Steps::command_step))]
+    fn read_command(self, alloc: Global, words: &[&[u8]]) -> Result<Reader, LineFault>
         requires { IsReading self }
-        ensures { IfOk result IsReading }
+        ensures kept { IfOk result IsReading }
+        ensures exact { Answers (steps.command_step self (map (λ word. word.now) words.now)) result }
     {
-        if self.hours.is_some() {
-            return Err(LineFault::Bad);
-        }
-        let date = read_date(date).ok_or(LineFault::Bad)?;
-        self.hours = Some(count_hours(date));
-        Ok(self)
-    }
-
-    // `zone` and a name that no zone has, after the day and before any border or caller.
-    fn read_zone(mut self, alloc: Global, name: &[u8]) -> Result<Reader, LineFault>
-        requires { IsReading self }
-        ensures { IfOk result IsReading }
-    {
-        if self.hours.is_none() || !self.borders.is_empty() || self.callers.len() > 0 {
-            return Err(LineFault::Bad);
-        }
-        if self.zones.len() >= MOST_ZONES || !is_name(name) || self.zones.place(name).is_some() {
-            return Err(LineFault::Bad);
-        }
-        self.zones.declare(alloc, name)?;
-        Ok(self)
-    }
-
-    // `border` and two declared zones that no border joins yet, before any caller.
-    fn read_border(mut self, one: &[u8], other: &[u8]) -> Result<Reader, LineFault>
-        requires { IsReading self }
-        ensures { IfOk result IsReading }
-    {
-        if self.callers.len() > 0 || self.borders.len() >= MOST_BORDERS {
-            return Err(LineFault::Bad);
-        }
-        let one = self.zones.place(one).ok_or(LineFault::Bad)? as u32;
-        let other = self.zones.place(other).ok_or(LineFault::Bad)? as u32;
-        if one == other || joins(self.borders.as_slice(), one, other) {
-            return Err(LineFault::Bad);
-        }
-        self.borders.push((one, other))?;
-        Ok(self)
-    }
-
-    // `trader` or `operator` and a name that no caller has, after the zones.
-    fn read_caller(mut self, alloc: Global, name: &[u8], role: Role) -> Result<Reader, LineFault>
-        requires { IsReading self }
-        ensures { IfOk result IsReading }
-    {
-        if self.zones.len() == 0 || self.callers.len() >= MOST_CALLERS {
-            return Err(LineFault::Bad);
-        }
-        if !is_name(name) || self.callers.place(name).is_some() {
-            return Err(LineFault::Bad);
-        }
-        self.callers.declare(alloc, name)?;
-        self.roles.push(role)?;
-        self.commands.add_caller(alloc)?;
-        Ok(self)
-    }
-
-    // `begin`, after the zones.
-    fn read_begin(mut self) -> Result<Reader, LineFault>
-        requires { IsReading self }
-        ensures { IfOk result IsReading }
-    {
-        if self.zones.len() == 0 {
-            return Err(LineFault::Bad);
-        }
-        self.has_begun = true;
-        Ok(self)
-    }
-
-    /// The session, where the text ends after `begin`.
-    pub fn finish(self, alloc: Global) -> Result<Session, LineFault>
-        requires { IsReading self }
-        ensures { IfOk result IsSession }
-    {
-        let Some(hours) = self.hours else {
+        let Some((name, words)) = first_word(words) else {
             return Err(LineFault::Bad);
         };
-        if !self.has_begun {
+        let Some((verb, words)) = first_word(words) else {
             return Err(LineFault::Bad);
+        };
+        let Some(caller) = self.callers.place(name) else {
+            return Err(LineFault::Bad);
+        };
+        let Some(verb) = read_verb(verb) else {
+            return Err(LineFault::Bad);
+        };
+        if is_clock(verb) {
+            self.read_clock(alloc, caller, words)
+        } else {
+            self.read_entry(alloc, caller, verb, words)
         }
-        let zones = self.zones.words(alloc)?;
-        let callers = self.list_callers(alloc)?;
-        let Reader {
-            hours: _,
-            zones: _,
-            borders,
-            callers: _,
-            roles: _,
-            has_begun: _,
-            commands,
-            turns,
-        } = self;
-        Ok(Session {
-            setup: Setup {
-                hours,
-                zones,
-                borders,
-                callers,
-            },
-            commands: commands.into_sequence(),
-            turns,
-        })
     }
 
-    // The callers, each with as much room in the journal as it has commands.
-    fn list_callers(&self, alloc: Global) -> Result<Callers, NoMemory>
-        requires { IsReading self.now }
-        ensures names { IfOk result (λ callers. map (λ caller. caller.name) callers ≡ self.now.callers) }
-        ensures roles { IfOk result (λ callers. map (λ caller. caller.role) callers ≡ self.now.roles) }
-        ensures rooms { IfOk result (λ callers. map (λ caller. caller.room) callers ≡ map length self.now.commands) }
+    // Reads the words after a verb that stands for one command.
+    #[tactic(auto, unfolding(crate::specs::Steps::entry_step))]
+    fn read_entry(
+        self,
+        alloc: Global,
+        caller: usize,
+        verb: Verb,
+        words: &[&[u8]],
+    ) -> Result<Reader, LineFault>
+        requires reading { IsReading self }
+        requires known { caller < length self.callers }
+        ensures kept { IfOk result IsReading }
+        ensures exact { Answers (steps.entry_step verb caller self (map (λ word. word.now) words.now)) result }
     {
-        let mut callers = Callers::new(alloc);
-        let roles = self.roles.as_slice();
-        for caller in 0..self.callers.len() {
-            callers.push(Caller {
-                name: Word::new(alloc, self.callers.name(caller))?,
-                role: roles[caller],
-                room: self.commands.count(caller) as u32,
-            })?;
+        let command = match command_of_words(alloc, &self.zones, verb, words) {
+            Ok(command) => command,
+            Err(fault) => return Err(fault),
+        };
+        let mut commands = Commands::new(alloc);
+        commands.push(command)?;
+        self.take(caller, commands)
+    }
+
+    // Reads the instant of a clock line, which stands for gates.
+    #[tactic(auto, unfolding(crate::specs::Steps::clock_step))]
+    fn read_clock(
+        mut self,
+        alloc: Global,
+        caller: usize,
+        words: &[&[u8]],
+    ) -> Result<Reader, LineFault>
+        requires reading { IsReading self }
+        requires known { caller < length self.callers }
+        ensures kept { IfOk result IsReading }
+        ensures exact { Answers (steps.clock_step caller self (map (λ word. word.now) words.now)) result }
+    {
+        let Some(word) = only_word(words) else {
+            return Err(LineFault::Bad);
+        };
+        let Some(day) = self.day else {
+            return Err(LineFault::Bad);
+        };
+        let Some(instant) = read_instant(word) else {
+            return Err(LineFault::Bad);
+        };
+        let last = self.clocks.last(caller);
+        let gates = list_gates(alloc, &day, &last, instant)?;
+        self.clocks.set(caller, instant);
+        self.take(caller, gates)
+    }
+
+    // Takes the commands of a line.
+    #[tactic(auto, unfolding(crate::specs::Steps::take_commands))]
+    fn take(mut self, caller: usize, commands: Commands) -> Result<Reader, LineFault>
+        requires reading { IsReading self }
+        requires known { caller < length self.callers }
+        ensures kept { IfOk result IsReading }
+        ensures exact { Answers (steps.take_commands self caller commands) result }
+    {
+        if commands.len() > MOST_COMMANDS - self.turns.len() {
+            return Err(LineFault::Bad);
         }
-        Ok(callers)
+        if !are_played(commands.as_slice()) {
+            return Err(LineFault::Bad);
+        }
+        add_turns(&mut self.turns, caller as u32, commands.len())?;
+        self.commands.give(caller, commands)?;
+        Ok(self)
     }
 }
 
-// Whether one of these borders joins the two zones.
-fn joins(borders: &[(u32, u32)], one: u32, other: u32) -> bool
-    ensures { result ≡ list_any (joins_zones one other) borders.now }
+// Whether a verb is that of a clock line.
+fn is_clock(verb: Verb) -> bool
+    ensures { result ≡ steps.is_clock verb }
 {
-    borders.iter().any(|ends| {
-        (ends.0 == one && ends.1 == other) || (ends.0 == other && ends.1 == one)
-    })
+    matches!(verb, Verb::Clock)
+}
+
+// Puts so many turns of a caller at the end.
+fn add_turns(turns: &mut Turns, caller: u32, count: usize) -> Result<(), NoMemory>
+    ensures { OnOk result (turns.new ≡ turns.old ++ replicate count caller) }
+{
+    for turn in 0..count {
+        turns.push(caller)?;
+    }
+    Ok(())
+}
+
+// Whether the market that plays sessions knows each of these commands.
+fn are_played(commands: &[Command]) -> bool
+    ensures { result ≡ list_all is_played commands.now }
+{
+    commands.iter().all(|command| is_played(command))
+}
+
+// Whether the market that plays sessions knows a command: it knows plain limit orders alone.
+fn is_played(command: &Command) -> bool
+    ensures { result ≡ is_played command.now }
+{
+    match command {
+        Command::Enter { order } => is_limit(order.kind),
+        _ => false,
+    }
+}
+
+// Whether what is not traded at once stays in the order book.
+fn is_limit(kind: Kind) -> bool
+    ensures { result ≡ is_limit kind }
+{
+    matches!(kind, Kind::Limit)
 }

@@ -1,14 +1,15 @@
 //! A session, and how it is read from a text.
 
-ghost use Rattle.std.specs.Prelude.{◌≡◌, ◌<◌, ◌+◌, ◌^◌, ◌==◌, length, position, IfOk, IfErr, MatchOption};
-ghost use Rattle.market_text.specs.Lines.{line_feeds, IsFirstLine};
+ghost use Rattle.std.specs.Prelude.{◌≡◌, ◌<◌, ◌+◌, ◌^◌, ◌==◌, ◌∷◌, [], length, map, position, IfOk, IfSome, MatchOption};
+ghost use Rattle.market_text.specs.Fault.{Answers};
 ghost use Rattle.market_text.specs.Reading.{IsReading};
-ghost use Rattle.market_text.specs.Session.{IsSession, IsLineOf};
+ghost use Rattle.market_text.specs.Session.{IsSession};
+ghost use Rattle.market_text.specs.Text.{lines_of, words_of, line_step, session_of_text, IsAnswer};
 
 use crate::fault::{LineFault, TextFault};
 use crate::reader::Reader;
 use market_model::{Commands, Sequence, Setup};
-use std::alloc::Global;
+use std::alloc::{AllocError, Global};
 
 /// The commands of each caller, in the order of the callers, and of each caller in the order in
 /// which it gives them.
@@ -45,14 +46,13 @@ pub struct Session {
 pub fn read_session(alloc: Global, bytes: &[u8]) -> Result<Session, TextFault>
     requires { length bytes.now + 1 < 2 ^ 32 }
     ensures shape { IfOk result IsSession }
-    ensures line { IfErr result (IsLineOf bytes.now) }
+    ensures exact { IsAnswer (session_of_text bytes.now) result }
 {
     let mut reader = Reader::new(alloc);
-    let mut words = Vec::new(alloc);
     let mut rest = bytes;
     let mut line = 1;
     while let Some((text, after)) = split_line(rest) {
-        reader = match read_line(alloc, reader, text, &mut words) {
+        reader = match read_line(alloc, reader, text) {
             Ok(reader) => reader,
             Err(fault) => return Err(fault.at(line)),
         };
@@ -71,7 +71,8 @@ pub fn read_session(alloc: Global, bytes: &[u8]) -> Result<Session, TextFault>
 // The first line of a text without its line feed, and what follows it: `None` where there is no
 // line feed.
 fn split_line(text: &[u8]) -> Option<(&[u8], &[u8])>
-    ensures { MatchOption result (line_feeds text.now ≡ 0) (λ parts. IsFirstLine text.now parts.0.now parts.1.now) }
+    ensures lines { MatchOption result (lines_of text.now ≡ text.now ∷ []) (λ parts. lines_of text.now ≡ parts.0.now ∷ lines_of parts.1.now) }
+    ensures shorter { IfSome result (λ parts. length parts.1.now < length text.now) }
 {
     match find_line_feed(text) {
         None => None,
@@ -86,21 +87,23 @@ fn find_line_feed(text: &[u8]) -> Option<usize>
     text.iter().position(|byte| *byte == b'\n')
 }
 
-// Reads a line, which is passed over where it is empty or a comment. The words are put into a
-// list that is used for each line.
-fn read_line<'a>(
-    alloc: Global,
-    reader: Reader,
-    line: &'a [u8],
-    words: &mut Vec<&'a [u8]>,
-) -> Result<Reader, LineFault>
+// Reads a line, which is passed over where it is empty or a comment.
+#[tactic(auto, unfolding(crate::specs::Text::line_step))]
+fn read_line(alloc: Global, reader: Reader, line: &[u8]) -> Result<Reader, LineFault>
     requires { IsReading reader }
-    ensures { IfOk result IsReading }
+    ensures kept { IfOk result IsReading }
+    ensures exact { Answers (line_step reader line.now) result }
 {
-    if let [] | [b'#', ..] = line {
+    if line.is_empty() || line[0] == b'#' {
         return Ok(reader);
     }
-    words.clear();
-    words.extend(line.split(|byte| *byte == b' '))?;
+    let words = split_words(alloc, line)?;
     reader.read_words(alloc, words.as_slice())
+}
+
+// The words of a line.
+fn split_words(alloc: Global, line: &[u8]) -> Result<Vec<&[u8]>, AllocError>
+    ensures { IfOk result (λ words. map (λ word. word.now) words.items ≡ words_of line.now) }
+{
+    line.split(|byte| *byte == b' ').collect(alloc)
 }

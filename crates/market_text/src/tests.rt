@@ -356,3 +356,33 @@ fn there_are_at_most_262144_commands(rt: HostRuntime) -> Result<(), Fail> {
     assert_eq!(rt; bad_line(&rt, text.as_slice()), 262153);
     Ok(())
 }
+
+#[test]
+fn lines_of_commands_that_are_not_played_yet_are_bad(rt: HostRuntime) -> Result<(), Fail> {
+    for line in [
+        b"ann buy h12 DE 1.0 10.00 ioc\n".as_slice(),
+        b"ann cancel h12#1\n",
+        b"tso gate h12 closed\n",
+        b"tso clock 2025-06-17T10:00:00Z\n",
+    ] {
+        assert_eq!(rt; bad_line_of_two(&rt, HEADER, line)?, 8, "{line:?}");
+    }
+    let before = b"tso clock 2025-06-16T10:00:00Z\n";
+    assert_eq!(rt; bad_line_of_two(&rt, HEADER, before)?, 0);
+    Ok(())
+}
+
+#[test]
+fn comments_alone_are_read_to_the_longest(rt: HostRuntime) -> Result<(), Fail> {
+    let mut text = Vec::from_slice(rt.alloc(), HEADER)?;
+    let comment = [b'#'; 1023];
+    while text.len() + 1024 <= 8388608 {
+        text.extend_from_slice(&comment)?;
+        text.push(b'\n')?;
+    }
+    while text.len() < 8388608 {
+        text.push(b'\n')?;
+    }
+    assert_eq!(rt; bad_line(&rt, text.as_slice()), 0);
+    Ok(())
+}

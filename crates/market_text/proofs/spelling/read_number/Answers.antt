@@ -1,7 +1,0 @@
-use Rattle.std.proofs.Common.{arith, length}
-use Rattle.market_text.proofs.Digits.{below_power}
-use Rattle.market_text.proofs.spelling.read_number.Goals as goal
-
-pub returns-clause-below : goal.returns-clause-below
-returns-clause-below c =
-    below_power c.value_of_digits.result (length c.args.bytes.now) c.args.most c.value_of_digits.ensures.below (omega arith)
