@@ -1,0 +1,4 @@
+pub mod Arcs
+pub mod Nearer
+pub mod Nearest
+pub mod Searches
