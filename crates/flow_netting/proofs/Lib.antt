@@ -1,0 +1,3 @@
+pub mod FlowLemmas
+pub mod RoomLemmas
+pub mod RouteLemmas

@@ -1,0 +1,106 @@
+-- Routes that name no border twice, arc by arc.
+use Rattle.std.proofs.Common.{◌≡◌, ◌∙◌, ◌+◌, ◌<◌, ◌==◌, ◌&&◌, ◌||◌, zero, suc, ℕ, pos, ◌+ℤ◌, ◌-ℤ◌, ◌≤ℤ◌, ℤ, Bool, true, false, List, [], ◌∷◌, inl, inr, length, map, get_or, take, if◌then◌else◌, refl, sym, ap, subst, arith, eqb-true}
+use Rattle.std.proofs.lemmas.Int.{ints}
+use Rattle.std.proofs.lemmas.List.Folds.{list_any_more}
+use Rattle.quarter_capacity.specs.Capacity.{remaining_of}
+use Rattle.zone_graph.specs.declared.route.Arc.{Arc}
+use Rattle.zone_graph.specs.Pour.{lots_if, opposite_arc, same_arc, same_bool, uses}
+use Rattle.zone_graph.specs.Route.{AreDifferent, IsIn}
+use Rattle.zone_graph.proofs.Membership.{IsIn-map}
+use Rattle.flow_netting.specs.Flows.{added_by}
+
+pub IsIn-get_or : {X : Type 0} (xs : List X) (i : ℕ) (d : X) → i < length xs → IsIn (get_or xs i d) xs
+IsIn-get_or [] i d within = absurd (let no : ⊥ = omega arith in no)
+IsIn-get_or (x ∷ xs) zero d within = inl refl
+IsIn-get_or (x ∷ xs) (suc i) d within = inr (IsIn-get_or xs i d (omega arith))
+
+-- ---- the same arc
+
+first_true : (a b : Bool) → (a && b) ≡ true → a ≡ true
+first_true true b e = refl
+first_true false b e = e
+
+pub same_arc-border : (a b : Arc) → same_arc a b ≡ true → a.border ≡ b.border
+same_arc-border a b e = eqb-true a.border b.border (first_true (a.border == b.border) (same_bool a.forward b.forward) e)
+
+same_bool-symm : (a b : Bool) → same_bool a b ≡ same_bool b a
+same_bool-symm true true = refl
+same_bool-symm true false = refl
+same_bool-symm false true = refl
+same_bool-symm false false = refl
+
+-- two numbers are equal in either order
+eqb-symm : (a b : ℕ) → (a == b) ≡ (b == a)
+eqb-symm a b = grind arith
+
+same_arc-symm : (a b : Arc) → same_arc a b ≡ same_arc b a
+same_arc-symm a b =
+    ap (λ c. c && same_bool a.forward b.forward) (eqb-symm a.border b.border)
+    ∙ ap (λ c. (b.border == a.border) && c) (same_bool-symm a.forward b.forward)
+
+-- no arc of a route is over the border of one that comes before it
+pub is_fresh : (route : List Arc) (i : ℕ) (d other : Arc) → AreDifferent (map (λ arc. arc.border) route) → i < length route
+    → other.border ≡ (get_or route i d).border → uses (take i route) other ≡ false
+is_fresh [] i d other differ within border = absurd (let no : ⊥ = omega arith in no)
+is_fresh (arc ∷ route) zero d other differ within border = refl
+is_fresh (arc ∷ route) (suc i) d other differ within border =
+    by (same_arc other arc) refl (is_fresh route i d other differ.1 (omega arith) border)
+  where
+    by : (b : Bool) → same_arc other arc ≡ b → uses (take i route) other ≡ false → (b || uses (take i route) other) ≡ false
+    by true same rest =
+        let again : IsIn (get_or route i d).border (map (λ a. a.border) route) =
+        IsIn-map (λ a. a.border) (get_or route i d) route (IsIn-get_or route i d (omega arith)) in
+        absurd (differ.0 (subst (λ border. IsIn border (map (λ a. a.border) route)) (sym border ∙ same_arc-border other arc same) again))
+    by false same rest = rest
+
+-- ---- one more arc of a route
+
+never_both : (x y : Bool) → (y ≡ true → x ≡ false) → (x && y) ≡ false
+never_both true true apart = apart refl
+never_both true false apart = refl
+never_both false y apart = refl
+
+lots_if-or : (x y : Bool) (lots : ℕ) → (x && y) ≡ false → lots_if (x || y) lots ≡ lots_if x lots + lots_if y lots
+lots_if-or true true lots apart = cc
+lots_if-or true false lots apart = omega arith
+lots_if-or false true lots apart = omega arith
+lots_if-or false false lots apart = omega arith
+
+net_sum : (old mid new : ℤ) (a b c a' b' c' : ℕ) → c ≡ a + b → c' ≡ a' + b'
+    → mid ≡ old +ℤ (pos a -ℤ pos a') → new ≡ mid +ℤ (pos b -ℤ pos b') → new ≡ old +ℤ (pos c -ℤ pos c')
+net_sum old mid new a b c a' b' c' e e' h k = omega (arith, ints)
+
+module _ (route : List Arc) (i : ℕ) (d : Arc) (differ : AreDifferent (map (λ arc. arc.border) route)) (within : i < length route) (lots : ℕ) where
+  uses_more : (other : Arc) → lots_if (uses (take (i + 1) route) other) lots ≡ lots_if (uses (take i route) other) lots + lots_if (same_arc (get_or route i d) other) lots
+  uses_more other =
+      ap (λ b. lots_if b lots)
+      (list_any_more (same_arc other) route i d within
+      ∙ ap (λ b. uses (take i route) other || b) (same_arc-symm other (get_or route i d)))
+      ∙ lots_if-or (uses (take i route) other) (same_arc (get_or route i d) other) lots
+      (never_both (uses (take i route) other) (same_arc (get_or route i d) other)
+      (λ same. is_fresh route i d other differ within (sym (same_arc-border (get_or route i d) other same))))
+
+  -- the flow over an arc after one more arc of the route
+  pub flow_more : (other : Arc) (counts : Bool) (old mid new : ℤ)
+      → mid ≡ (if counts then old +ℤ added_by (uses (take i route)) lots other else old)
+      → new ≡ (if counts then mid +ℤ added_by (same_arc (get_or route i d)) lots other else mid)
+      → new ≡ (if counts then old +ℤ added_by (uses (take (i + 1) route)) lots other else old)
+  flow_more other true old mid new before taken = net_sum old mid new _ _ _ _ _ _ (uses_more other) (uses_more (opposite_arc other)) before taken
+  flow_more other false old mid new before taken = taken ∙ before
+
+  -- on the next arc as much is left as at first
+  pub left_on_next : (counts : Bool) (offer offer' : ℕ) (old mid : ℤ) → counts ≡ true
+      → offer' ≡ offer
+      → mid ≡ (if counts then old +ℤ added_by (uses (take i route)) lots (get_or route i d) else old)
+      → pos lots ≤ℤ remaining_of offer old → pos lots ≤ℤ remaining_of offer' mid
+  left_on_next false offer offer' old mid on same before left = cc
+  left_on_next true offer offer' old mid on same before left =
+      let none : lots_if (uses (take i route) (get_or route i d)) lots ≡ 0 =
+      ap (λ b. lots_if b lots) (is_fresh route i d (get_or route i d) differ within refl) in
+      let opposite_none : lots_if (uses (take i route) (opposite_arc (get_or route i d))) lots ≡ 0 =
+      ap (λ b. lots_if b lots) (is_fresh route i d (opposite_arc (get_or route i d)) differ within refl) in
+      unchanged offer offer' old mid _ _ none opposite_none same before left
+    where
+      unchanged : (offer offer' : ℕ) (old mid : ℤ) (a b : ℕ) → a ≡ 0 → b ≡ 0 → offer' ≡ offer → mid ≡ old +ℤ (pos a -ℤ pos b)
+          → pos lots ≤ℤ remaining_of offer old → pos lots ≤ℤ remaining_of offer' mid
+      unchanged offer offer' old mid a b none other same before left = omega (arith, ints)

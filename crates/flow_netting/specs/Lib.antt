@@ -1,0 +1,4 @@
+-- What the contracts of this crate cite.
+pub mod QuarterSet
+pub mod Border
+pub mod Flows
