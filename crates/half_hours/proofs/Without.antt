@@ -38,7 +38,8 @@ use Rattle.market_laws.proofs.Falls.{sweep_leg-hour}
 use Rattle.market_laws.proofs.Journals.{journal_events-more}
 use Rattle.market_laws.proofs.Members.{from_filter_map}
 use Rattle.market_laws.proofs.Trades.{from_line}
-use Rattle.half_hours.proofs.Halfless.{AreHalfless, IsHalfless, before_sweep, before_sweep-halfless, block_before_sweeps, block_before_sweeps-halfless, deals_of-halfless, enter-halfless, gate_before_sweep, gate_before_sweep-halfless, halfless-append, halfless-one, orders-halfless, reply-halfless, sweep-halfless}
+use Rattle.history_bounds.proofs.Quiet.{deals_of-quiet, gate_before_sweep, gate_before_sweep-quiet, sweep-quiet}
+use Rattle.half_hours.proofs.Halfless.{AreHalfless, IsHalfless, before_sweep, before_sweep-halfless, block_before_sweeps, block_before_sweeps-halfless, enter-halfless, halfless-append, halfless-one, orders-halfless, reply-halfless, quiet-halfless}
 
 -- an order that entered is of no half hour
 placed-halfless : (events : List Event) → AreHalfless events → (order : Placed) → IsIn order (placed events) → is_half order.order.contract.part ≡ false
@@ -107,7 +108,7 @@ sweeps-same : (graph : Graph) (hours : List ℕ) (events : List Event) → AreHa
 sweeps-same graph [] events are = refl
 sweeps-same graph (hour ∷ hours) events are =
     let legs : List Event = sweep all_parts graph hour events in
-    ap (λ rest. legs ++ rest) (sweeps-same graph hours (events ++ legs) (halfless-append events legs are (sweep-halfless all_parts graph hour events)))
+    ap (λ rest. legs ++ rest) (sweeps-same graph hours (events ++ legs) (halfless-append events legs are (quiet-halfless legs (sweep-quiet all_parts graph hour events))))
     ∙ ap (λ own. own ++ sweeps parts_without_halves graph hours (events ++ own)) (sweep-same graph hour events are)
 
 -- ---- whole commands
@@ -142,7 +143,7 @@ match_blocks-same : (graph : Graph) (first last : ℕ) (events : List Event) →
 unfolding match_blocks
 match_blocks-same graph first last events are =
     let legs : List Event = flat_map (λ deal. deal) (block_deals graph first last events) in
-    ap (λ rest. legs ++ rest) (sweeps-same graph (hours_from first last) (events ++ legs) (halfless-append events legs are (deals_of-halfless graph first last events)))
+    ap (λ rest. legs ++ rest) (sweeps-same graph (hours_from first last) (events ++ legs) (halfless-append events legs are (quiet-halfless legs (deals_of-quiet graph first last events))))
 
 then-same : (graph : Graph) (hours : List ℕ) (events : List Event) (done : Event) → AreHalfless events → IsHalfless done
     → then_sweeps all_parts graph hours events done ≡ then_sweeps parts_without_halves graph hours events done
@@ -156,7 +157,7 @@ at_arc-same (Some arc) f g same = same arc
 gate-same : (graph : Graph) (hour : ℕ) (asked : Phase) (events : List Event) → AreHalfless events → gate all_parts graph hour asked events ≡ gate parts_without_halves graph hour asked events
 gate-same graph hour asked events are =
     let done : List Event = gate_before_sweep hour asked events in
-    ap (λ rest. done ++ rest) (sweeps-same graph (hour ∷ []) (events ++ done) (halfless-append events done are (gate_before_sweep-halfless hour asked events)))
+    ap (λ rest. done ++ rest) (sweeps-same graph (hour ∷ []) (events ++ done) (halfless-append events done are (quiet-halfless done (gate_before_sweep-quiet hour asked events))))
 
 done-same : (setup : Setup) (events : List Event) (caller : ℕ) (given : Command) → AreHalfless events → list_any is_half (parts_named given) ≡ false
     → events_done all_parts setup events caller given ≡ events_done parts_without_halves setup events caller given
