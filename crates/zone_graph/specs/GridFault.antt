@@ -1,5 +1,5 @@
 -- Why names of zones and pairs of borders make no grid.
-use Rattle.std.specs.Prelude.{ℕ, Bool, false, ◌==◌, ◌||◌, List, [], ◌∷◌, Option, Some, None, nat_lt, if◌then◌else◌}
+use Rattle.std.specs.Prelude.{ℕ, Bool, false, ◌==◌, ◌||◌, List, [], ◌∷◌, codes, Option, Some, None, nat_lt, if◌then◌else◌}
 use Rattle.std.specs.List.{list_any}
 use Rattle.zone_graph.specs.declared.grid.GridFault.{GridFault}
 use Rattle.zone_graph.specs.declared.grid.GridFault.TheVariants as fault
@@ -25,3 +25,12 @@ grid_fault graph =
     else (if has_self_border graph.borders then Some fault.SelfBorder
     else (if has_again same_ends graph.borders then Some fault.BorderTwice
     else None))))
+
+-- a fault in words
+abbrev pub fault_text : GridFault → List ℕ
+fault_text fault.TooManyZones = codes "more than 64 zones"
+fault_text fault.ZoneTwice = codes "two zones of the same name"
+fault_text fault.TooManyBorders = codes "more than 128 borders"
+fault_text fault.SelfBorder = codes "a border of a zone with itself"
+fault_text fault.BorderTwice = codes "two borders between the same zones"
+fault_text fault.NoMemory = codes "no memory"

@@ -5,7 +5,7 @@ ghost use Rattle.std.specs.Prelude.{◌≡◌, ◌≢◌, ◌<◌, codes, Some, 
 ghost use Rattle.zone_graph.specs.declared.route.Arc.{Arc};
 ghost use Rattle.zone_graph.specs.Graph.{HasArc, HasZone, arc_ends, border_count, zone_count};
 ghost use Rattle.zone_graph.specs.Grid.{IsGrid, JoinsZones, arc_between, name_of, neighbours_of, number_of_zone};
-ghost use Rattle.zone_graph.specs.GridFault.{grid_fault};
+ghost use Rattle.zone_graph.specs.GridFault.{fault_text, grid_fault};
 
 use crate::grid_parts::{
     arc_to, has_border_again, has_border_to_itself, neighbour_rows, zone_numbers,
@@ -177,15 +177,17 @@ impl Grid {
 }
 
 impl fmt::Display for GridFault {
+    ghost output = { λ fault. Some (fault_text fault) };
+
     fn fmt<W: fmt::Write>(&self, f: &mut fmt::Formatter<W>) -> fmt::Result {
-        match self {
-            GridFault::TooManyZones => write!(f, "more than 64 zones"),
-            GridFault::ZoneTwice => write!(f, "two zones of the same name"),
-            GridFault::TooManyBorders => write!(f, "more than 128 borders"),
-            GridFault::SelfBorder => write!(f, "a border of a zone with itself"),
-            GridFault::BorderTwice => write!(f, "two borders between the same zones"),
-            GridFault::NoMemory => write!(f, "{NoMemory}"),
-        }
+        f.write_str(match self {
+            GridFault::TooManyZones => "more than 64 zones",
+            GridFault::ZoneTwice => "two zones of the same name",
+            GridFault::TooManyBorders => "more than 128 borders",
+            GridFault::SelfBorder => "a border of a zone with itself",
+            GridFault::BorderTwice => "two borders between the same zones",
+            GridFault::NoMemory => "no memory",
+        })
     }
 }
 

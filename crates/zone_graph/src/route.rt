@@ -1,5 +1,8 @@
 //! Zones, borders and routes by their numbers.
 
+ghost use Rattle.std.specs.Prelude.{◌≡◌};
+ghost use Rattle.zone_graph.specs.Pour.{opposite_arc};
+
 use crate::memory::{Duplicate, NoMemory};
 use crate::sequence::Sequence;
 
@@ -17,6 +20,18 @@ pub struct Arc {
     pub border: u32,
     /// Whether the arc goes from the border's first declared zone to its second.
     pub forward: bool,
+}
+
+impl Arc {
+    /// The arc over the same border in the other direction.
+    pub fn opposite(self) -> Arc
+        ensures { result ≡ opposite_arc self }
+    {
+        Arc {
+            border: self.border,
+            forward: !self.forward,
+        }
+    }
 }
 
 /// A way from one zone to another, as the arcs that it uses in order. Energy takes it from the

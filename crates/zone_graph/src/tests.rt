@@ -153,6 +153,17 @@ fn each_arc_has_a_room_of_its_own(rt: HostRuntime) -> Result<(), Fail> {
     Ok(())
 }
 
+#[test]
+fn an_arc_goes_back_over_its_border_and_a_fault_is_said_in_words(
+    rt: HostRuntime,
+) -> Result<(), Fail> {
+    assert_eq!(rt; over(2, true).opposite(), over(2, false));
+    assert_eq!(rt; over(2, false).opposite(), over(2, true));
+    let said = format!(in rt.alloc(); "{}; {}", GridFault::ZoneTwice, GridFault::NoMemory)?;
+    assert_eq!(rt; said.as_str(), "two zones of the same name; no memory");
+    Ok(())
+}
+
 // Of two routes as short, the one over the lesser borders is best, and without room on one of its
 // borders the other one is; energy goes back over the same borders.
 fn best_routes()
