@@ -6,6 +6,7 @@ pub mod DeepLaws
 pub mod Entering
 pub mod Grid
 pub mod History
+pub mod HourSet
 pub mod Lines
 pub mod Market
 pub mod Naming

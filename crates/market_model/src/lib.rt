@@ -6,15 +6,20 @@
 #![tactic(auto)]
 
 mod command;
+mod early_rules;
 mod entry;
 mod event;
+mod hours;
 mod refusal;
 mod reply;
 mod setup;
+mod touched_hours;
 
 pub use command::{Command, Commands, Orders};
+pub use early_rules::refuse_early;
 pub use entry::{Entries, Entry};
 pub use event::{Event, Events, Leg};
+pub use hours::Hours;
 pub use order_kinds::{
     BlockOrder, Contract, Kind, Lots, Order, OrderFault, OrderName, Part, Phase, Price, Quarter,
     Side, check_block, check_order,
@@ -22,9 +27,12 @@ pub use order_kinds::{
 pub use refusal::Refusal;
 pub use reply::{Reply, Rows, ViewRow};
 pub use setup::{Caller, Callers, Role, Setup};
+pub use touched_hours::touches;
 pub use zone_graph::{
     Arc, Duplicate, Legs, Names, NoMemory, Pairs, Route, RouteLeg, Sequence, Text, Word, Zones,
 };
 
+#[cfg(test)]
+mod early_tests;
 #[cfg(test)]
 mod tests;

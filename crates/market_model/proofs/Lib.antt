@@ -1,0 +1,2 @@
+pub mod EarlyRules
+pub mod HourSets
