@@ -27,15 +27,8 @@ use Rattle.market_model.specs.Orders.{left, next_name}
 use Rattle.market_model.specs.Refusals.{refusal_of_command}
 use Rattle.market_model.specs.Rules.{parts_named}
 use Rattle.market_model.specs.Sweep.{sweep, sweeps}
+use Rattle.half_hours.specs.Halves.{AreHalfless, IsHalfless}
 use Rattle.history_bounds.proofs.Quiet.{AreQuiet, IsQuiet, at_arc-quiet, gate-quiet, legs_with-quiet, match_blocks-quiet, rest-quiet, sweep-quiet, sweeps-quiet, take-quiet, then-quiet}
-
--- no order of a half hour enters by an event
-abbrev pub IsHalfless : Event → Type 0
-IsHalfless (event.Entered name caller order) = is_half order.contract.part ≡ false
-IsHalfless _ = Unit {0}
-
-abbrev pub AreHalfless : List Event → Type 0
-AreHalfless events = (e : Event) → IsIn e events → IsHalfless e
 
 pub halfless-append : (xs ys : List Event) → AreHalfless xs → AreHalfless ys → AreHalfless (xs ++ ys)
 halfless-append xs ys a b e h = elim (IsIn-append e xs ys h) [ inl i ↦ a e i | inr i ↦ b e i ]

@@ -39,7 +39,8 @@ use Rattle.market_laws.proofs.Journals.{journal_events-more}
 use Rattle.market_laws.proofs.Members.{from_filter_map}
 use Rattle.market_laws.proofs.Trades.{from_line}
 use Rattle.history_bounds.proofs.Quiet.{deals_of-quiet, gate_before_sweep, gate_before_sweep-quiet, sweep-quiet}
-use Rattle.half_hours.proofs.Halfless.{AreHalfless, IsHalfless, before_sweep, before_sweep-halfless, block_before_sweeps, block_before_sweeps-halfless, enter-halfless, halfless-append, halfless-one, orders-halfless, reply-halfless, quiet-halfless}
+use Rattle.half_hours.specs.Halves.{AreHalfless, IsHalfless}
+use Rattle.half_hours.proofs.Halfless.{before_sweep, before_sweep-halfless, block_before_sweeps, block_before_sweeps-halfless, enter-halfless, halfless-append, halfless-one, orders-halfless, reply-halfless, quiet-halfless}
 
 -- an order that entered is of no half hour
 placed-halfless : (events : List Event) → AreHalfless events → (order : Placed) → IsIn order (placed events) → is_half order.order.contract.part ≡ false
@@ -195,7 +196,8 @@ answer-same setup events caller (command.Halt from to first last) are none = ap 
 answer-same setup events caller (command.Resume from to first last) are none = ap reply.Done (done-same setup events caller (command.Resume from to first last) are none)
 answer-same setup events caller (command.Gate hour asked) are none = ap reply.Done (done-same setup events caller (command.Gate hour asked) are none)
 
-reply-same : (setup : Setup) (events : List Event) (caller : ℕ) (given : Command) → AreHalfless events → list_any is_half (parts_named given) ≡ false
+-- the reply to a command that names no half hour is the same without them
+pub reply-same : (setup : Setup) (events : List Event) (caller : ℕ) (given : Command) → AreHalfless events → list_any is_half (parts_named given) ≡ false
     → reply_by all_parts setup events caller given ≡ reply_by parts_without_halves setup events caller given
 unfolding reply_by
 reply-same setup events caller given are none =

@@ -3,4 +3,4 @@
 
 mod halves;
 
-pub use halves::halves_change_nothing_else;
+pub use halves::{halves_change_no_other_reply, halves_change_nothing_else, replies_stay_halfless};

@@ -17,7 +17,6 @@ use Rattle.zone_graph.specs.Route.{IsIn}
 use Rattle.zone_graph.proofs.Membership.{IsIn-map, IsIn-right}
 use Rattle.market_model.specs.declared.command.Command.{Command}
 use Rattle.market_model.specs.declared.command.Command.TheVariants as command
-use Rattle.market_model.specs.declared.entry.Entry.{Entry}
 use Rattle.market_model.specs.declared.event.Event.{Event}
 use Rattle.market_model.specs.declared.event.Event.TheVariants as event
 use Rattle.market_model.specs.declared.refusal.Refusal.{Refusal}
@@ -27,7 +26,7 @@ use Rattle.market_model.specs.Blocks.{StandingBlock, enter_block, entering_block
 use Rattle.market_model.specs.Entering.{after_taking, enter, enter_all, legs_taken, name_of_next, rest_of, rest_withdrawn, with_order}
 use Rattle.market_model.specs.Grid.{graph_of}
 use Rattle.market_model.specs.History.{and_then, events_of, journal_events, of_hour, touches}
-use Rattle.market_model.specs.Market.{Turn, answer, entry_of, events_done, refused_or, reply_by, run_after, run_by}
+use Rattle.market_model.specs.Market.{Turn, answer, events_done, refused_or, reply_by, run_by}
 use Rattle.market_model.specs.Orders.{PlacedBlock, block_placed_by, is_open, left, next_name, open_names}
 use Rattle.market_model.specs.Refusals.{basket_order_refusal, block_desk_refusal, can_rest, desk_room, has_desk_room, is_filled, order_desk_refusal, refusal_of_command}
 use Rattle.market_model.specs.Certificate.{bound_of, unfilled_zones}
@@ -38,7 +37,7 @@ use Rattle.market_laws.proofs.Admitted.{IsAdmitted, refusal-none, unless-none}
 use Rattle.market_laws.proofs.BlockDeals.{IsOpenNow, block_partner-is}
 use Rattle.market_laws.proofs.BlockEntries.{partner_legs-close}
 use Rattle.market_laws.proofs.Growing.{fit-back, fit-front}
-use Rattle.market_laws.proofs.Journals.{journal_events-more}
+use Rattle.market_laws.proofs.Journals.{run-keeps}
 use Rattle.market_laws.proofs.Members.{first_answer-none, IsIn-filter_map}
 use Rattle.market_laws.proofs.Replies.{reply-history}
 use Rattle.market_laws.proofs.Soundness.{block_fault-none, lots_in_range-bounds}
@@ -360,7 +359,8 @@ module _ (setup : Setup) (is_setup : IsMarketSetup setup) where
   few-answer parts events caller (command.Resume from to first last) history may fit few = few-done parts events caller (command.Resume from to first last) history may fit few
   few-answer parts events caller (command.Gate hour asked) history may fit few = few-done parts events caller (command.Gate hour asked) history may fit few
 
-  few-reply : (parts : List Part) (events : List Event) (caller : ℕ) (given : Command) → IsHistory setup events → AreFew events
+  -- a reply leaves few open where few were
+  pub few-reply : (parts : List Part) (events : List Event) (caller : ℕ) (given : Command) → IsHistory setup events → AreFew events
       → AreFew (events ++ events_of (reply_by parts setup events caller given))
   unfolding reply_by
   few-reply parts events caller given history few =
@@ -374,17 +374,6 @@ module _ (setup : Setup) (is_setup : IsMarketSetup setup) where
 
   -- ---- journals
 
-  few-after : (parts : List Part) (turns : List Turn) (before : List Entry) → IsHistory setup (journal_events before) → AreFew (journal_events before)
-      → AreFew (journal_events (before ++ run_after parts setup before turns))
-  unfolding run_after
-  few-after parts [] before history few = subst (λ es. AreFew (journal_events es)) (sym (append-nil before)) few
-  few-after parts (turn ∷ turns) before history few =
-      let entry : Entry = entry_of parts setup before turn in
-      let more = sym (journal_events-more before entry) in
-      let next = subst (IsHistory setup) more (reply-history setup is_setup parts (journal_events before) turn.caller history turn.command) in
-      let own = subst AreFew more (few-reply parts (journal_events before) turn.caller turn.command history few) in
-      subst (λ es. AreFew (journal_events es)) (append_assoc before (entry ∷ []) (run_after parts setup (before ++ entry ∷ []) turns))
-      (few-after parts turns (before ++ entry ∷ []) next own)
-
   pub few-open : (parts : List Part) (turns : List Turn) → AreFew (journal_events (run_by parts setup turns))
-  few-open parts turns = few-after parts turns [] (record { fit = tt; whole = λ block h opened. absurd h }) (λ hour. omega arith)
+  few-open parts turns = run-keeps setup is_setup parts AreFew
+      (λ events caller given history few. few-reply parts events caller given history few) (λ hour. omega arith) turns

@@ -43,6 +43,12 @@ abbrev pub FewAreOpen : Type 0
 FewAreOpen = (setup : Setup) (parts : List Part) (turns : List Turn) (hour : ℕ) → IsMarketSetup setup
     → length (open_names (journal_events (run_by parts setup turns)) hour) ≤ desk_room
 
+-- a reply after a well-formed history leaves at most 4096 open by each hour, where no more were
+abbrev pub RepliesLeaveFewOpen : Type 0
+RepliesLeaveFewOpen = (setup : Setup) (parts : List Part) (events : List Event) (caller : ℕ) (given : Command) → IsMarketSetup setup → IsHistory setup events
+    → ((hour : ℕ) → length (open_names events hour) ≤ desk_room)
+    → (hour : ℕ) → length (open_names (events ++ events_of (reply_by parts setup events caller given)) hour) ≤ desk_room
+
 -- the events of an hour after a reply are those before it and the reply's events of that hour
 abbrev pub HoursGoOnAlone : Type 0
 HoursGoOnAlone = (setup : Setup) (parts : List Part) (events : List Event) (caller : ℕ) (given : Command) (hour : ℕ)

@@ -1,7 +1,7 @@
 //! What bounds every well-formed history.
 
 ghost use Rattle.history_bounds.specs.Bounds.{CapacityAddsUp, FewAreOpen, HoursGoOnAlone, LittleIsLeft};
-ghost use Rattle.history_bounds.specs.Bounds.{MomentsDiffer, PricesStayInRange, TradesAndWithdrawalsAloneClose};
+ghost use Rattle.history_bounds.specs.Bounds.{MomentsDiffer, PricesStayInRange, RepliesLeaveFewOpen, TradesAndWithdrawalsAloneClose};
 
 /// What is left of an order or block is at most 9990 lots, 999.0 MW.
 pub fn little_is_left()
@@ -24,6 +24,12 @@ pub fn moments_differ()
 /// at an allowed price.
 pub fn prices_stay_in_range()
     ensures { PricesStayInRange }
+{}
+
+/// A reply after a well-formed history leaves at most 4096 orders and blocks open that are named by
+/// an hour, where no more were.
+pub fn replies_leave_few_open()
+    ensures { RepliesLeaveFewOpen }
 {}
 
 /// After every entry of a journal at most 4096 orders and blocks are open that are named by an hour.

@@ -6,5 +6,5 @@ mod bounds;
 
 pub use bounds::{
     capacity_adds_up, few_are_open, hours_go_on_alone, little_is_left, moments_differ,
-    prices_stay_in_range, trades_and_withdrawals_alone_close,
+    prices_stay_in_range, replies_leave_few_open, trades_and_withdrawals_alone_close,
 };

@@ -22,6 +22,7 @@ pub mod Soundness
 pub mod States
 pub mod Table
 pub mod Tests
+pub mod Told
 pub mod Trades
 pub mod Unique
 pub mod Uses

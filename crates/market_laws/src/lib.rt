@@ -8,7 +8,10 @@ mod histories;
 mod refusals;
 mod repetitions;
 
-pub use capacity::{capacity_remains, nothing_is_oversold};
+pub use capacity::{
+    capacity_remains, nothing_is_oversold, offers_cover_the_flow, replies_leave_capacity,
+    replies_oversell_nothing,
+};
 pub use histories::{
     block_legs_lower_both, journals_are_histories, legs_lower_both, names_are_given_once,
     nothing_falls_below_zero, orders_show_what_is_left, replies_keep_histories,

@@ -3,4 +3,6 @@
 
 mod locality;
 
-pub use locality::{events_stay_in_their_hours, replies_are_local};
+pub use locality::{
+    events_stay_in_their_hours, replies_are_local, replies_stay_within, touched_hours_decide,
+};

@@ -1,6 +1,19 @@
 //! What a reply depends on.
 
+ghost use Rattle.market_locality.specs.Locality.{RepliesStayWithin, TouchedHoursDecide};
 ghost use Rattle.market_model.specs.DeepLaws.{EventsStayInTheirHours, RepliesAreLocal};
+
+/// Two well-formed histories with the same events of the hours that a command touches, in order,
+/// give it the same reply.
+pub fn touched_hours_decide()
+    ensures { TouchedHoursDecide }
+{}
+
+/// After a well-formed history no event of the reply to a command touches an hour that the command
+/// does not.
+pub fn replies_stay_within()
+    ensures { RepliesStayWithin }
+{}
 
 /// The reply to a command depends on the events of the hours that it touches alone: it is the same
 /// after two journals whose events of these hours are the same.

@@ -11,7 +11,6 @@ use Rattle.zone_graph.specs.Route.{IsIn, has}
 use Rattle.zone_graph.proofs.Membership.{has-IsIn, IsIn-has}
 use Rattle.market_model.specs.declared.command.Command.{Command}
 use Rattle.market_model.specs.declared.command.Command.TheVariants as command
-use Rattle.market_model.specs.declared.entry.Entry.{Entry}
 use Rattle.market_model.specs.declared.event.Event.{Event}
 use Rattle.market_model.specs.declared.event.Event.TheVariants as event
 use Rattle.market_model.specs.declared.refusal.Refusal.{Refusal}
@@ -20,14 +19,14 @@ use Rattle.market_model.specs.Blocks.{block_deals, entering_block, enter_block, 
 use Rattle.market_model.specs.Entering.{enter, enter_all, legs_taken, name_of_next, rest_of, rest_withdrawn}
 use Rattle.market_model.specs.Grid.{graph_of}
 use Rattle.market_model.specs.History.{events_of, journal_events}
-use Rattle.market_model.specs.Market.{Turn, answer, entry_of, events_done, on_arc, refused_or, reply_by, run_after, run_by, withdrawals}
+use Rattle.market_model.specs.Market.{Turn, answer, events_done, on_arc, refused_or, reply_by, run_by, withdrawals}
 use Rattle.market_model.specs.Orders.{left, next_name}
 use Rattle.market_model.specs.Refusals.{refusal_of_command}
 use Rattle.market_model.specs.Rules.{hours_concerned, naming_refusal, touched_hours}
 use Rattle.market_model.specs.Sweep.{all_parts, sweep, sweeps}
 use Rattle.market_model.specs.WellFormed.{FitAfter, IsHistory, IsMarketSetup}
 use Rattle.market_laws.proofs.Growing.{fit-front}
-use Rattle.market_laws.proofs.Journals.{journal_events-more}
+use Rattle.market_laws.proofs.Journals.{run-keeps}
 use Rattle.market_laws.proofs.Replies.{reply-history}
 use Rattle.market_locality.proofs.Named.{AreNamedByHour, history-named}
 use Rattle.market_locality.proofs.Within.{enter-within, reply-within, sweep-within}
@@ -203,7 +202,7 @@ module _ (setup : Setup) (is_setup : IsMarketSetup setup) where
   by_refusal events caller given hour was h None fit = answer-uncrossed events caller given fit hour was h
 
   -- every reply leaves an hour uncrossed that was
-  reply-uncrossed : (events : List Event) (caller : ℕ) (given : Command) → IsHistory setup events → (hour : ℕ) → IsUncrossed graph hour events
+  pub reply-uncrossed : (events : List Event) (caller : ℕ) (given : Command) → IsHistory setup events → (hour : ℕ) → IsUncrossed graph hour events
       → IsUncrossed graph hour (events ++ events_of (reply_by all_parts setup events caller given))
   unfolding reply_by
   reply-uncrossed events caller given history hour was =
@@ -226,19 +225,8 @@ module _ (setup : Setup) (is_setup : IsMarketSetup setup) where
       touched : IsIn hour (touched_hours setup caller given) → IsUncrossed graph hour after
       touched h = by_refusal events caller given hour was (concerned (naming_refusal setup caller given) refl h) (refusal_of_command setup events caller given) fit
 
-  run_after-uncrossed : (turns : List Turn) (before : List Entry) → IsHistory setup (journal_events before) → (hour : ℕ) → IsUncrossed graph hour (journal_events before)
-      → IsUncrossed graph hour (journal_events (before ++ run_after all_parts setup before turns))
-  unfolding run_after
-  run_after-uncrossed [] before history hour was = subst (λ es. IsUncrossed graph hour (journal_events es)) (sym (append-nil before)) was
-  run_after-uncrossed (turn ∷ turns) before history hour was =
-      let entry : Entry = entry_of all_parts setup before turn in
-      let more = sym (journal_events-more before entry) in
-      let next = subst (IsHistory setup) more (reply-history setup is_setup all_parts (journal_events before) turn.caller history turn.command) in
-      let own = subst (IsUncrossed graph hour) more (reply-uncrossed (journal_events before) turn.caller turn.command history hour was) in
-      subst (λ es. IsUncrossed graph hour (journal_events es)) (append_assoc before (entry ∷ []) (run_after all_parts setup (before ++ entry ∷ []) turns))
-      (run_after-uncrossed turns (before ++ entry ∷ []) next hour own)
-
   -- after every entry of a journal every hour is uncrossed
   pub run-uncrossed : (turns : List Turn) → (hour : ℕ) → IsUncrossed graph hour (journal_events (run_by all_parts setup turns))
-  run-uncrossed turns hour =
-      run_after-uncrossed turns [] (record { fit = tt; whole = λ block h opened. absurd h }) hour (λ buy sell buy_open sell_open in_hour same on_buy on_sell. absurd buy_open.is_placed)
+  run-uncrossed turns hour = run-keeps setup is_setup all_parts (IsUncrossed graph hour)
+      (λ events caller given history was. reply-uncrossed events caller given history hour was)
+      (λ buy sell buy_open sell_open in_hour same on_buy on_sell. absurd buy_open.is_placed) turns

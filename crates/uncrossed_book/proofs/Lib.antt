@@ -1,3 +1,4 @@
 pub mod Commands
 pub mod Swept
 pub mod Uncrossed
+pub mod Whole

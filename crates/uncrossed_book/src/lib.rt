@@ -3,4 +3,7 @@
 
 mod book;
 
-pub use book::nothing_is_left_to_trade;
+pub use book::{
+    nothing_is_left_to_trade, reductions_enable_no_trade, replies_keep_books_uncrossed,
+    withdrawals_enable_no_trade,
+};
