@@ -1,3 +1,4 @@
 pub mod FlowLemmas
 pub mod RoomLemmas
 pub mod RouteLemmas
+pub mod OneArc

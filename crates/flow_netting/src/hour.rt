@@ -88,6 +88,7 @@ impl HourFlows {
         requires last { number ≤ 4 }
         ensures value { result ≡ flows.flow_of self.now arc number }
         ensures most { result ≤ℤ pos (flows.offered_of self.now arc number) }
+        ensures greatest { result ≤ℤ pos 1000000 }
         ensures least { neg_ℤ (pos 1000000) ≤ℤ result }
     {
         self.borders.as_slice()[arc.border as usize]

@@ -1,14 +1,15 @@
 //! Sequences of commands in one hour, with the numbers that the market's rules give.
 
-ghost use Rattle.std.specs.Prelude.{◌≡◌, ◌&&◌, true, length, nat_lt};
+ghost use Rattle.std.specs.Prelude.{◌≡◌, ◌<◌, ◌&&◌, true, length, nat_lt, pos, ◌≤ℤ◌};
 ghost use Rattle.std.specs.List.{list_all};
+ghost use Rattle.flow_netting.specs.Flows.{border_count, remaining_of};
 
 use crate::{HourFlows, QuarterSet};
 use order_kinds::Phase;
 use quarter_capacity::BelowFlow;
 use std::alloc::Global;
 use std::test::Fail;
-use zone_graph::{Arc, Grid, GridFault, Names, Pairs, Rooms, Word};
+use zone_graph::{Arc, Grid, GridFault, Names, Pairs, Rooms, Route, Word};
 
 const HOUR: QuarterSet = QuarterSet(15);
 
@@ -103,5 +104,56 @@ fn halted_borders_and_local_hours_have_no_room(rt: HostRuntime) -> Result<(), Fa
     assert!(rt; copy.halted(0));
     assert_eq!(rt; copy.phase(), Phase::Open);
     assert_eq!(rt; copy.remaining(over(true), 4), 70);
+    Ok(())
+}
+
+// Whether so many lots remain on an arc in each quarter of the hour.
+fn remain(flows: &HourFlows, arc: Arc, lots: u32) -> bool
+    requires { arc.border < border_count flows.now }
+    ensures first { result ≡ true → pos lots ≤ℤ remaining_of flows.now arc 1 }
+    ensures second { result ≡ true → pos lots ≤ℤ remaining_of flows.now arc 2 }
+    ensures third { result ≡ true → pos lots ≤ℤ remaining_of flows.now arc 3 }
+    ensures fourth { result ≡ true → pos lots ≤ℤ remaining_of flows.now arc 4 }
+{
+    lots <= flows.remaining(arc, 1)
+        && lots <= flows.remaining(arc, 2)
+        && lots <= flows.remaining(arc, 3)
+        && lots <= flows.remaining(arc, 4)
+}
+
+// Carries lots over one arc in each quarter of the hour, where they remain there.
+#[tactic(auto, using(crate::proofs::OneArc::one_arc_left))]
+fn carry_over(alloc: Global, flows: &mut HourFlows, arc: Arc, lots: u32) -> Result<bool, Fail>
+    requires { arc.border < border_count flows.old }
+    ensures { border_count flows.new ≡ border_count flows.old }
+{
+    if !remain(flows, arc, lots) {
+        return Ok(false);
+    }
+    let mut route = Route::new(alloc);
+    route.push(arc)?;
+    flows.carry(&route, HOUR, lots);
+    Ok(true)
+}
+
+#[test]
+fn what_flows_one_way_remains_the_other_way(rt: HostRuntime) -> Result<(), Fail> {
+    let alloc = rt.alloc();
+    let grid = two_zones(alloc)?;
+    assert_eq!(rt; grid.borders(), 1);
+    let mut flows = HourFlows::new(alloc, &grid)?;
+    assert_eq!(rt; flows.offer(over(true), 1, 50), Ok(()));
+    assert_eq!(rt; flows.offer(over(true), 2, 50), Ok(()));
+    assert_eq!(rt; flows.offer(over(true), 3, 50), Ok(()));
+    assert_eq!(rt; flows.offer(over(true), 4, 50), Ok(()));
+    assert!(rt; !carry_over(alloc, &mut flows, over(false), 1)?);
+    assert!(rt; carry_over(alloc, &mut flows, over(true), 50)?);
+    assert_eq!(rt; flows.flow(over(true), 3), 50);
+    assert_eq!(rt; flows.flow(over(false), 3), -50);
+    assert_eq!(rt; flows.remaining(over(true), 3), 0);
+    assert_eq!(rt; flows.remaining(over(false), 3), 50);
+    assert!(rt; carry_over(alloc, &mut flows, over(false), 50)?);
+    assert_eq!(rt; flows.flow(over(true), 3), 0);
+    assert_eq!(rt; flows.remaining(over(true), 4), 50);
     Ok(())
 }

@@ -77,6 +77,7 @@ impl QuarterRow {
     pub fn flow(&self, forward: bool) -> i64
         ensures value { result ≡ rows.flow self.now forward }
         ensures most { result ≤ℤ pos (rows.offered self.now forward) }
+        ensures greatest { result ≤ℤ pos 1000000 }
         ensures least { neg_ℤ (pos 1000000) ≤ℤ result }
     {
         if forward {
