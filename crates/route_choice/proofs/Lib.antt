@@ -1,4 +1,4 @@
-pub mod Arcs
+pub mod Carrying
+pub mod Flows
 pub mod Nearer
-pub mod Nearest
-pub mod Searches
+pub mod Pours

@@ -8,8 +8,9 @@ use Rattle.zone_graph.specs.Graph.{Graph, HasZone, IsGraph, arcs_from, arcs_of, 
 use Rattle.zone_graph.specs.Grid.{IsGrid, neighbour_over, neighbours_of}
 use Rattle.zone_graph.specs.Route.{IsIn}
 use Rattle.zone_graph.proofs.Membership.{from_filter, from_flat_map, from_map, from_range}
-use Rattle.route_choice.specs.Distance.{AreDistances, AreKnown, IsLeastStep, distance_at, leads_nearer}
-use Rattle.route_choice.proofs.Arcs.{neighbour_at, neighbour_by, neighbour_in, neighbour_within}
+use Rattle.zone_search.specs.Distance.{AreDistances, IsLeastStep, distance_at}
+use Rattle.zone_search.proofs.Arcs.{neighbour_at, neighbour_by, neighbour_in, neighbour_within}
+use Rattle.route_choice.specs.Neighbours.{AreKnown, leads_nearer}
 
 -- the keys of a list do not fall
 abbrev pub IsAscending : {X : Type 0} → (X → ℕ) → List X → Type 0

@@ -1,1 +1,3 @@
-pub mod Distance
+pub mod Flow
+pub mod Neighbours
+pub mod Poured

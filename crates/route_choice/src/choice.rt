@@ -4,11 +4,12 @@ ghost use Rattle.std.specs.Prelude.{◌≡◌, ◌<◌, IfOk, find, length, nat_
 ghost use Rattle.zone_graph.specs.Graph.{HasZone, border_count};
 ghost use Rattle.zone_graph.specs.Rooms.{room_of};
 ghost use Rattle.zone_graph.specs.Route.{best_route as route_of};
-ghost use Rattle.route_choice.specs.Distance.{AreKnown, arcs_of_distance, leads_nearer};
+ghost use Rattle.zone_search.specs.Distance.{arcs_of_distance};
+ghost use Rattle.route_choice.specs.Neighbours.{AreKnown, leads_nearer};
 
-use crate::distances::distances_to;
 use std::alloc::Global;
 use zone_graph::{Grid, Neighbour, NoMemory, Rooms, Route};
+use zone_search::distances;
 
 /// The best route from a zone to a zone over arcs that have room: the one with the fewest arcs, and
 /// of several of these the one whose border numbers come first in lexicographical order. `None`
@@ -30,7 +31,7 @@ pub fn best_route(
 {
     let zones = grid.zones();
     prove!(from < zones);
-    let distances = distances_to(grid, rooms, to);
+    let distances = distances(grid, rooms, to, true);
     let Some(mut distance) = distances[from as usize] else {
         return Ok(None);
     };

@@ -2,9 +2,12 @@
 #![tactic(auto)]
 
 mod choice;
-mod distances;
+mod laws;
+mod pouring;
 
 pub use choice::best_route;
+pub use laws::no_flow_carries_more;
+pub use pouring::pour;
 
 #[cfg(test)]
 mod tests;

@@ -1,13 +1,17 @@
 //! Routes on small grids, and each call that takes memory once with ample memory.
 
-ghost use Rattle.std.specs.Prelude.{◌≡◌, ◌<◌, ◌≤◌, ◌&&◌, IfOk, true, length, nat_lt};
+ghost use Rattle.std.specs.Prelude.{◌≡◌, ◌<◌, ◌≤◌, ◌+◌, ◌^◌, ◌&&◌, IfOk, true, length, nat_lt};
 ghost use Rattle.std.specs.List.{list_all};
+ghost use Rattle.zone_graph.specs.declared.route.Arc.{Arc};
 ghost use Rattle.zone_graph.specs.Graph.{border_count, zone_count};
+ghost use Rattle.zone_graph.specs.Pour.{opposite_arc};
+ghost use Rattle.zone_graph.specs.Rooms.{room_of};
 
 use super::*;
+use cut_proof::reach;
 use std::alloc::Global;
 use std::test::Fail;
-use zone_graph::{Arc, Grid, Names, Pairs, Rooms, Word};
+use zone_graph::{Arc, Grid, Legs, Names, Pairs, Rooms, Route, RouteLeg, Word};
 
 // The grid of so many zones and these borders.
 fn grid_of(alloc: Global, zones: u8, pairs: &[(u32, u32)]) -> Result<Grid, Fail>
@@ -131,6 +135,21 @@ fn routes_of_a_ring_of_twelve_zones_with_eight_chords(rt: HostRuntime) -> Result
     Ok(())
 }
 
+// How many zones are reached towards a zone, or from it.
+fn count_reached(
+    alloc: Global,
+    grid: &Grid,
+    closed: &[Arc],
+    zone: u32,
+    towards: bool,
+) -> Result<usize, Fail> {
+    if zone >= grid.zones() {
+        return Err(Fail::from("no zone"));
+    }
+    let rooms = rooms_but(grid, closed)?;
+    Ok(reach(alloc, grid, &rooms, zone, towards)?.len())
+}
+
 #[test]
 fn a_route_through_a_grid_of_sixty_four_zones(rt: HostRuntime) -> Result<(), Fail> {
     let alloc = rt.alloc();
@@ -152,5 +171,127 @@ fn a_route_through_a_grid_of_sixty_four_zones(rt: HostRuntime) -> Result<(), Fai
         over(57, true),
     ];
     assert!(rt; is_best(alloc, &grid, &[], (0, 36), Some(want.as_slice()))?);
+    assert_eq!(rt; count_reached(alloc, &grid, &[], 36, true)?, 64);
+
+    // Over no arc into the first zone is it reached, yet it reaches all.
+    let closed = [
+        over(0, false),
+        over(1, false),
+        over(14, true),
+        over(113, true),
+    ];
+    assert_eq!(rt; count_reached(alloc, &grid, &closed, 0, true)?, 1);
+    assert_eq!(rt; count_reached(alloc, &grid, &closed, 0, false)?, 64);
+    Ok(())
+}
+
+// Gives an arc a room of few lots, where all have few.
+fn give(rooms: &mut Rooms, arc: Arc, room: u32)
+    requires arc { arc.border < length rooms.old }
+    requires room { room < 256 }
+    requires small { (other : Arc) → room_of rooms.old other < 256 }
+    ensures size { length rooms.new ≡ length rooms.old }
+    ensures small { (other : Arc) → room_of rooms.new other < 256 }
+    ensures fit { (other : Arc) → room_of rooms.new other + room_of rooms.new (opposite_arc other) < 2 ^ 32 }
+{
+    rooms.set(arc, room);
+}
+
+// Gives the two arcs of a border such rooms.
+fn give_both(rooms: &mut Rooms, border: u32, pair: (u8, u8))
+    requires border { border < length rooms.old }
+    requires small { (other : Arc) → room_of rooms.old other < 256 }
+    ensures size { length rooms.new ≡ length rooms.old }
+    ensures small { (other : Arc) → room_of rooms.new other < 256 }
+    ensures fit { (other : Arc) → room_of rooms.new other + room_of rooms.new (opposite_arc other) < 2 ^ 32 }
+{
+    give(rooms, over(border, true), u32::from(pair.0));
+    give(rooms, over(border, false), u32::from(pair.1));
+}
+
+// The rooms of the two arcs of a border.
+fn both(rooms: &Rooms, border: u32) -> (u32, u32)
+    requires { border < length rooms.now }
+{
+    (rooms.at(over(border, true)), rooms.at(over(border, false)))
+}
+
+// What is poured on a diamond of four zones with these rooms, and the rooms that are left.
+fn poured(
+    alloc: Global,
+    pairs: [(u8, u8); 4],
+    ends: (u32, u32),
+    most: u32,
+) -> Result<(Legs, [(u32, u32); 4]), Fail> {
+    let grid = grid_of(alloc, 4, &[(0, 1), (0, 2), (1, 3), (2, 3)])?;
+    let (from, to) = ends;
+    if grid.borders() != 4 || from >= grid.zones() || to >= grid.zones() {
+        return Err(Fail::from("no diamond"));
+    }
+    let mut rooms = Rooms::new(&grid)?;
+    give_both(&mut rooms, 0, pairs[0]);
+    give_both(&mut rooms, 1, pairs[1]);
+    give_both(&mut rooms, 2, pairs[2]);
+    give_both(&mut rooms, 3, pairs[3]);
+    let legs = pour(alloc, &grid, &mut rooms, from, to, most)?;
+    let left = [
+        both(&rooms, 0),
+        both(&rooms, 1),
+        both(&rooms, 2),
+        both(&rooms, 3),
+    ];
+    Ok((legs, left))
+}
+
+fn leg(alloc: Global, arcs: &[Arc], lots: u32) -> Result<RouteLeg, Fail> {
+    let route = Route::from(Vec::from_slice(alloc, arcs)?);
+    Ok(RouteLeg { route, lots })
+}
+
+#[test]
+fn a_pour_goes_over_one_route_after_another(rt: HostRuntime) -> Result<(), Fail> {
+    let alloc = rt.alloc();
+    let rooms = [(6, 0), (5, 1), (8, 0), (4, 3)];
+    let mut want = Legs::new(alloc);
+    want.push(leg(alloc, &[over(0, true), over(2, true)], 6)?)?;
+    want.push(leg(alloc, &[over(1, true), over(3, true)], 4)?)?;
+    let after = [(0, 6), (1, 5), (2, 6), (0, 7)];
+    for most in [10, 12, u32::MAX] {
+        let (legs, left) = poured(alloc, rooms, (0, 3), most)?;
+        assert_eq!(rt; legs, want);
+        assert_eq!(rt; left, after);
+    }
+    Ok(())
+}
+
+#[test]
+fn a_pour_of_a_part_leaves_the_rest_of_the_room(rt: HostRuntime) -> Result<(), Fail> {
+    let alloc = rt.alloc();
+    let rooms = [(6, 0), (5, 1), (8, 0), (4, 3)];
+    let (legs, left) = poured(alloc, rooms, (3, 0), 2)?;
+    let mut want = Legs::new(alloc);
+    want.push(leg(alloc, &[over(3, false), over(1, false)], 1)?)?;
+    assert_eq!(rt; legs, want);
+    assert_eq!(rt; left, [(6, 0), (6, 0), (8, 0), (5, 2)]);
+    Ok(())
+}
+
+#[test]
+fn a_pour_from_a_zone_to_itself_takes_no_room(rt: HostRuntime) -> Result<(), Fail> {
+    let alloc = rt.alloc();
+    let rooms = [(6, 0), (5, 1), (8, 0), (4, 3)];
+    let (legs, left) = poured(alloc, rooms, (1, 1), 9)?;
+    let mut want = Legs::new(alloc);
+    want.push(leg(alloc, &[], 9)?)?;
+    assert_eq!(rt; legs, want);
+    assert_eq!(rt; left, [(6, 0), (5, 1), (8, 0), (4, 3)]);
+    Ok(())
+}
+
+#[test]
+fn a_pour_of_nothing_has_no_leg(rt: HostRuntime) -> Result<(), Fail> {
+    let (legs, left) = poured(rt.alloc(), [(6, 0), (5, 1), (8, 0), (4, 3)], (0, 3), 0)?;
+    assert!(rt; legs.is_empty());
+    assert_eq!(rt; left, [(6, 0), (5, 1), (8, 0), (4, 3)]);
     Ok(())
 }

@@ -1,26 +1,27 @@
 use Rattle.std.proofs.Common.{◌∙◌, ◌++◌, ◌∷◌, [], find, sym, ap, subst, arith, append_assoc, append-nil}
 use Rattle.zone_graph.specs.Rooms.{room_of}
-use Rattle.route_choice.specs.Distance.{IsDescent, distance_at, leads_nearer}
+use Rattle.zone_search.specs.Distance.{IsDescent, distance_at}
+use Rattle.route_choice.specs.Neighbours.{leads_nearer}
 use Rattle.route_choice.proofs.Nearer.{IsNext, known_neighbours, next_found, none_next}
-use Rattle.route_choice.proofs.Nearest.{descent_is_best, no_route}
+use Rattle.zone_search.proofs.Nearest.{descent_is_best, no_route}
 use Rattle.route_choice.proofs.choice.best_route.Goals as goal
 
 pub returns-in_default : goal.returns-in_default
 returns-in_default c =
-    sym (no_route c.args.grid.now (room_of c.args.rooms.now) c.args.from c.args.to c.distances_to-distances.result
-    c.zones-zones.ensures.grid.is_graph c.distances_to-distances.ensures c.in_default.is)
+    sym (no_route c.args.grid.now (room_of c.args.rooms.now) c.args.from c.args.to c.distances-distances.result
+    c.zones-zones.ensures.grid.is_graph c.distances-distances.ensures c.in_default.is)
 
 pub nearer-requires-clause-known : goal.nearer-requires-clause-known
 nearer-requires-clause-known c =
-    known_neighbours c.args.grid.now c.loop-step.zone c.neighbours.result.now c.args.rooms.now c.distances_to-distances.result c.zones-zones.ensures.grid
-    c.neighbours.ensures.neighbours c.requires.size (omega (arith, c.distances_to-distances.ensures.places))
+    known_neighbours c.args.grid.now c.loop-step.zone c.neighbours.result.now c.args.rooms.now c.distances-distances.result c.zones-zones.ensures.grid
+    c.neighbours.ensures.neighbours c.requires.size (omega (arith, c.distances-distances.ensures.places))
 
 -- the zone that comes next
-next : (c : goal.In_ok-push) → IsNext c.args.grid.now (room_of c.args.rooms.now) c.distances_to-distances.result c.loop-step.zone c.in-Some-nearer.step
+next : (c : goal.In_ok-push) → IsNext c.args.grid.now (room_of c.args.rooms.now) c.distances-distances.result c.loop-step.zone c.in-Some-nearer.step
 next c =
-    next_found c.args.grid.now (room_of c.args.rooms.now) c.args.to c.distances_to-distances.result c.loop-step.zone c.loop-step.distance c.in-Some-nearer.step
-    c.zones-zones.ensures.grid.is_graph c.distances_to-distances.ensures c.loop-step.invariant.far
-    (ap (find (leads_nearer (room_of c.args.rooms.now) c.distances_to-distances.result c.loop-step.distance)) (sym c.neighbours.ensures.neighbours) ∙ sym c.in-Some-nearer.ensures)
+    next_found c.args.grid.now (room_of c.args.rooms.now) c.args.to c.distances-distances.result c.loop-step.zone c.loop-step.distance c.in-Some-nearer.step
+    c.zones-zones.ensures.grid.is_graph c.distances-distances.ensures c.loop-step.invariant.far
+    (ap (find (leads_nearer (room_of c.args.rooms.now) c.distances-distances.result c.loop-step.distance)) (sym c.neighbours.ensures.neighbours) ∙ sym c.in-Some-nearer.ensures)
 
 pub overflow_sub-distance : goal.overflow_sub-distance
 overflow_sub-distance c = omega (arith, (next c).step.falls, c.loop-step.invariant.far)
@@ -30,24 +31,24 @@ loop-step-smaller c = omega (arith, (next c).step.falls, c.loop-step.invariant.f
 
 pub loop-step-preserved : goal.loop-step-preserved
 loop-step-preserved c =
-    let after : IsNext c.args.grid.now (room_of c.args.rooms.now) c.distances_to-distances.result c.loop-step.zone c.in-Some-nearer.step = next c in
+    let after : IsNext c.args.grid.now (room_of c.args.rooms.now) c.distances-distances.result c.loop-step.zone c.in-Some-nearer.step = next c in
     record {
       there = after.there;
-      far = omega (arith, after.step.falls, ap (distance_at c.distances_to-distances.result) after.end, c.loop-step.invariant.far);
+      far = omega (arith, after.step.falls, ap (distance_at c.distances-distances.result) after.end, c.loop-step.invariant.far);
       short = omega (arith, c.loop-step.invariant.short);
       onward = λ rest descent.
-          subst (λ arcs. IsDescent c.args.grid.now (room_of c.args.rooms.now) c.distances_to-distances.result c.args.from arcs)
+          subst (λ arcs. IsDescent c.args.grid.now (room_of c.args.rooms.now) c.distances-distances.result c.args.from arcs)
           (sym (append_assoc c.loop-step.route (c.in-Some-nearer.step.arc ∷ []) rest) ∙ ap (λ arcs. arcs ++ rest) (sym c.in_ok-push.ensures.ok))
           (c.loop-step.invariant.onward (c.in-Some-nearer.step.arc ∷ rest)
-          (after.step, subst (λ z. IsDescent c.args.grid.now (room_of c.args.rooms.now) c.distances_to-distances.result z rest) (sym after.end) descent));
+          (after.step, subst (λ z. IsDescent c.args.grid.now (room_of c.args.rooms.now) c.distances-distances.result z rest) (sym after.end) descent));
     }
 
 pub returns : goal.returns
 returns c =
-    let none = ap (find (leads_nearer (room_of c.args.rooms.now) c.distances_to-distances.result c.loop-step.distance)) (sym c.neighbours.ensures.neighbours) ∙ sym c.nearer.ensures ∙ c.in_default-nearer.is in
-    let home = none_next c.args.grid.now (room_of c.args.rooms.now) c.args.to c.distances_to-distances.result c.loop-step.zone c.loop-step.distance
-    c.distances_to-distances.ensures c.loop-step.invariant.far c.loop-step.invariant.short none in
-    let descent = subst (λ arcs. IsDescent c.args.grid.now (room_of c.args.rooms.now) c.distances_to-distances.result c.args.from arcs) (append-nil c.loop-step.route)
+    let none = ap (find (leads_nearer (room_of c.args.rooms.now) c.distances-distances.result c.loop-step.distance)) (sym c.neighbours.ensures.neighbours) ∙ sym c.nearer.ensures ∙ c.in_default-nearer.is in
+    let home = none_next c.args.grid.now (room_of c.args.rooms.now) c.args.to c.distances-distances.result c.loop-step.zone c.loop-step.distance
+    c.distances-distances.ensures c.loop-step.invariant.far c.loop-step.invariant.short none in
+    let descent = subst (λ arcs. IsDescent c.args.grid.now (room_of c.args.rooms.now) c.distances-distances.result c.args.from arcs) (append-nil c.loop-step.route)
     (c.loop-step.invariant.onward [] home) in
-    sym (descent_is_best c.args.grid.now (room_of c.args.rooms.now) c.args.from c.args.to c.distances_to-distances.result c.loop-step.route
-    c.zones-zones.ensures.grid.is_graph c.distances_to-distances.ensures descent)
+    sym (descent_is_best c.args.grid.now (room_of c.args.rooms.now) c.args.from c.args.to c.distances-distances.result c.loop-step.route
+    c.zones-zones.ensures.grid.is_graph c.distances-distances.ensures descent)

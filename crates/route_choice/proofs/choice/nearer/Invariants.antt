@@ -1,6 +1,6 @@
 use Rattle.std.proofs.Common.{◌≡◌, drop, find}
 use Rattle.zone_graph.specs.Rooms.{room_of}
-use Rattle.route_choice.specs.Distance.{leads_nearer}
+use Rattle.route_choice.specs.Neighbours.{leads_nearer}
 use Rattle.route_choice.proofs.choice.nearer.Given as goal
 
 -- none of the neighbours so far leads nearer

@@ -1,0 +1,8 @@
+pub mod ArcSums
+pub mod Arcs
+pub mod Bounds
+pub mod Crossing
+pub mod ReachLaws
+pub mod Reaching
+pub mod Ways
+pub mod ZoneSets

@@ -1,0 +1,44 @@
+-- What a pour leaves of the rooms, and that it carries as much as they allow.
+use Rattle.std.specs.Prelude.{◌≡◌, ◌≢◌, ℕ, ◌+◌, ◌<◌, ◌≤◌, ◌^◌, ◌⊎◌, false, List, [], ◌∷◌, fold, sum_by, take}
+use Rattle.zone_graph.specs.declared.route.Arc.{Arc}
+use Rattle.zone_graph.specs.declared.route.RouteLeg.{RouteLeg}
+use Rattle.zone_graph.specs.Graph.{Graph, HasArc}
+use Rattle.zone_graph.specs.Pour.{opposite_arc, room_after}
+use Rattle.zone_graph.specs.Reach.{entering_room, zones_towards}
+use Rattle.zone_graph.specs.Route.{IsIn, has}
+
+-- the rooms after legs, in their order
+abbrev pub rooms_after : (Arc → ℕ) → List RouteLeg → Arc → ℕ
+rooms_after room legs = fold room_after room legs
+
+-- the lots of legs together
+abbrev pub lots_of : List RouteLeg → ℕ
+lots_of legs = sum_by (λ leg. leg.lots) legs
+
+-- the rooms of the two arcs of each border are less than 2^32 together
+abbrev pub FitTogether : Graph → (Arc → ℕ) → Type 0
+FitTogether graph room = (arc : Arc) → HasArc graph arc → room arc + room (opposite_arc arc) < 2 ^ 32
+
+-- the rooms are those after legs
+abbrev pub AreRoomsAfter : (before after : Arc → ℕ) → List RouteLeg → Type 0
+AreRoomsAfter before after legs = (arc : Arc) → after arc ≡ rooms_after before legs arc
+
+-- the rooms are those after a first part of legs
+abbrev pub AreRoomsAfterSome : (before after : Arc → ℕ) → List RouteLeg → Type 0
+AreRoomsAfterSome before after legs = (count : ℕ) × AreRoomsAfter before after (take count legs)
+
+-- legs carry all lots; or the zone that they start from is outside the zones from which their end
+-- can still be reached, and they carry exactly what had room into these zones, so that nothing
+-- carries more
+abbrev pub CarryTheMost : Graph → (before after : Arc → ℕ) → (from to most : ℕ) → List RouteLeg → Type 0
+CarryTheMost graph before after from to most legs =
+    let zones = zones_towards graph after to in
+    (lots_of legs ≡ most) ⊎ ((lots_of legs ≡ entering_room graph before zones) × (has from zones ≡ false))
+
+-- lots can be carried over a route, arc by arc: over each arc there is room for them, the opposite
+-- room stays below 2^32, and no border stands twice
+abbrev pub CanCarry : (borders : ℕ) → (Arc → ℕ) → (lots : ℕ) → List Arc → Type 0
+CanCarry borders room lots [] = Unit {0}
+CanCarry borders room lots (arc ∷ arcs) =
+    (arc.border < borders) × (lots ≤ room arc) × (room (opposite_arc arc) + lots < 2 ^ 32)
+    × ((other : Arc) → IsIn other arcs → other.border ≢ arc.border) × CanCarry borders room lots arcs

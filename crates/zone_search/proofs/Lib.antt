@@ -1,0 +1,4 @@
+pub mod Arcs
+pub mod Nearest
+pub mod Reached
+pub mod Searches
