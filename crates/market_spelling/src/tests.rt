@@ -42,63 +42,66 @@ fn numbers_are_exact(rt: HostRuntime) {
     assert_eq!(rt; read_cents(b"-0.05"), None);
 }
 
+// Contracts, each with its hour and part.
+const CONTRACTS: [(&[u8], u32, Part); 8] = [
+    (b"h1", 1, Part::Hour),
+    (b"h01", 1, Part::Hour),
+    (b"h0", 0, Part::Hour),
+    (b"h99", 99, Part::Hour),
+    (b"h01q1", 1, Part::Quarter(1)),
+    (b"h12q0", 12, Part::Quarter(0)),
+    (b"h12q9", 12, Part::Quarter(9)),
+    (b"h12f0", 12, Part::Half(0)),
+];
+
+// Words that are no contracts.
+const NO_CONTRACTS: [&[u8]; 9] = [
+    b"h", b"h123", b"12", b"H1", b"h1q", b"h1q12", b"h1x1", b"hq1", b"h-1",
+];
+
+// Words that are no quarters.
+const NO_QUARTERS: [&[u8]; 4] = [b"h12", b"h12f1", b"h12q", b"q1"];
+
+// Names of orders, each with its hour and number.
+const ORDER_NAMES: [(&[u8], u32, u32); 3] = [
+    (b"h1#01", 1, 1),
+    (b"h12#0", 12, 0),
+    (b"h24#999999999", 24, 999999999),
+];
+
+// Words that are no names of orders.
+const NO_ORDER_NAMES: [&[u8]; 6] = [b"h1#", b"h1#1234567890", b"#1", b"h1", b"h1##1", b"h1#1#1"];
+
 #[test]
-fn hours_and_names_are_exact(rt: HostRuntime) {
-    for (word, hour, part) in [
-        (b"h1".as_slice(), 1, Part::Hour),
-        (b"h01", 1, Part::Hour),
-        (b"h99", 99, Part::Hour),
-        (b"h01q1", 1, Part::Quarter(1)),
-        (b"h12q9", 12, Part::Quarter(9)),
-        (b"h12f0", 12, Part::Half(0)),
-    ] {
-        assert_eq!(rt;
-            read_contract(word),
-            Some(Contract { hour, part }),
-            "{word:?}"
-        );
+fn contracts_are_exact(rt: HostRuntime) {
+    for (word, hour, part) in CONTRACTS {
+        let contract = Some(Contract { hour, part });
+        assert_eq!(rt; read_contract(word), contract, "{word:?}");
     }
-    for word in [
-        b"h".as_slice(),
-        b"h123",
-        b"12",
-        b"H1",
-        b"h1q",
-        b"h1q12",
-        b"h1x1",
-        b"hq1",
-    ] {
+    for word in NO_CONTRACTS {
         assert_eq!(rt; read_contract(word), None, "{word:?}");
     }
-    assert_eq!(rt;
-        read_quarter(b"h12q0"),
-        Some(Quarter {
-            hour: 12,
-            number: 0
-        })
-    );
-    for word in [b"h12".as_slice(), b"h12f1", b"h12q", b"q1"] {
+}
+
+#[test]
+fn quarters_are_exact(rt: HostRuntime) {
+    let quarter = Some(Quarter {
+        hour: 12,
+        number: 0,
+    });
+    assert_eq!(rt; read_quarter(b"h12q0"), quarter);
+    for word in NO_QUARTERS {
         assert_eq!(rt; read_quarter(word), None, "{word:?}");
     }
-    for (word, hour, number) in [
-        (b"h1#01".as_slice(), 1, 1),
-        (b"h12#0", 12, 0),
-        (b"h24#999999999", 24, 999999999),
-    ] {
-        assert_eq!(rt;
-            read_order_name(word),
-            Some(OrderName { hour, number }),
-            "{word:?}"
-        );
+}
+
+#[test]
+fn names_of_orders_are_exact(rt: HostRuntime) {
+    for (word, hour, number) in ORDER_NAMES {
+        let name = Some(OrderName { hour, number });
+        assert_eq!(rt; read_order_name(word), name, "{word:?}");
     }
-    for word in [
-        b"h1#".as_slice(),
-        b"h1#1234567890",
-        b"#1",
-        b"h1",
-        b"h1##1",
-        b"h1#1#1",
-    ] {
+    for word in NO_ORDER_NAMES {
         assert_eq!(rt; read_order_name(word), None, "{word:?}");
     }
 }

@@ -1,6 +1,7 @@
 -- The gates for which a clock line stands.
-use Rattle.std.specs.Prelude.{ℕ, Bool, nat_lt, List, [], ◌∷◌, Option, Some, None, ℤ, get_or, if◌then◌else◌}
+use Rattle.std.specs.Prelude.{ℕ, List, [], ◌∷◌, Option, Some, None, ℤ, get_or, if◌then◌else◌}
 use Rattle.std.specs.List.{range_with_len, flat_map}
+use Rattle.order_kinds.specs.Phase.{is_later}
 use Rattle.order_kinds.specs.declared.phase.Phase.{Phase}
 use Rattle.order_kinds.specs.declared.phase.Phase.TheVariants as phase
 use Rattle.market_model.specs.declared.command.Command.{Command}
@@ -10,16 +11,6 @@ use Rattle.contract_calendar.specs.Day.{DeliveryDay, phase_at}
 -- the instant of the last clock line of the caller at this place
 abbrev pub last_clock : List (Option ℤ) → ℕ → Option ℤ
 last_clock clocks caller = get_or clocks caller None
-
--- the place of a phase in their order
-abbrev pub rank : Phase → ℕ
-rank phase.Open = 0
-rank phase.Local = 1
-rank phase.Closed = 2
-
--- one phase comes after another
-abbrev pub is_later : (one other : Phase) → Bool
-is_later one other = nat_lt (rank other) (rank one)
 
 -- the phase of an hour at the last clock line, and open where there was none
 abbrev pub phase_before : DeliveryDay → ℕ → Option ℤ → Phase

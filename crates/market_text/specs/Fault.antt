@@ -1,5 +1,5 @@
 -- The fault of a text, by that of its first line that is not taken.
-use Rattle.std.specs.Prelude.{◌≡◌, ℕ, Option, Some, None, Result, Ok, Err}
+use Rattle.std.specs.Prelude.{◌≡◌, ℕ, ◌++◌, List, Option, Some, None, Result, Ok, Err, codes, decimal}
 use Rattle.market_text.specs.declared.fault.LineFault.{LineFault}
 use Rattle.market_text.specs.declared.fault.LineFault.TheVariants as line_fault
 use Rattle.market_text.specs.declared.fault.TextFault.{TextFault}
@@ -19,3 +19,8 @@ IsAnswerOf value (Err line_fault.NoMemory) = Unit {0}
 -- a line is answered with the value that there is, or as a bad line where there is none
 pub record Answers {A : Type 0} (value : Option A) (result : Result A LineFault) : Type 0 where
   pub is : IsAnswerOf value result
+
+-- the words of a fault, with the number of the first bad line
+abbrev pub fault_text : TextFault → List ℕ
+fault_text (text_fault.BadSession line) = codes "bad session, line " ++ decimal line
+fault_text text_fault.NoMemory = codes "no memory"

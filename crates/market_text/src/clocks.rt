@@ -2,6 +2,7 @@
 
 ghost use Rattle.std.specs.Prelude.{◌≡◌, ◌<◌, ◌≤◌, ◌∷◌, ◌++◌, [], None, Some, length, slice_set, get_or, OnOk, IfOk, option_map};
 ghost use Rattle.std.specs.Option.{option_to_list};
+ghost use Rattle.order_kinds.specs.Phase.{is_later};
 ghost use Rattle.market_text.specs.Clocks as clocks;
 
 use contract_calendar::Day;
@@ -123,7 +124,7 @@ fn phase_before(day: &Day, hour: u32, last: &Option<Timestamp>) -> Phase
 
 // Whether one phase comes after another: open comes first, and closed last.
 fn is_later(one: Phase, other: Phase) -> bool
-    ensures { result ≡ clocks.is_later one other }
+    ensures { result ≡ is_later one other }
 {
     match one {
         Phase::Open => false,

@@ -1,7 +1,7 @@
 //! Why a text is not read.
 
-ghost use Rattle.std.specs.Prelude.{◌≡◌};
-ghost use Rattle.market_text.specs.Fault.{fault_at};
+ghost use Rattle.std.specs.Prelude.{◌≡◌, Some};
+ghost use Rattle.market_text.specs.Fault.{fault_at, fault_text};
 
 use std::alloc::{AllocError, AllocFailed};
 use std::error::Error;
@@ -21,6 +21,8 @@ pub enum TextFault {
 }
 
 impl fmt::Display for TextFault {
+    ghost output = { λ fault. Some (fault_text fault) };
+
     fn fmt<W: fmt::Write>(&self, f: &mut fmt::Formatter<W>) -> fmt::Result {
         match self {
             TextFault::BadSession { line } => write!(f, "bad session, line {line}"),

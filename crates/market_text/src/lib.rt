@@ -20,4 +20,6 @@ pub use session::{PerCaller, Session, Turns, read_session};
 #[cfg(test)]
 mod command_tests;
 #[cfg(test)]
+mod line_tests;
+#[cfg(test)]
 mod tests;

@@ -3,7 +3,8 @@
 ghost use Rattle.std.specs.Prelude.{◌≡◌, ◌<◌, ◌∷◌, ◌++◌, [], length, map, replicate, OnOk, IfOk, unwrap_or};
 ghost use Rattle.std.specs.List.{list_all};
 ghost use Rattle.market_text.specs.Fault.{Answers};
-ghost use Rattle.market_text.specs.Played.{is_played, is_limit};
+ghost use Rattle.market_model.specs.Refusals.{is_limit};
+ghost use Rattle.market_text.specs.Played.{is_played};
 ghost use Rattle.market_text.specs.Reading.{IsReading};
 ghost use Rattle.market_text.specs.Steps as steps;
 

@@ -18,7 +18,7 @@ fn bad_line<R: Abort + AllocGlobal>(rt: &R, text: &[u8]) -> u32 {
 }
 
 // The line that is reported of a text of two parts, and 0 where it is read.
-fn bad_line_of_two<R: Abort + AllocGlobal>(
+pub fn bad_line_of_two<R: Abort + AllocGlobal>(
     rt: &R,
     head: &[u8],
     tail: &[u8],
@@ -105,64 +105,15 @@ fn the_lines_of_the_header_stand_in_order(rt: HostRuntime) -> Result<(), Fail> {
     Ok(())
 }
 
-const HEADER: &[u8] =
+// A whole header, with two zones, a border, a trader and an operator.
+pub const HEADER: &[u8] =
     b"day 2025-06-17\nzone DE\nzone FR\nborder DE FR\ntrader ann\noperator tso\nbegin\n";
 
-#[test]
-fn lines_of_commands_are_exact(rt: HostRuntime) -> Result<(), Fail> {
-    for text in [
-        b"ann\n".as_slice(),
-        b"bob buy h12 DE 1.0 10.00\n",
-        b"DE buy h12 DE 1.0 10.00\n",
-        b"ann buys h12 DE 1.0 10.00\n",
-        b"ann buy h12 DE 1.0\n",
-        b"ann buy h12 DE 1.0 10.00 \n",
-        b" ann buy h12 DE 1.0 10.00\n",
-        b"ann buy  h12 DE 1.0 10.00\n",
-        b"ann buy h12 DE 1.0 10.00 limit\n",
-        b"ann\tbuy h12 DE 1.0 10.00\n",
-        b"ann buy h12 DE 1.0 10.00\r\n",
-        b"ann buy h12 DE 1.0 10.00",
-        b"ann buy h DE 1.0 10.00\n",
-        b"ann buy h123 DE 1.0 10.00\n",
-        b"ann buy 12 DE 1.0 10.00\n",
-        b"ann buy H12 DE 1.0 10.00\n",
-        b"ann buy h-1 DE 1.0 10.00\n",
-        b"ann buy h12q DE 1.0 10.00\n",
-        b"ann buy h12q10 DE 1.0 10.00\n",
-        b"ann buy h12f DE 1.0 10.00\n",
-        b"ann buy h12f10 DE 1.0 10.00\n",
-        b"ann buy h12x1 DE 1.0 10.00\n",
-        b"ann buy hq1 DE 1.0 10.00\n",
-        b"ann buy h12 D>E 1.0 10.00\n",
-        b"ann buy h12 seventeen_bytes_x 1.0 10.00\n",
-        b"ann buy h12 DE 01.0 10.00\n",
-        b"ann buy h12 DE 00.0 10.00\n",
-        b"ann buy h12 DE 1.00 10.00\n",
-        b"ann buy h12 DE 1 10.00\n",
-        b"ann buy h12 DE 1. 10.00\n",
-        b"ann buy h12 DE .1 10.00\n",
-        b"ann buy h12 DE 1,0 10.00\n",
-        b"ann buy h12 DE -1.0 10.00\n",
-        b"ann buy h12 DE 12345678.0 10.00\n",
-        b"ann buy h12 DE 1.x 10.00\n",
-        b"ann buy h12 DE 1.0 -0.00\n",
-        b"ann buy h12 DE 1.0 +1.00\n",
-        b"ann buy h12 DE 1.0 1.0\n",
-        b"ann buy h12 DE 1.0 1.000\n",
-        b"ann buy h12 DE 1.0 01.00\n",
-        b"ann buy h12 DE 1.0 --1.00\n",
-        b"ann buy h12 DE 1.0 -\n",
-        b"ann buy h12 DE 1.0 -01.00\n",
-        b"ann buy h12 DE 1.0 12345678.00\n",
-    ] {
-        assert_eq!(rt; bad_line_of_two(&rt, HEADER, text)?, 8, "{text:?}");
-    }
-    Ok(())
-}
-
-// The commands that a line after the header stands for, with the callers.
-fn read_after_header<R: Abort + AllocGlobal>(rt: &R, tail: &[u8]) -> Result<Session, AllocError> {
+// The session of a text that begins with the header.
+pub fn read_after_header<R: Abort + AllocGlobal>(
+    rt: &R,
+    tail: &[u8],
+) -> Result<Session, AllocError> {
     let mut text = Vec::from_slice(rt.alloc(), HEADER)?;
     text.extend_from_slice(tail)?;
     assert!(rt; text.len() < 8388609);
@@ -172,7 +123,8 @@ fn read_after_header<R: Abort + AllocGlobal>(rt: &R, tail: &[u8]) -> Result<Sess
     }
 }
 
-fn limit(side: Side, hour: u32, part: Part, zone: u32, lots: u32, cents: i32) -> Command {
+// The entry of a plain limit order.
+pub fn limit(side: Side, hour: u32, part: Part, zone: u32, lots: u32, cents: i32) -> Command {
     Command::Enter {
         order: Order {
             contract: Contract { hour, part },
@@ -183,59 +135,6 @@ fn limit(side: Side, hour: u32, part: Part, zone: u32, lots: u32, cents: i32) ->
             kind: Kind::Limit,
         },
     }
-}
-
-#[test]
-fn a_line_of_a_command_stands_for_it(rt: HostRuntime) -> Result<(), Fail> {
-    for (line, command) in [
-        (
-            b"ann buy h12 DE 10.0 50.00\n".as_slice(),
-            limit(Side::Buy, 12, Part::Hour, 0, 100, 5000),
-        ),
-        (
-            b"ann sell h0 FR 0.0 0.00\n",
-            limit(Side::Sell, 0, Part::Hour, 1, 0, 0),
-        ),
-        (
-            b"ann sell h99 AT 9999999.9 9999999.99\n",
-            limit(Side::Sell, 99, Part::Hour, 2, 99999999, 999999999),
-        ),
-        (
-            b"ann buy h01 ann 0.1 -0.01\n",
-            limit(Side::Buy, 1, Part::Hour, 2, 1, -1),
-        ),
-        (
-            b"ann buy h1q3 DE 999.1 -9999999.99\n",
-            limit(Side::Buy, 1, Part::Quarter(3), 0, 9991, -999999999),
-        ),
-        (
-            b"ann buy h12q0 DE 1.0 0.10\n",
-            limit(Side::Buy, 12, Part::Quarter(0), 0, 10, 10),
-        ),
-        (
-            b"ann buy h12q9 DE 1.0 1.05\n",
-            limit(Side::Buy, 12, Part::Quarter(9), 0, 10, 105),
-        ),
-        (
-            b"ann buy h12f2 FR 1.0 1.00\n",
-            limit(Side::Buy, 12, Part::Half(2), 1, 10, 100),
-        ),
-        (
-            b"# a comment\n\nann buy h12f0 FR 1.0 1.00\n\n#\n",
-            limit(Side::Buy, 12, Part::Half(0), 1, 10, 100),
-        ),
-    ] {
-        let session = read_after_header(&rt, line)?;
-        assert_eq!(rt; session.turns.as_slice(), [0].as_slice());
-        assert_eq!(rt; session.commands.len(), 2);
-        assert_eq!(rt;
-            session.commands.as_slice()[0].as_slice(),
-            [command].as_slice(),
-            "{line:?}"
-        );
-        assert_eq!(rt; session.commands.as_slice()[1].len(), 0);
-    }
-    Ok(())
 }
 
 #[test]
@@ -354,21 +253,6 @@ fn there_are_at_most_262144_commands(rt: HostRuntime) -> Result<(), Fail> {
     assert_eq!(rt; bad_line(&rt, text.as_slice()), 0);
     text.extend_from_slice(b"#\ntso buy h1 DE 1.0 1.00\n#")?;
     assert_eq!(rt; bad_line(&rt, text.as_slice()), 262153);
-    Ok(())
-}
-
-#[test]
-fn lines_of_commands_that_are_not_played_yet_are_bad(rt: HostRuntime) -> Result<(), Fail> {
-    for line in [
-        b"ann buy h12 DE 1.0 10.00 ioc\n".as_slice(),
-        b"ann cancel h12#1\n",
-        b"tso gate h12 closed\n",
-        b"tso clock 2025-06-17T10:00:00Z\n",
-    ] {
-        assert_eq!(rt; bad_line_of_two(&rt, HEADER, line)?, 8, "{line:?}");
-    }
-    let before = b"tso clock 2025-06-16T10:00:00Z\n";
-    assert_eq!(rt; bad_line_of_two(&rt, HEADER, before)?, 0);
     Ok(())
 }
 
