@@ -1,0 +1,13 @@
+pub mod CommandSteps
+pub mod Complete
+pub mod Drafts
+pub mod Going
+pub mod HeaderSteps
+pub mod LinesRead
+pub mod Places
+pub mod Runs
+pub mod Sound
+pub mod SoundRows
+pub mod Spelled
+pub mod TextLines
+pub mod Texts

@@ -1,0 +1,34 @@
+-- What is read is what the grammar has, and the line that is reported is the first bad one.
+use Rattle.std.specs.Prelude.{◌≡◌, ℕ, List, Result, Ok, Err}
+use Rattle.market_text.specs.declared.fault.TextFault.{TextFault}
+use Rattle.market_text.specs.declared.fault.TextFault.TheVariants as fault
+use Rattle.market_text.specs.declared.session.Session.{Session}
+use Rattle.market_text.specs.Text.{session_of_text, IsAnswer}
+use Rattle.text_grammar.specs.Grammar.{IsSessionText, IsFirstBadLine}
+
+-- the text of which a session is read is one of that session
+abbrev pub AcceptedIsInGrammar : Type 0
+AcceptedIsInGrammar = (bytes : List ℕ) (session : Session) → session_of_text bytes ≡ Ok session → IsSessionText bytes session
+
+-- of the text of a session that session is read
+abbrev pub GrammarIsAccepted : Type 0
+GrammarIsAccepted = (bytes : List ℕ) (session : Session) → IsSessionText bytes session → session_of_text bytes ≡ Ok session
+
+-- the line that is reported is the first bad one
+abbrev pub ReportedIsFirstBad : Type 0
+ReportedIsFirstBad = (bytes : List ℕ) (line : ℕ) → session_of_text bytes ≡ Err line → IsFirstBadLine bytes line
+
+-- the first bad line is reported
+abbrev pub FirstBadIsReported : Type 0
+FirstBadIsReported = (bytes : List ℕ) (line : ℕ) → IsFirstBadLine bytes line → session_of_text bytes ≡ Err line
+
+-- an answer to a text, in the grammar's words: the session whose text it is, or its first bad line;
+-- want of memory says nothing
+abbrev pub IsAnswerByGrammar : List ℕ → Result Session TextFault → Type 0
+IsAnswerByGrammar bytes (Ok session) = IsSessionText bytes session
+IsAnswerByGrammar bytes (Err (fault.BadSession line)) = IsFirstBadLine bytes line
+IsAnswerByGrammar bytes (Err fault.NoMemory) = Unit {0}
+
+-- every answer to a text is one by the grammar
+abbrev pub AnswersAreByGrammar : Type 0
+AnswersAreByGrammar = (bytes : List ℕ) (result : Result Session TextFault) → IsAnswer (session_of_text bytes) result → IsAnswerByGrammar bytes result

@@ -1,0 +1,5 @@
+-- What the laws of session texts say.
+pub mod Contents
+pub mod Grammar
+pub mod Laws
+pub mod Lines
