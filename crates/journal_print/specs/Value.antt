@@ -1,10 +1,25 @@
--- What a value of JSON is printed as.
-use Rattle.std.specs.Prelude.{◌≡◌, ℕ, false, List}
-use Rattle.serde_json.specs.View.{view}
+-- What the values of JSON that are sent to a serializer are printed as.
+use Rattle.std.specs.Prelude.{◌≡◌, ℕ, false, List, Some, decimal, codes}
+use Rattle.serde.specs.Event.{Log, Logs, map_begins, field_key}
+use Rattle.serde.specs.declared.name.Case.TheVariants.{AsIs}
+use Rattle.serde_json.specs.Data.{Data}
+use Rattle.serde_json.specs.Events.{SendsValue}
 use Rattle.serde_json.specs.Written.{compact_text, has_float}
-use Rattle.serde_json.specs.declared.value.Value.{Value}
+use Rattle.journal_print.specs.Json.{quote}
 
--- the value is printed as these bytes, whatever prints its floats: it has none
-pub record Prints (value : Value) (bytes : List ℕ) : Type 0 where
-  pub text : compact_text (view value) ≡ bytes
-  pub whole : has_float (view value) ≡ false
+-- one value is sent whose compact text is these bytes, whatever prints floats: it has none
+pub record Sends (bytes : List ℕ) (old new : Log) : Type 0 where
+  pub value : Data
+  pub events : SendsValue value old new
+  pub text : compact_text value ≡ bytes
+  pub whole : has_float value ≡ false
+
+-- a member of an object is sent: its key, and a value that is printed as these bytes
+abbrev pub SendsMember : (member : List ℕ × List ℕ) → Log → Log → Type 0
+SendsMember member old new = (named : Log) × Logs old named (field_key member.0 AsIs) × Sends member.1 named new
+
+-- an object of four members is begun, and its first two are sent: the caller, and the how manieth entry of this caller it is
+abbrev pub BeginsLine : (caller : List ℕ) (nth : ℕ) → Log → Log → Type 0
+BeginsLine caller nth old new =
+    (first named : Log) × Logs old first (map_begins (Some 4)) × SendsMember (codes "caller", quote caller) first named
+    × SendsMember (codes "command", decimal nth) named new

@@ -9,7 +9,7 @@ mod event;
 mod line;
 mod names;
 mod refusal;
-mod row;
+mod spelling;
 #[cfg(test)]
 mod tests;
 

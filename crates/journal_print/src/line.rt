@@ -1,17 +1,20 @@
 //! Entries as lines.
 
-ghost use Rattle.std.specs.Prelude.{◌≡◌, IfOk, All};
-ghost use Rattle.market_model.specs.Naming.{IsNamed, IsEventIn, IsEntryIn};
-ghost use Rattle.journal_print.specs.Json.{IsPlain, braces};
-ghost use Rattle.journal_print.specs.Value.{Prints};
+ghost use Rattle.std.specs.Prelude.{◌≡◌, [], ◌∷◌, IfOk, OnOk, All, codes, decimal};
+ghost use Rattle.market_model.specs.Naming.{IsNamed, IsEventIn, IsRefusalIn, IsEntryIn};
+ghost use Rattle.order_kinds.specs.Price.{price_text};
+ghost use Rattle.journal_print.specs.Json.{IsPlain, quote, row, braces};
+ghost use Rattle.journal_print.specs.Known.{IsEntryIn-prop};
 ghost use Rattle.journal_print.specs.Line as printed;
+ghost use Rattle.journal_print.specs.Value.{Sends, SendsMember, BeginsLine};
 
-use crate::event::event_row;
+use crate::event::write_events;
 use crate::names::caller_name;
-use crate::refusal::refusal_row;
-use crate::row::Row;
-use market_model::{Entry, Events, Reply, Rows, Setup};
-use serde_json::{Value, json};
+use crate::refusal::write_refusal;
+use crate::spelling::{Quantity, write_spelled, write_word};
+use market_model::{Entry, Event, Refusal, Reply, Setup, ViewRow};
+use order_kinds::Price;
+use serde::{Described, Serialize, Serializer};
 use std::alloc::Global;
 use zone_graph::{NoMemory, Text};
 
@@ -21,7 +24,8 @@ use zone_graph::{NoMemory, Text};
 ///
 /// # Errors
 ///
-/// Want of memory.
+/// Want of memory. The writer of JSON does not state that it fails for no other reason; any error
+/// of it is given as want of memory.
 pub fn print_entry(
     alloc: Global,
     setup: &Setup,
@@ -32,93 +36,166 @@ pub fn print_entry(
     requires within { IsEntryIn setup.now entry.now }
     ensures line { IfOk result (λ text. text ≡ printed.entry_line setup.now place entry.now) }
 {
-    let mut line = entry_value(alloc, setup, place, entry)?.to_vec(alloc)?;
-    line.push(b'\n')?;
-    Ok(Text::from(line))
+    let line = Line {
+        setup,
+        place,
+        entry,
+    };
+    let mut text = match serde_json::to_vec(alloc, &line) {
+        Ok(text) => text,
+        Err(_) => return Err(NoMemory),
+    };
+    text.push(b'\n')?;
+    Ok(Text::from(text))
 }
 
-// The entry as an object.
-fn entry_value(alloc: Global, setup: &Setup, place: u64, entry: &Entry) -> Result<Value, NoMemory>
-    requires named { IsNamed setup.now }
-    requires within { IsEntryIn setup.now entry.now }
-    ensures { IfOk result
-        (λ value. Prints value (braces (printed.entry_members setup.now place entry.now))) }
-{
-    let caller = caller_name(setup, entry.caller);
-    let nth = entry.nth;
-    match &entry.reply {
-        Reply::Done(events) => {
-            let events = event_rows(alloc, setup, events)?;
-            done(alloc, caller, nth, place, events)
-        }
-        Reply::Seen(offers) => {
-            let rows = view_rows(alloc, offers)?;
-            seen(alloc, caller, nth, place, rows)
-        }
-        Reply::Refused(refusal) => {
-            let refusal = refusal_row(alloc, setup, refusal)?;
-            refused(alloc, caller, nth, place, refusal)
+// An entry at its place of the journal, as an object.
+#[derive(Drop)]
+struct Line<'a> {
+    setup: &'a Setup,
+    place: u64,
+    entry: &'a Entry,
+    ghost named: { IsNamed setup.now },
+    ghost within: { IsEntryIn setup.now entry.now } by { IsEntryIn-prop setup.now entry.now },
+}
+
+impl Described for Line<'_> {
+    ghost writes = { λ line. Sends
+        (braces (printed.entry_members line.setup.now line.place line.entry.now)) };
+}
+
+impl Serialize for Line<'_> {
+    fn serialize<S: Serializer>(&self, out: &mut S) -> Result<(), S::Error> {
+        let caller = caller_name(self.setup, self.entry.caller);
+        let nth = self.entry.nth;
+        match &self.entry.reply {
+            Reply::Done(events) => {
+                write_done(self.setup, caller, nth, self.place, events.as_slice(), out)
+            }
+            Reply::Seen(rows) => write_seen(caller, nth, self.place, rows.as_slice(), out),
+            Reply::Refused(refusal) => {
+                write_refused(self.setup, caller, nth, self.place, refusal, out)
+            }
         }
     }
 }
 
 // An entry with events.
-fn done(alloc: Global, caller: &str, nth: u32, place: u64, events: Row) -> Result<Value, NoMemory>
-    requires { IsPlain caller.now }
-    ensures { IfOk result
-        (λ value. Prints value (braces (printed.done_members caller.now nth place events))) }
-{
-    let done = events.into_value();
-    Ok(json!(in alloc; {"caller": caller, "command": nth, "done": done, "entry": place})?)
-}
-
-// An entry with the rows of a view.
-fn seen(alloc: Global, caller: &str, nth: u32, place: u64, rows: Row) -> Result<Value, NoMemory>
-    requires { IsPlain caller.now }
-    ensures { IfOk result
-        (λ value. Prints value (braces (printed.seen_members caller.now nth place rows))) }
-{
-    let rows = rows.into_value();
-    Ok(json!(in alloc; {"caller": caller, "command": nth, "entry": place, "rows": rows})?)
-}
-
-// An entry with a refusal.
-fn refused(
-    alloc: Global,
+fn write_done<S: Serializer>(
+    setup: &Setup,
     caller: &str,
     nth: u32,
     place: u64,
-    refusal: Row,
-) -> Result<Value, NoMemory>
-    requires { IsPlain caller.now }
-    ensures { IfOk result
-        (λ value. Prints value (braces (printed.refused_members caller.now nth place refusal))) }
-{
-    let refused = refusal.into_value();
-    Ok(json!(in alloc; {"caller": caller, "command": nth, "entry": place, "refused": refused})?)
-}
-
-// The events, each as an array.
-fn event_rows(alloc: Global, setup: &Setup, events: &Events) -> Result<Row, NoMemory>
+    events: &[Event],
+    out: &mut S,
+) -> Result<(), S::Error>
+    requires plain { IsPlain caller.now }
     requires named { IsNamed setup.now }
     requires within { All (IsEventIn setup.now) events.now }
-    ensures { IfOk result (λ rows. rows ≡ printed.event_rows setup.now events.now) }
+    ensures { OnOk result (Sends
+        (braces (printed.done_members caller.now nth place (printed.event_rows setup.now events.now)))
+        (S.written out.old) (S.written out.new)) }
 {
-    let mut rows = Row::new(alloc);
-    for event in events.as_slice() {
-        rows = rows.row(event_row(alloc, setup, event)?)?;
-    }
-    Ok(rows)
+    begin_line(caller, nth, out)?;
+    out.key("done")?;
+    write_events(setup, events, out)?;
+    write_number_member("entry", place, out)?;
+    out.end_map()
+}
+
+// An entry with the rows of a view.
+fn write_seen<S: Serializer>(
+    caller: &str,
+    nth: u32,
+    place: u64,
+    rows: &[ViewRow],
+    out: &mut S,
+) -> Result<(), S::Error>
+    requires { IsPlain caller.now }
+    ensures { OnOk result (Sends
+        (braces (printed.seen_members caller.now nth place (printed.view_rows rows.now)))
+        (S.written out.old) (S.written out.new)) }
+{
+    begin_line(caller, nth, out)?;
+    write_number_member("entry", place, out)?;
+    out.key("rows")?;
+    write_view(rows, out)?;
+    out.end_map()
+}
+
+// An entry with a refusal.
+fn write_refused<S: Serializer>(
+    setup: &Setup,
+    caller: &str,
+    nth: u32,
+    place: u64,
+    refusal: &Refusal,
+    out: &mut S,
+) -> Result<(), S::Error>
+    requires plain { IsPlain caller.now }
+    requires named { IsNamed setup.now }
+    requires within { IsRefusalIn setup.now refusal.now }
+    ensures { OnOk result (Sends
+        (braces (printed.refused_members caller.now nth place
+        (printed.refusal_parts setup.now refusal.now)))
+        (S.written out.old) (S.written out.new)) }
+{
+    begin_line(caller, nth, out)?;
+    write_number_member("entry", place, out)?;
+    out.key("refused")?;
+    write_refusal(setup, refusal, out)?;
+    out.end_map()
+}
+
+// The first half of a line's object: the caller, and the how manieth entry of this caller it is.
+fn begin_line<S: Serializer>(caller: &str, nth: u32, out: &mut S) -> Result<(), S::Error>
+    requires { IsPlain caller.now }
+    ensures { OnOk result (BeginsLine caller.now nth (S.written out.old) (S.written out.new)) }
+{
+    out.begin_map(Some(4))?;
+    write_text_member("caller", caller, out)?;
+    write_number_member("command", nth as u64, out)
+}
+
+// A member of an object whose value is a plain text.
+fn write_text_member<S: Serializer>(key: &str, text: &str, out: &mut S) -> Result<(), S::Error>
+    requires { IsPlain text.now }
+    ensures { OnOk result (SendsMember (key.now, quote text.now)
+        (S.written out.old) (S.written out.new)) }
+{
+    out.key(key)?;
+    write_word(text, out)
+}
+
+// A member of an object whose value is a number.
+fn write_number_member<S: Serializer>(key: &str, number: u64, out: &mut S) -> Result<(), S::Error>
+    ensures { OnOk result (SendsMember (key.now, decimal number)
+        (S.written out.old) (S.written out.new)) }
+{
+    out.key(key)?;
+    out.u64(number)
 }
 
 // The rows of a view, each as an array of price and quantity.
-fn view_rows(alloc: Global, offers: &Rows) -> Result<Row, NoMemory>
-    ensures { IfOk result (λ rows. rows ≡ printed.view_rows offers.now) }
+fn write_view<S: Serializer>(rows: &[ViewRow], out: &mut S) -> Result<(), S::Error>
+    ensures { OnOk result (Sends (row (printed.view_rows rows.now))
+        (S.written out.old) (S.written out.new)) }
 {
-    let mut rows = Row::new(alloc);
-    for offer in offers.as_slice() {
-        let row = Row::new(alloc).price(offer.price)?.quantity(offer.lots)?;
-        rows = rows.row(row)?;
+    out.begin_seq(Some(rows.len()))?;
+    for offer in rows {
+        write_offer(offer.price, offer.lots, out)?;
     }
-    Ok(rows)
+    out.end_seq()
+}
+
+// One row of a view.
+fn write_offer<S: Serializer>(price: Price, lots: u32, out: &mut S) -> Result<(), S::Error>
+    ensures { OnOk result (Sends
+        (row (quote (price_text price) ∷ quote (printed.quantity_text lots) ∷ []))
+        (S.written out.old) (S.written out.new)) }
+{
+    out.begin_seq(Some(2))?;
+    write_spelled(&price, out)?;
+    write_spelled(&Quantity(lots as u64), out)?;
+    out.end_seq()
 }

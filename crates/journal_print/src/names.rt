@@ -1,13 +1,15 @@
 //! The names of zones and callers, and the arcs between zones.
 
-ghost use Rattle.std.specs.Prelude.{◌≡◌, ◌<◌, length, IfOk, string_bytes};
+ghost use Rattle.std.specs.Prelude.{◌≡◌, ◌<◌, ◌≤◌, length, OnOk};
 ghost use Rattle.zone_graph.specs.Name.{IsName};
 ghost use Rattle.market_model.specs.Naming.{HasZone, HasBorder, IsNamed};
-ghost use Rattle.journal_print.specs.Json.{IsPlain};
+ghost use Rattle.journal_print.specs.Json.{IsPlain, quote};
 ghost use Rattle.journal_print.specs.Line as printed;
+ghost use Rattle.journal_print.specs.Value.{Sends};
 
+use crate::spelling::{Spelling, write_word};
 use market_model::Setup;
-use std::alloc::{AllocError, Global};
+use serde::Serializer;
 use std::str;
 use zone_graph::{Arc, Word};
 
@@ -26,6 +28,7 @@ pub(crate) fn zone_name(setup: &Setup, zone: u32) -> &str
     requires known { HasZone setup.now zone }
     ensures text { result.now ≡ printed.zone_name setup.now zone }
     ensures plain { IsPlain result.now }
+    ensures few { length result.now ≤ 16 }
 {
     as_text(setup.zones.get(zone as usize).unwrap())
 }
@@ -41,23 +44,33 @@ pub(crate) fn caller_name(setup: &Setup, caller: u32) -> &str
     as_text(&caller.name)
 }
 
-/// An arc as the names of the zones that it leads from and to.
-///
-/// # Errors
-///
-/// Want of memory.
-pub(crate) fn arc_text(alloc: Global, setup: &Setup, arc: Arc) -> Result<String, AllocError>
+/// Writes an arc as the names of the zones that it leads from and to.
+pub(crate) fn write_arc<S: Serializer>(setup: &Setup, arc: Arc, out: &mut S) -> Result<(), S::Error>
     requires named { IsNamed setup.now }
     requires known { HasBorder setup.now arc.border }
-    ensures text { IfOk result (λ text. string_bytes text ≡ printed.arc_text setup.now arc) }
-    ensures plain { IfOk result (λ text. IsPlain (string_bytes text)) }
+    ensures { OnOk result
+        (Sends (quote (printed.arc_text setup.now arc)) (S.written out.old) (S.written out.new)) }
 {
     let ends = *setup.borders.get(arc.border as usize).unwrap();
-    let first = zone_name(setup, ends.0);
-    let second = zone_name(setup, ends.1);
-    if arc.forward {
-        format!(in alloc; "{first}>{second}")
+    let way = if arc.forward {
+        spell_way(setup, ends.0, ends.1)
     } else {
-        format!(in alloc; "{second}>{first}")
-    }
+        spell_way(setup, ends.1, ends.0)
+    };
+    write_word(way.as_str(), out)
+}
+
+// The way from one zone to another.
+fn spell_way(setup: &Setup, from: u32, to: u32) -> Spelling
+    requires named { IsNamed setup.now }
+    requires start { HasZone setup.now from }
+    requires end { HasZone setup.now to }
+    ensures text { result.bytes ≡ printed.way_text setup.now from to }
+    ensures plain { IsPlain result.bytes }
+{
+    let mut text = Spelling::new();
+    text.push_str(zone_name(setup, from));
+    text.push_str(">");
+    text.push_str(zone_name(setup, to));
+    text
 }

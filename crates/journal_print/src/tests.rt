@@ -243,6 +243,14 @@ fn trade(
     })
 }
 
+fn leg(hour: u32, leg: Leg) -> Event {
+    let contract = Contract {
+        hour,
+        part: Part::Hour,
+    };
+    Event::Leg { contract, leg }
+}
+
 fn done<const N: usize>(alloc: Global, events: [Event; N]) -> Result<Reply, NoMemory> {
     Ok(Reply::Done(Events::from(Vec::from_array(alloc, events)?)))
 }
@@ -439,6 +447,97 @@ fn rows_of_views(rt: HostRuntime) -> Result<(), Fail> {
         check_line(&rt, alloc, at, Reply::Seen(rows), line)?;
     }
     Ok(())
+}
+
+#[test]
+fn a_basket_and_what_a_change_of_phase_brings(rt: HostRuntime) -> Result<(), Fail> {
+    let alloc = rt.alloc();
+    let first = trade(alloc, H10_2, H10_1, 50, 4000, &[])?;
+    let second = trade(alloc, H12_2, H12_1, 30, 4100, &[])?;
+    let basket = [
+        entered(H10_2, Part::Hour),
+        leg(10, first),
+        entered(H12_2, Part::Hour),
+        leg(12, second),
+    ];
+    let closed = [
+        Event::Gated {
+            hour: 1,
+            phase: Phase::Local,
+        },
+        Event::Withdrawn {
+            name: OrderName { hour: 1, number: 1 },
+            lots: 20,
+        },
+    ];
+    for (at, reply, line) in [
+        (
+            (1, 3, 5),
+            done(alloc, basket)?,
+            "{\"caller\":\"bob\",\"command\":3,\"done\":[[\"entered\",\"h10#2\",\"h10\"],[\"leg\",\"h10#2\",\"h10#1\",\"5.0\",\"40.00\",[]],[\"entered\",\"h12#2\",\"h12\"],[\"leg\",\"h12#2\",\"h12#1\",\"3.0\",\"41.00\",[]]],\"entry\":5}\n",
+        ),
+        (
+            (3, 2, 3),
+            done(alloc, closed)?,
+            "{\"caller\":\"tso\",\"command\":2,\"done\":[[\"gated\",\"h1\",\"local\"],[\"withdrawn\",\"h1#1\",\"2.0\"]],\"entry\":3}\n",
+        ),
+        (
+            (0, 1, 1),
+            done(alloc, [])?,
+            "{\"caller\":\"ann\",\"command\":1,\"done\":[],\"entry\":1}\n",
+        ),
+    ] {
+        check_line(&rt, alloc, at, reply, line)?;
+    }
+    Ok(())
+}
+
+#[test]
+fn parts_of_hours(rt: HostRuntime) -> Result<(), Fail> {
+    let alloc = rt.alloc();
+    let name = OrderName {
+        hour: 25,
+        number: 4294967295,
+    };
+    for (part, contract) in [
+        (Part::Hour, "h25"),
+        (Part::Quarter(1), "h25q1"),
+        (Part::Quarter(4), "h25q4"),
+        (Part::Half(1), "h25f1"),
+        (Part::Half(2), "h25f2"),
+    ] {
+        let line = format!(in alloc;
+            "{{\"caller\":\"cat\",\"command\":4294967295,\"done\":[[\"entered\",\"h25#4294967295\",\"{contract}\"]],\"entry\":18446744073709551615}}\n"
+        )?;
+        let at = (2, u32::MAX, u64::MAX);
+        let reply = done(alloc, [entered(name, part)])?;
+        check_line(&rt, alloc, at, reply, line.as_str())?;
+    }
+    Ok(())
+}
+
+#[test]
+fn prices_and_quantities(rt: HostRuntime) -> Result<(), Fail> {
+    let alloc = rt.alloc();
+    let mut rows = Rows::new(alloc);
+    for (cents, lots) in [
+        (-999900, 1),
+        (-101, 9),
+        (-100, 10),
+        (-5, 11),
+        (0, 0),
+        (9, 99),
+        (99, 100),
+        (999900, 9990),
+    ] {
+        rows.push(ViewRow {
+            price: Price(cents),
+            lots,
+        })?;
+    }
+    let line =
+        "{\"caller\":\"ann\",\"command\":1,\"entry\":2,\"rows\":[[\"-9999.00\",\"0.1\"],[\"-1.01\",\"0.9\"],[\"-1.00\",\"1.0\"],[\"-0.05\",\"1.1\"],[\"0.00\",\"0.0\"],[\"0.09\",\"9.9\"],[\"0.99\",\"10.0\"],[\"9999.00\",\"999.0\"]]}\n";
+    check_line(&rt, alloc, (0, 1, 2), Reply::Seen(rows), line)
 }
 
 #[test]

@@ -1,7 +1,0 @@
-use Rattle.std.proofs.Common.{sym, subst}
-use Rattle.journal_print.specs.Json.{IsPlain}
-use Rattle.journal_print.proofs.Plain.{plain-hour_text}
-use Rattle.journal_print.proofs.row.Row.hour.Goals as goal
-
-pub text-requires : goal.text-requires
-text-requires c = subst IsPlain (sym c.in_ok-text.ensures.ok) (plain-hour_text _)
