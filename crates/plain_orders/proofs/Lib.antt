@@ -1,0 +1,10 @@
+pub mod Changes
+pub mod Example
+pub mod Found
+pub mod Histories
+pub mod LineLaws
+pub mod Listing
+pub mod Moments
+pub mod Stable
+pub mod Taken
+pub mod Tells

@@ -1,0 +1,64 @@
+-- The orders and blocks of an hour as they stand, and the lines that they make.
+use Rattle.std.specs.Prelude.{◌≡◌, ℕ, Bool, ◌==◌, ◌&&◌, List, map, filter, nat_lt, Option, Some, None, if◌then◌else◌}
+use Rattle.order_kinds.specs.declared.contract.Contract.{Contract}
+use Rattle.order_kinds.specs.declared.side.Side.{Side}
+use Rattle.order_kinds.specs.Same.{same_contract, same_side}
+use Rattle.market_model.specs.declared.event.Event.{Event}
+use Rattle.market_model.specs.Blocks.{StandingBlock, block_line, block_priority_cmp, is_of_period, standing_block}
+use Rattle.market_model.specs.Lines.{in_order, line, priority_cmp}
+use Rattle.market_model.specs.Orders.{Placed, PlacedBlock, Standing, block_placed_by, blocks_placed, placed, placed_by, standing}
+use Rattle.plain_orders.specs.Histories.{IsSomeHistory}
+
+-- an order, and a block, is named by an hour
+abbrev pub is_order_of : (hour : ℕ) → Placed → Bool
+is_order_of hour order = order.name.hour == hour
+
+abbrev pub is_block_of : (first : ℕ) → PlacedBlock → Bool
+is_block_of first block = block.name.hour == first
+
+-- what is there, if it passes a test
+abbrev pub kept : {X : Type 0} → (X → Bool) → Option X → Option X
+kept test None = None
+kept test (Some x) = if test x then Some x else None
+
+-- the order, and the block, that an event enters by an hour
+abbrev pub order_given : (hour : ℕ) → Event → Option Placed
+order_given hour event = kept (is_order_of hour) (placed_by event)
+
+abbrev pub block_given : (first : ℕ) → Event → Option PlacedBlock
+block_given first event = kept (is_block_of first) (block_placed_by event)
+
+-- all orders, and all blocks, that are named by an hour, in order of entry, as they stand
+abbrev pub orders_of : List Event → (hour : ℕ) → List Standing
+orders_of events hour = map (standing events) (filter (is_order_of hour) (placed events))
+
+abbrev pub blocks_of : List Event → (first : ℕ) → List StandingBlock
+blocks_of events first = map (standing_block events) (filter (is_block_of first) (blocks_placed events))
+
+-- an order as it stands is open, of a contract and on a side
+abbrev pub is_in_line : Contract → Side → Standing → Bool
+is_in_line contract side order =
+    nat_lt 0 order.left && same_contract order.order.contract contract && same_side order.order.side side
+
+-- a block as it stands is open, of a period and on a side
+abbrev pub is_in_block_line : (first last : ℕ) → Side → StandingBlock → Bool
+is_in_block_line first last side block =
+    nat_lt 0 block.left && is_of_period first last block.order && same_side block.order.side side
+
+-- the line of a contract and side that some orders make, and of a period and side that blocks make
+abbrev pub line_of : List Standing → Contract → Side → List Standing
+line_of orders contract side = in_order (priority_cmp side) (filter (is_in_line contract side) orders)
+
+abbrev pub block_line_of : List StandingBlock → (first last : ℕ) → Side → List StandingBlock
+block_line_of blocks first last side =
+    in_order (block_priority_cmp side) (filter (is_in_block_line first last side) blocks)
+
+-- the orders of an hour make the lines of its contracts
+abbrev pub LinesAreOfOrders : Type 0
+LinesAreOfOrders = (events : List Event) (contract : Contract) (side : Side) → IsSomeHistory events
+    → line_of (orders_of events contract.hour) contract side ≡ line events contract side
+
+-- the blocks that are named by an hour make the lines of the periods that it begins
+abbrev pub BlockLinesAreOfBlocks : Type 0
+BlockLinesAreOfBlocks = (events : List Event) (first last : ℕ) (side : Side) → IsSomeHistory events
+    → block_line_of (blocks_of events first) first last side ≡ block_line events first last side

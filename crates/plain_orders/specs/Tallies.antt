@@ -1,0 +1,137 @@
+-- What the events come to of each order and block of an hour, by its number.
+use Rattle.std.specs.Prelude.{◌≡◌, ◌≢◌, ℕ, ◌+◌, ◌-◌, ◌<◌, ◌≤◌, ◌^◌, List, count_by, length, slice_index_or, if◌then◌else◌, pos, ◌+ℤ◌, ◌-ℤ◌}
+use Rattle.order_kinds.specs.declared.order.Kind.{Kind}
+use Rattle.order_kinds.specs.declared.order.Kind.TheVariants as kind
+use Rattle.order_kinds.specs.declared.order.OrderName.{OrderName}
+use Rattle.order_kinds.specs.declared.price.Price.{Price}
+use Rattle.order_kinds.specs.declared.side.Side.{Side}
+use Rattle.order_kinds.specs.declared.side.Side.TheVariants.{Buy, Sell}
+use Rattle.order_kinds.specs.Same.{same_name}
+use Rattle.zone_graph.specs.Route.{IsIn}
+use Rattle.market_model.specs.declared.event.Event.{Event}
+use Rattle.market_model.specs.declared.event.Event.TheVariants as event
+use Rattle.market_model.specs.Blocks.{StandingBlock}
+use Rattle.market_model.specs.History.{enters_in}
+use Rattle.market_model.specs.Orders.{Placed, PlacedBlock, Standing, block_moment, blocks_placed, ends_peak, filled, left, moment, names, placed, price_now, shown_lots}
+use Rattle.plain_orders.specs.declared.tally.Change.{Change}
+use Rattle.plain_orders.specs.declared.tally.Change.TheVariants as change
+use Rattle.plain_orders.specs.declared.tally.Tally.{Tally}
+
+-- how many orders and blocks entered that are named by an hour
+abbrev pub entered_in : List Event → (hour : ℕ) → ℕ
+entered_in events hour = count_by (enters_in hour) events
+
+-- the name of the order or block of this number in an hour
+abbrev pub name_in : (hour number : ℕ) → OrderName
+name_in hour number = record { hour = hour; number = number }
+
+-- an iceberg shows something at a time
+abbrev pub HasPeak : Kind → Type 0
+HasPeak (kind.Iceberg peak delta) = 1 ≤ peak.0
+HasPeak _ = Unit {0}
+
+-- so many lots can be filled: they are left
+pub record CanFill (lots : ℕ) (tally : Tally) : Type 0 where
+  pub has : lots ≤ tally.left
+  pub fits : tally.filled + lots < 2 ^ 32
+
+-- so many lots of an order can be filled
+pub record CanTrade (lots : ℕ) (tally : Tally) : Type 0 where
+  pub has : lots ≤ tally.left
+  pub fits : tally.filled + lots < 2 ^ 32
+  pub peak : HasPeak tally.kind
+
+-- an order or block can change so
+abbrev pub CanChange : Change → Tally → Type 0
+CanChange (change.Enters entering) tally = Unit {0}
+CanChange (change.Trades lots moment) tally = CanTrade lots tally
+CanChange (change.Deals lots) tally = CanFill lots tally
+CanChange (change.Falls lots) tally = lots ≤ tally.left
+
+-- what an order comes to after a leg of so many lots
+abbrev pub traded : (lots moment : ℕ) → Tally → Tally
+traded lots moment tally = record {
+  filled = tally.filled + lots;
+  left = tally.left - lots;
+  moment = if ends_peak tally.kind (tally.filled + lots) then moment else tally.moment;
+  kind = tally.kind;
+}
+
+-- what an order or block comes to after one more change
+abbrev pub changed : Change → Tally → Tally
+changed (change.Enters entering) tally = entering
+changed (change.Trades lots moment) tally = traded lots moment tally
+changed (change.Deals lots) tally = record { filled = tally.filled + lots; left = tally.left - lots; moment = tally.moment; kind = tally.kind }
+changed (change.Falls lots) tally = record { filled = tally.filled; left = tally.left - lots; moment = tally.moment; kind = tally.kind }
+
+-- what a new order or block comes to
+abbrev pub entering : (left moment : ℕ) → Kind → Tally
+entering left moment kind = record { filled = 0; left = left; moment = moment; kind = kind }
+
+-- what the order or block of a name comes to after an event, which has this place in its hour
+abbrev pub after_event : OrderName → (moment : ℕ) → Event → Tally → Tally
+after_event name moment (event.Entered given caller order) tally =
+    if same_name given name then entering order.quantity.0 moment order.kind else tally
+after_event name moment (event.EnteredBlock given caller order) tally =
+    if same_name given name then entering order.quantity.0 moment kind.Limit else tally
+after_event name moment (event.Leg contract leg) tally =
+    if names leg name then traded leg.lots moment tally else tally
+after_event name moment (event.BlockLeg first last leg) tally =
+    if names leg name then changed (change.Deals leg.lots) tally else tally
+after_event name moment (event.Withdrawn given lots) tally =
+    if same_name given name then changed (change.Falls lots) tally else tally
+after_event name moment (event.Reduced given by) tally =
+    if same_name given name then changed (change.Falls by) tally else tally
+after_event name moment _ tally = tally
+
+-- the order or block of a name, where it is of the hour, has a place and can change so
+abbrev pub CanApply : (hour : ℕ) → OrderName → Change → List Tally → Type 0
+CanApply hour name change tallies = name.hour ≡ hour
+    → (name.number < length tallies) × ((d : Tally) → CanChange change (slice_index_or tallies name.number d))
+
+-- an event can be taken in
+abbrev pub CanTakeIn : (hour : ℕ) → Event → List Tally → Type 0
+CanTakeIn hour (event.Entered given caller order) tallies = given.hour ≡ hour → given.number < length tallies
+CanTakeIn hour (event.EnteredBlock given caller order) tallies = given.hour ≡ hour → given.number < length tallies
+CanTakeIn hour (event.Leg contract leg) tallies = (leg.taker ≢ leg.maker)
+    × ((moment : ℕ) → CanApply hour leg.taker (change.Trades leg.lots moment) tallies)
+    × ((moment : ℕ) → CanApply hour leg.maker (change.Trades leg.lots moment) tallies)
+CanTakeIn hour (event.BlockLeg first last leg) tallies = (leg.taker ≢ leg.maker)
+    × CanApply hour leg.taker (change.Deals leg.lots) tallies × CanApply hour leg.maker (change.Deals leg.lots) tallies
+CanTakeIn hour (event.Withdrawn given lots) tallies = CanApply hour given (change.Falls lots) tallies
+CanTakeIn hour (event.Reduced given by) tallies = CanApply hour given (change.Falls by) tallies
+CanTakeIn hour _ tallies = Unit {0}
+
+-- a tally says what the events come to of the order or block of a name
+pub record Tells (events : List Event) (name : OrderName) (tally : Tally) : Type 0 where
+  pub filled : tally.filled ≡ filled events name
+  pub left : tally.left ≡ left events name
+  pub order_moment : (order : Placed) → IsIn order (placed events) → order.name ≡ name → tally.moment ≡ moment events order
+  pub order_kind : (order : Placed) → IsIn order (placed events) → order.name ≡ name → tally.kind ≡ order.order.kind
+  pub block_moment : (block : PlacedBlock) → IsIn block (blocks_placed events) → block.name ≡ name → tally.moment ≡ block_moment events block
+
+-- each tally says what the events come to of the order or block of its number
+abbrev pub AreTallies : List Event → (hour : ℕ) → List Tally → Type 0
+AreTallies events hour tallies = (number : ℕ) (d : Tally) → number < length tallies
+    → Tells events (name_in hour number) (slice_index_or tallies number d)
+
+-- an order, and a block, as it stands by its tally
+abbrev pub standing_by : Tally → Placed → Standing
+standing_by tally order = record {
+  name = order.name;
+  caller = order.caller;
+  order = order.order;
+  filled = tally.filled;
+  left = tally.left;
+  shown = shown_lots order.order.kind tally.filled tally.left;
+  price = price_now order.order tally.filled;
+  moment = tally.moment;
+}
+
+abbrev pub standing_block_by : Tally → PlacedBlock → StandingBlock
+standing_block_by tally block = record { name = block.name; order = block.order; left = tally.left; moment = tally.moment }
+
+-- a price that is moved by so many cents: a sell's up, a buy's down
+abbrev pub moved : Side → Price → (cents : ℕ) → Price
+moved Buy price cents = record { 0 = price.0 -ℤ pos cents }
+moved Sell price cents = record { 0 = price.0 +ℤ pos cents }

@@ -1,0 +1,135 @@
+//! The orders and blocks of an hour.
+
+ghost use Rattle.std.specs.Prelude.{◌≡◌, IfOk};
+ghost use Rattle.market_model.specs.Orders as orders;
+ghost use Rattle.plain_orders.specs.Histories.{IsSomeHistory};
+ghost use Rattle.plain_orders.specs.Listed as listed;
+
+use crate::placed::{PlacedBlock, PlacedOrder};
+use crate::standing::{StandingBlock, StandingOrder};
+use crate::tally::tallies_of;
+use market_model::{Event, NoMemory, OrderName};
+use std::alloc::Global;
+
+/// All orders that are named by an hour, open or not, in order of entry, as they stand.
+///
+/// # Errors
+///
+/// [`NoMemory`], where there is no memory for the sums of the hour or for the list.
+pub fn orders_of(alloc: Global, events: &[Event], hour: u32) -> Result<Vec<StandingOrder>, NoMemory>
+    requires history { IsSomeHistory events.now }
+    ensures { IfOk result (λ made. made.items ≡ listed.orders_of events.now hour) }
+{
+    let tallies = tallies_of(alloc, events, hour)?;
+    let mut orders = Vec::new(alloc);
+    for event in events {
+        match order_given(event, hour) {
+            Some(placed) => {
+                let tally = tallies[placed.name().number as usize];
+                orders.push(StandingOrder::new(&placed, tally))?;
+            }
+            None => {}
+        }
+    }
+    Ok(orders)
+}
+
+/// All blocks that are named by an hour, their first, open or not, in order of entry, as they
+/// stand.
+///
+/// # Errors
+///
+/// [`NoMemory`], where there is no memory for the sums of the hour or for the list.
+pub fn blocks_of(
+    alloc: Global,
+    events: &[Event],
+    first: u32,
+) -> Result<Vec<StandingBlock>, NoMemory>
+    requires history { IsSomeHistory events.now }
+    ensures { IfOk result (λ made. made.items ≡ listed.blocks_of events.now first) }
+{
+    let tallies = tallies_of(alloc, events, first)?;
+    let mut blocks = Vec::new(alloc);
+    for event in events {
+        match block_given(event, first) {
+            Some(placed) => {
+                let tally = tallies[placed.name().number as usize];
+                blocks.push(StandingBlock::new(&placed, tally))?;
+            }
+            None => {}
+        }
+    }
+    Ok(blocks)
+}
+
+/// The names of the open orders and blocks that are named by an hour, in order of entry.
+///
+/// # Errors
+///
+/// [`NoMemory`], where there is no memory for the sums of the hour or for the names.
+pub fn open_names(alloc: Global, events: &[Event], hour: u32) -> Result<Vec<OrderName>, NoMemory>
+    requires history { IsSomeHistory events.now }
+    ensures { IfOk result (λ made. made.items ≡ orders.open_names events.now hour) }
+{
+    let tallies = tallies_of(alloc, events, hour)?;
+    let mut names = Vec::new(alloc);
+    for event in events {
+        match name_given(event, hour) {
+            Some(name) => {
+                if tallies[name.number as usize].left > 0 {
+                    names.push(name)?;
+                }
+            }
+            None => {}
+        }
+    }
+    Ok(names)
+}
+
+// The order that an event enters, if it is named by an hour.
+fn order_given(event: &Event, hour: u32) -> Option<PlacedOrder>
+    ensures { result ≡ listed.order_given hour event.now }
+{
+    match event {
+        Event::Entered {
+            name,
+            caller,
+            order,
+        } if name.hour == hour => Some(PlacedOrder {
+            name: *name,
+            caller: *caller,
+            order: *order,
+        }),
+        _ => None,
+    }
+}
+
+// The block that an event enters, if it is named by an hour.
+fn block_given(event: &Event, first: u32) -> Option<PlacedBlock>
+    ensures { result ≡ listed.block_given first event.now }
+{
+    match event {
+        Event::EnteredBlock {
+            name,
+            caller,
+            order,
+        } if name.hour == first => Some(PlacedBlock {
+            name: *name,
+            caller: *caller,
+            order: *order,
+        }),
+        _ => None,
+    }
+}
+
+// The name that an event gives to an order or block of an hour.
+fn name_given(event: &Event, hour: u32) -> Option<OrderName>
+    ensures { result ≡ orders.name_given hour event.now }
+{
+    match event {
+        Event::Entered { name, .. } | Event::EnteredBlock { name, .. } if name.hour == hour => {
+            Some(*name)
+        }
+        _ => None,
+    }
+}

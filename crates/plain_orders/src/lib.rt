@@ -1,0 +1,26 @@
+//! The orders and blocks of an hour as they stand after a list of events, and nothing else: what is
+//! filled and left of each, what it shows and at which price, its moment, and the lines of the order
+//! book in priority.
+//!
+//! No order book is kept. The sums of all orders and blocks of an hour are taken in one pass over
+//! the events. All quantities are lots, tenths of a MW; all prices are cents per MWh.
+#![tactic(auto)]
+
+mod hour;
+mod lines;
+mod naming;
+mod owning;
+mod placed;
+mod standing;
+mod sums;
+mod tally;
+#[cfg(test)]
+mod tests;
+
+pub use hour::{blocks_of, open_names, orders_of};
+pub use lines::{block_line, block_lines_are_of_blocks, line, lines_are_of_orders};
+pub use naming::next_name;
+pub use owning::{DESK_ROOM, has_desk_room, has_own, open_block, open_order, own_limit};
+pub use placed::{PlacedBlock, PlacedOrder};
+pub use standing::{StandingBlock, StandingOrder};
+pub use sums::left;

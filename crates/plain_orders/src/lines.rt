@@ -1,0 +1,117 @@
+//! The lines of the order book.
+
+ghost use Rattle.std.specs.Prelude.{◌≡◌, IfOk, filter};
+ghost use Rattle.market_model.specs.Blocks.{block_priority_cmp};
+ghost use Rattle.market_model.specs.Lines.{in_order, priority_cmp};
+ghost use Rattle.order_kinds.specs.Same.{same_contract, same_side};
+ghost use Rattle.order_kinds.specs.Side.{price_cmp};
+ghost use Rattle.plain_orders.specs.Listed as listed;
+
+use crate::standing::{StandingBlock, StandingOrder};
+use market_model::{Contract, NoMemory, Price, Side};
+use std::alloc::Global;
+use std::cmp::Ordering;
+
+/// The line of a contract and side: its open orders among these, the better price first, then the
+/// earlier moment, then the smaller number.
+///
+/// # Errors
+///
+/// [`NoMemory`], where there is no memory for the line or to put it in order.
+pub fn line(
+    alloc: Global,
+    orders: &[StandingOrder],
+    contract: Contract,
+    side: Side,
+) -> Result<Vec<StandingOrder>, NoMemory>
+    ensures { IfOk result (λ made. made.items ≡ listed.line_of orders.now contract side) }
+{
+    let mut line = Vec::new(alloc);
+    for order in orders {
+        if is_in_line(order, contract, side) {
+            line.push(*order)?;
+        }
+    }
+    line.sort_by(|one, other| in_priority(side, one, other))?;
+    Ok(line)
+}
+
+// Whether an order is open, of a contract and on a side.
+fn is_in_line(order: &StandingOrder, contract: Contract, side: Side) -> bool
+    ensures { result ≡ listed.is_in_line contract side order.now }
+{
+    order.left() > 0 && order.order().contract == contract && order.order().side == side
+}
+
+// How two orders of a side stand in priority.
+fn in_priority(side: Side, one: &StandingOrder, other: &StandingOrder) -> Ordering
+    ensures { result ≡ priority_cmp side one.now other.now }
+{
+    by_price(side, one.price(), other.price())
+        .then(one.moment().cmp(&other.moment()))
+        .then(one.name().number.cmp(&other.name().number))
+}
+
+// How two prices of a side stand in priority.
+fn by_price(side: Side, one: Price, other: Price) -> Ordering
+    ensures { result ≡ price_cmp side one other }
+{
+    match side {
+        Side::Buy => other.0.cmp(&one.0),
+        Side::Sell => one.0.cmp(&other.0),
+    }
+}
+
+/// The line of a period of hours and a side: its open blocks among these, of all quantities, the
+/// better price first, then the earlier moment, then the smaller number.
+///
+/// # Errors
+///
+/// [`NoMemory`], where there is no memory for the line or to put it in order.
+pub fn block_line(
+    alloc: Global,
+    blocks: &[StandingBlock],
+    first: u32,
+    last: u32,
+    side: Side,
+) -> Result<Vec<StandingBlock>, NoMemory>
+    ensures { IfOk result (λ made. made.items ≡ listed.block_line_of blocks.now first last side) }
+{
+    let mut line = Vec::new(alloc);
+    for block in blocks {
+        if is_in_block_line(block, first, last, side) {
+            line.push(*block)?;
+        }
+    }
+    line.sort_by(|one, other| in_block_priority(side, one, other))?;
+    Ok(line)
+}
+
+// Whether a block is open, of a period and on a side.
+fn is_in_block_line(block: &StandingBlock, first: u32, last: u32, side: Side) -> bool
+    ensures { result ≡ listed.is_in_block_line first last side block.now }
+{
+    let order = block.order();
+    block.left() > 0 && order.first == first && order.last == last && order.side == side
+}
+
+// How two blocks of a side stand in priority.
+fn in_block_priority(side: Side, one: &StandingBlock, other: &StandingBlock) -> Ordering
+    ensures { result ≡ block_priority_cmp side one.now other.now }
+{
+    by_price(side, one.order().price, other.order().price)
+        .then(one.moment().cmp(&other.moment()))
+        .then(one.name().number.cmp(&other.name().number))
+}
+
+/// The orders of an hour make the lines of its contracts: what [`line`] answers from what
+/// [`crate::orders_of`] answers is the market's line.
+pub fn lines_are_of_orders()
+    ensures { listed.LinesAreOfOrders }
+{}
+
+/// The blocks that are named by an hour make the lines of the periods that it begins: what
+/// [`block_line`] answers from what [`crate::blocks_of`] answers is the market's line.
+pub fn block_lines_are_of_blocks()
+    ensures { listed.BlockLinesAreOfBlocks }
+{}

@@ -1,0 +1,58 @@
+//! What is left of one order or block.
+
+ghost use Rattle.std.specs.Prelude.{◌≡◌, ◌+◌};
+ghost use Rattle.market_model.specs.Orders as orders;
+ghost use Rattle.plain_orders.specs.Histories.{IsSomeHistory};
+
+use market_model::{Event, Leg, OrderName};
+
+/// How much is left of an order or block, in lots: what was entered, less what is filled and what
+/// was taken off without a trade.
+pub fn left(events: &[Event], name: OrderName) -> u32
+    requires history { IsSomeHistory events.now }
+    ensures { result ≡ orders.left events.now name }
+{
+    let mut left = 0;
+    for event in events {
+        left = left + entered_lots(event, name) - lost_lots(event, name);
+    }
+    left
+}
+
+// The lots with which an event enters the order or block of a name.
+fn entered_lots(event: &Event, name: OrderName) -> u32
+    ensures { result ≡ orders.entered_by name event.now }
+{
+    match event {
+        Event::Entered {
+            name: given,
+            order,
+            ..
+        } if *given == name => order.quantity.0,
+        Event::EnteredBlock {
+            name: given,
+            order,
+            ..
+        } if *given == name => order.quantity.0,
+        _ => 0,
+    }
+}
+
+// The lots that an event fills of the order or block of a name, or takes off it.
+fn lost_lots(event: &Event, name: OrderName) -> u32
+    ensures { result ≡ orders.filled_by name event.now + orders.taken_off_by name event.now }
+{
+    match event {
+        Event::Leg { leg, .. } | Event::BlockLeg { leg, .. } if names(leg, name) => leg.lots,
+        Event::Withdrawn { name: given, lots } if *given == name => *lots,
+        Event::Reduced { name: given, by } if *given == name => *by,
+        _ => 0,
+    }
+}
+
+// Whether a leg is of an order or block.
+fn names(leg: &Leg, name: OrderName) -> bool
+    ensures { result ≡ orders.names leg.now name }
+{
+    leg.taker == name || leg.maker == name
+}
