@@ -1,0 +1,166 @@
+-- The capacity of an hour, event by event.
+use Rattle.std.proofs.Common.{◌≡◌, ◌∙◌, ◌+◌, ◌<◌, ℕ, pos, zero, suc, Bool, true, false, List, [], ◌∷◌, ◌++◌, length, take, drop, get_or, replicate, unwrap_or, refl, sym, ap, subst, arith}
+use Rattle.std.proofs.lemmas.List.{length-replicate}
+use Rattle.std.proofs.Math.Seq.{take-append_seam}
+use Rattle.order_kinds.specs.declared.contract.Quarter.{Quarter}
+use Rattle.order_kinds.specs.declared.phase.Phase.TheVariants as phase
+use Rattle.order_kinds.specs.Period.{quarter_of}
+use Rattle.quarter_capacity.specs.Row.{Row, flow, nothing_offered, offered}
+use Rattle.zone_graph.specs.Graph.{Graph, border_count}
+use Rattle.market_model.specs.declared.event.Event.{Event}
+use Rattle.market_model.specs.declared.event.Event.TheVariants as event
+use Rattle.market_model.specs.declared.setup.Setup.{Setup}
+use Rattle.market_model.specs.Grid.{graph_of}
+use Rattle.market_model.specs.History.{and_then}
+use Rattle.market_model.specs.Room.{halt_by, phase_by}
+use Rattle.market_model.specs.WellFormed.{FitAfter, Fits}
+use Rattle.market_laws.proofs.Capacities.{last_said-more}
+use Rattle.market_laws.proofs.Growing.{fit-back, fit-front}
+use Rattle.market_laws.proofs.Uses.{IsWithinOffers, within_offers}
+use Rattle.plain_capacity.specs.Rows.{IsNoted, IsQuarterOf}
+use Rattle.plain_capacity.specs.Hour.{CanNoteIn, Capacity, EachQuarter, HasBorder, IsCapacityOf, IsLegalOver, halted_at, idle, rows_in, size_of}
+use Rattle.plain_capacity.proofs.Legal.{can-note, noted-is}
+
+-- what is true of quarters 1 to 4 is true of each quarter
+pub each : (P : ℕ → Type 0) → P 1 → P 2 → P 3 → P 4 → EachQuarter P
+each P one two three four zero first last = absurd (omega arith)
+each P one two three four (suc zero) first last = one
+each P one two three four (suc (suc zero)) first last = two
+each P one two three four (suc (suc (suc zero))) first last = three
+each P one two three four (suc (suc (suc (suc zero)))) first last = four
+each P one two three four (suc (suc (suc (suc (suc n))))) first last = absurd (omega arith)
+
+-- ---- before any event
+
+at-replicate : {X : Type 0} (x : X) (size i : ℕ) → get_or (replicate size x) i x ≡ x
+at-replicate x zero i = refl
+at-replicate x (suc size) zero = refl
+at-replicate x (suc size) (suc i) = at-replicate x size i
+
+idle-offered : (forward : Bool) → offered nothing_offered forward ≡ 0
+idle-offered true = refl
+idle-offered false = refl
+
+idle-flow : (forward : Bool) → flow nothing_offered forward ≡ pos 0
+idle-flow true = refl
+idle-flow false = refl
+
+pub idle-is : (graph : Graph) (hour : ℕ) → IsCapacityOf graph [] hour (idle (border_count graph))
+idle-is graph hour = record {
+  size = length-replicate (border_count graph) false;
+  quarters = each (λ number. IsQuarterOf graph [] (quarter_of hour number) (rows_in (idle (border_count graph)) number)) (quarter 1) (quarter 2) (quarter 3) (quarter 4);
+  halts = λ border within. at-replicate false (border_count graph) border;
+  phase = refl;
+}
+  where
+    quarter : (number : ℕ) → IsQuarterOf graph [] (quarter_of hour number) (replicate (border_count graph) nothing_offered)
+    quarter number = record {
+      size = length-replicate (border_count graph) nothing_offered;
+      offers = λ arc. ap (λ row. offered row arc.forward) (at-replicate nothing_offered (border_count graph) arc.border) ∙ idle-offered arc.forward;
+      flows = λ arc. ap (λ row. flow row arc.forward) (at-replicate nothing_offered (border_count graph) arc.border) ∙ idle-flow arc.forward;
+    }
+
+-- ---- one more event
+
+module _ (graph : Graph) (setup : Setup) (before : List Event) (e : Event) (hour : ℕ) (capacity : Capacity) (over : graph ≡ graph_of setup)
+    (within : IsWithinOffers before) (fits : Fits setup before e) (is : IsCapacityOf graph before hour capacity) where
+  border-there : HasBorder (size_of capacity) hour e
+  border-there = by e fits
+    where
+      there : (border : ℕ) → border < border_count (graph_of setup) → border < size_of capacity
+      there border known =
+          let here : border < border_count graph = subst (λ g. border < border_count g) (sym over) known in
+          let size = is.size in
+          omega arith
+
+      by : (e : Event) → Fits setup before e → HasBorder (size_of capacity) hour e
+      by (event.Halted border first last) f = λ on. there border f.on_border
+      by (event.Resumed border first last) f = λ on. there border f.on_border
+      by (event.Leg contract leg) f = tt
+      by (event.BlockLeg first last leg) f = tt
+      by (event.Granted arc first last lots) f = tt
+      by (event.Offered arc first last lots) f = tt
+      by (event.Entered name caller order) f = tt
+      by (event.EnteredBlock name caller order) f = tt
+      by (event.Gated gated moved) f = tt
+      by (event.Withdrawn name lots) f = tt
+      by (event.Reduced name less) f = tt
+
+  can-note-in : CanNoteIn hour e capacity
+  can-note-in = record {
+    quarters = λ number first last. can-note graph before (quarter_of hour number) (rows_in capacity number) (is.quarters number first last) setup e over within fits;
+    border = border-there;
+  }
+
+  noted-in : (new : Capacity) → EachQuarter (λ number. IsNoted (quarter_of hour number) e (rows_in capacity number) (rows_in new number))
+      → size_of new ≡ size_of capacity
+      → ((border : ℕ) → border < size_of capacity → halted_at new border ≡ unwrap_or (halt_by border hour e) (halted_at capacity border))
+      → new.phase ≡ unwrap_or (phase_by hour e) capacity.phase → IsCapacityOf graph (and_then before e) hour new
+  noted-in new quarters size halts phased = record {
+    size = size ∙ is.size;
+    quarters = λ number first last.
+        noted-is graph before (quarter_of hour number) (rows_in capacity number) (is.quarters number first last) e (rows_in new number) (quarters number first last);
+    halts = λ border known.
+        let there : border < size_of capacity = (let same = is.size in omega arith) in
+        halts border there ∙ ap (unwrap_or (halt_by border hour e)) (is.halts border known) ∙ sym (last_said-more (halt_by border hour) false before e);
+    phase = phased ∙ ap (unwrap_or (phase_by hour e)) is.phase ∙ sym (last_said-more (phase_by hour) phase.Open before e);
+  }
+
+-- ---- an event by its place among others
+
+split-at : (events : List Event) (i : ℕ) (e : Event) → i < length events → e ≡ get_or events i e → events ≡ take i events ++ e ∷ drop (i + 1) events
+split-at [] i e within is = absurd (omega arith)
+split-at (x ∷ events) zero e within is = cc
+split-at (x ∷ events) (suc i) e within is =
+    let rest = split-at events i e (omega arith) is in
+    let one : suc i + 1 ≡ suc (i + 1) = omega arith in
+    rw one (ap (λ l. x ∷ l) rest)
+
+pub take-more : (events : List Event) (i : ℕ) (e : Event) → i < length events → e ≡ get_or events i e → take (i + 1) events ≡ and_then (take i events) e
+take-more [] i e within is = absurd (omega arith)
+take-more (x ∷ events) zero e within is = cc
+take-more (x ∷ events) (suc i) e within is =
+    let one : suc i + 1 ≡ suc (i + 1) = omega arith in
+    rw one (ap (λ l. x ∷ l) (take-more events i e (omega arith) is))
+
+module _ (graph : Graph) (events : List Event) (legal : IsLegalOver graph events) (i : ℕ) (e : Event) (hour : ℕ) (capacity : Capacity)
+    (within : i < length events) (at : e ≡ get_or events i e) (is : IsCapacityOf graph (take i events) hour capacity) where
+  all-fit : FitAfter legal.setup [] (take i events ++ e ∷ drop (i + 1) events)
+  all-fit = subst (FitAfter legal.setup []) (split-at events i e within at) legal.fit
+
+  is-within : IsWithinOffers (take i events)
+  is-within = within_offers legal.setup (take i events) (fit-front legal.setup [] (take i events) (e ∷ drop (i + 1) events) all-fit)
+
+  fits-here : Fits legal.setup (take i events) e
+  fits-here = (fit-back legal.setup [] (take i events) (e ∷ drop (i + 1) events) all-fit).0
+
+  -- the next event can count
+  pub next-can : CanNoteIn hour e capacity
+  next-can = can-note-in graph legal.setup (take i events) e hour capacity legal.over is-within fits-here is
+
+  -- and then the capacity is that of the events with it
+  pub next-is : (new : Capacity) → EachQuarter (λ number. IsNoted (quarter_of hour number) e (rows_in capacity number) (rows_in new number))
+      → size_of new ≡ size_of capacity
+      → ((border : ℕ) → border < size_of capacity → halted_at new border ≡ unwrap_or (halt_by border hour e) (halted_at capacity border))
+      → new.phase ≡ unwrap_or (phase_by hour e) capacity.phase → IsCapacityOf graph (take (i + 1) events) hour new
+  next-is new quarters size halts phased =
+      subst (λ l. IsCapacityOf graph l hour new) (sym (take-more events i e within at))
+      (noted-in graph legal.setup (take i events) e hour capacity legal.over is-within fits-here is new quarters size halts phased)
+
+-- ---- rows that are written back
+
+pub written_back : {X : Type 0} (n : ℕ) (new rest : List X) → length new ≡ n → new ≡ take n (new ++ rest)
+written_back n new rest size = subst (λ k. new ≡ take k (new ++ rest)) size (sym (take-append_seam new rest))
+
+pub noted_back : (quarter given : Quarter) (e : Event) (old was new rest : List Row) (n : ℕ) → given ≡ quarter → was ≡ old → length was ≡ n
+    → IsNoted given e was new → IsNoted quarter e old (take n (new ++ rest))
+noted_back quarter given e old was new rest n same kept size noted =
+    subst (IsNoted quarter e old) (written_back n new rest (noted.size ∙ size))
+    (subst (λ rows. IsNoted quarter e rows new) kept (subst (λ q. IsNoted q e was new) same noted))
+
+pub halts_back : (hour border : ℕ) (e : Event) (old was new rest : List Bool) (n : ℕ) → was ≡ old → length was ≡ n → length new ≡ length was
+    → (border < length was → get_or new border false ≡ unwrap_or (halt_by border hour e) (get_or was border false)) → border < length old
+    → get_or (take n (new ++ rest)) border false ≡ unwrap_or (halt_by border hour e) (get_or old border false)
+halts_back hour border e old was new rest n kept size same step within =
+    let there : border < length was = (let equal = ap (λ (l : List Bool). length l) kept in omega arith) in
+    ap (λ l. get_or l border false) (sym (written_back n new rest (same ∙ size))) ∙ step there ∙ ap (λ l. unwrap_or (halt_by border hour e) (get_or l border false)) kept

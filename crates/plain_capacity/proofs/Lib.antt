@@ -1,0 +1,6 @@
+pub mod Takes
+pub mod Carries
+pub mod Legal
+pub mod Hours
+pub mod RoomLemmas
+pub mod QuietLemmas

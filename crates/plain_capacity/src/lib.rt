@@ -1,0 +1,18 @@
+//! The capacity that a list of events leaves, computed anew from the events alone: what is offered
+//! and what flows on each arc in each quarter of an hour, which borders are halted, the phase, and
+//! the rooms that follow. Nothing is kept from one call to the next.
+//!
+//! All numbers are lots, tenths of a MW. The quarters of an hour are numbered from 1 to 4.
+#![tactic(auto)]
+
+mod hour;
+mod period;
+mod quarter;
+mod rooms;
+mod said;
+#[cfg(test)]
+mod tests;
+
+pub use hour::{HourCapacity, hour_capacity};
+pub use rooms::{block_rooms, contract_rooms};
+pub use said::{is_halted, phase_of};

@@ -1,0 +1,66 @@
+//! The rooms of all arcs for a contract and for blocks.
+
+ghost use Rattle.std.specs.Prelude.{◌≡◌, ◌≤◌, true, IfOk, length};
+ghost use Rattle.order_kinds.specs.Contract as contracts;
+ghost use Rattle.order_kinds.specs.Period as periods;
+ghost use Rattle.zone_graph.specs.declared.route.Arc.{Arc};
+ghost use Rattle.zone_graph.specs.Graph as graphs;
+ghost use Rattle.zone_graph.specs.Rooms as rows;
+ghost use Rattle.market_model.specs.Room as rooms;
+ghost use Rattle.plain_capacity.specs.Hour as hours;
+
+use crate::hour::hour_capacity;
+use market_model::Event;
+use order_kinds::{Contract, Part};
+use std::alloc::Global;
+use zone_graph::{Grid, NoMemory, Rooms};
+
+/// The room that each arc has for a contract after the events of a first part of a legal history
+/// over a grid: the least over the quarters in which the contract delivers.
+pub fn contract_rooms(
+    alloc: Global,
+    grid: &Grid,
+    events: &[Event],
+    contract: Contract,
+) -> Result<Rooms, NoMemory>
+    requires legal { hours.IsLegalOver grid.now events.now }
+    requires part { contracts.is_known contract.part ≡ true }
+    ensures size { IfOk result (λ made. length made ≡ graphs.border_count grid.now) }
+    ensures rooms { IfOk result (λ made. (arc : Arc) → graphs.HasArc grid.now arc → rows.room_of made arc ≡ rooms.room events.now (periods.contract_quarters contract) arc) }
+{
+    hour_capacity(alloc, grid, events, contract.hour)?.rooms(grid, contract.part)
+}
+
+/// The room that each arc has for blocks of these hours after the events of a first part of a legal
+/// history over a grid: the least over all quarters of the hours.
+pub fn block_rooms(
+    alloc: Global,
+    grid: &Grid,
+    events: &[Event],
+    first: u32,
+    last: u32,
+) -> Result<Rooms, NoMemory>
+    requires legal { hours.IsLegalOver grid.now events.now }
+    requires order { first ≤ last }
+    ensures size { IfOk result (λ made. length made ≡ graphs.border_count grid.now) }
+    ensures rooms { IfOk result (λ made. (arc : Arc) → graphs.HasArc grid.now arc → rows.room_of made arc ≡ rooms.room events.now (periods.block_quarters first last) arc) }
+{
+    let mut rooms = hour_rooms(alloc, grid, events, first)?;
+    for hour in first..last {
+        rooms.least_with(&hour_rooms(alloc, grid, events, hour + 1)?);
+    }
+    Ok(rooms)
+}
+
+// The rooms of a whole hour.
+fn hour_rooms(alloc: Global, grid: &Grid, events: &[Event], hour: u32) -> Result<Rooms, NoMemory>
+    requires { hours.IsLegalOver grid.now events.now }
+    ensures size { IfOk result (λ made. length made ≡ graphs.border_count grid.now) }
+    ensures rooms { IfOk result (λ made. (arc : Arc) → graphs.HasArc grid.now arc → rows.room_of made arc ≡ rooms.room events.now (periods.hour_quarters hour) arc) }
+{
+    let contract = Contract {
+        hour,
+        part: Part::Hour,
+    };
+    contract_rooms(alloc, grid, events, contract)
+}

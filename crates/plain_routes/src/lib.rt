@@ -1,0 +1,13 @@
+//! The best route between two zones of a grid, and the zones that routes join with one zone, by a
+//! plain method: how far the zones are is found round by round over all borders.
+#![tactic(auto)]
+
+mod choice;
+mod rounds;
+mod zone_set;
+
+pub use choice::best_route;
+pub use zone_set::{ZoneSet, reached};
+
+#[cfg(test)]
+mod tests;
