@@ -1,0 +1,131 @@
+-- What is known of the orders of an hour in a legal history, and of the lines that they make.
+use Rattle.std.proofs.Common.{◌≡◌, ◌∙◌, ℕ, Bool, true, false, cond, List, [], ◌∷◌, filter, map, nat_lt, Some, refl, sym, ap, subst, eq-eqb}
+use Rattle.std.specs.List.{find}
+use Rattle.std.specs.Option.{option_map}
+use Rattle.order_kinds.specs.declared.contract.Contract.{Contract}
+use Rattle.order_kinds.specs.declared.order.Order.{Order}
+use Rattle.order_kinds.specs.declared.order.OrderName.{OrderName}
+use Rattle.order_kinds.specs.declared.side.Side.{Side}
+use Rattle.order_kinds.specs.Contract.{is_known}
+use Rattle.order_kinds.specs.Same.{same_name}
+use Rattle.order_kinds.specs.Side.{opposite}
+use Rattle.zone_graph.specs.Graph.{Graph, HasZone}
+use Rattle.zone_graph.specs.Route.{IsIn}
+use Rattle.zone_graph.proofs.Membership.{from_filter, from_map}
+use Rattle.market_model.specs.declared.event.Event.{Event}
+use Rattle.market_model.specs.Lines.{line}
+use Rattle.market_model.specs.Orders.{Placed, Standing, left, placed, standing}
+use Rattle.market_model.specs.Taking.{standing_order}
+use Rattle.market_laws.proofs.Members.{from_find}
+use Rattle.market_laws.proofs.Placed.{all_are_sound}
+use Rattle.market_laws.proofs.Tests.{and-true, same_name-eq}
+use Rattle.market_laws.proofs.Trades.{from_line}
+use Rattle.market_locality.proofs.Restrict.{find-filter}
+use Rattle.plain_capacity.specs.Hour.{IsLegalOver}
+use Rattle.plain_orders.specs.Histories.{IsSomeHistory}
+use Rattle.plain_orders.specs.Listed.{is_order_of, line_of, orders_of}
+use Rattle.plain_orders.proofs.LineLaws.{line-of_orders}
+use Rattle.plain_matching.specs.Over.{AreInZones, AreRoomsFor, is_open_as}
+
+pub history : (graph : Graph) (events : List Event) → IsLegalOver graph events → IsSomeHistory events
+history graph events legal = record { setup = legal.setup; fit = legal.fit }
+
+-- a search in what comes from items
+find-map : {X Y : Type 0} (p : Y → Bool) (f : X → Y) (xs : List X) → find p (map f xs) ≡ option_map f (find (λ x. p (f x)) xs)
+find-map p f [] = refl
+find-map {X} {Y} p f (x ∷ xs) = go (p (f x)) (find-map p f xs)
+  where
+    go : (b : Bool) → find p (map f xs) ≡ option_map f (find (λ y. p (f y)) xs)
+        → cond b (Some (f x)) (find p (map f xs)) ≡ option_map f (cond b (Some x) (find (λ y. p (f y)) xs))
+    go true rest = refl
+    go false rest = rest
+
+-- who is open under a name is found among the orders of the name's hour
+pub open_as-is : (events : List Event) (name : OrderName) → find (is_open_as name) (orders_of events name.hour) ≡ standing_order events name
+open_as-is events name =
+    find-map (is_open_as name) (standing events) (filter (is_order_of name.hour) (placed events))
+    ∙ ap (option_map (standing events)) (find-filter (λ order. is_open_as name (standing events order)) (is_order_of name.hour) (placed events) in_hour)
+  where
+    in_hour : (order : Placed) → IsIn order (placed events) → is_open_as name (standing events order) ≡ true → is_order_of name.hour order ≡ true
+    in_hour order i open_here =
+        let both = and-true (same_name order.name name) (nat_lt 0 (left events order.name)) open_here in
+        eq-eqb order.name.hour name.hour (ap (λ (n : OrderName). n.hour) (same_name-eq order.name name both.0))
+
+-- an order of an hour: its zone and its part are there, and it is named by its contract's hour
+pub record IsSoundOrder (graph : Graph) (own : Standing) : Type 0 where
+  pub in_zone : HasZone graph own.order.zone
+  pub in_part : is_known own.order.contract.part ≡ true
+  pub named : own.name.hour ≡ own.order.contract.hour
+
+-- of what is known of an order that entered
+of_placed : (graph : Graph) (events : List Event) (legal : IsLegalOver graph events) (order : Placed) → IsIn order (placed events) → IsSoundOrder graph (standing events order)
+of_placed graph events legal order i =
+    let sound = (all_are_sound legal.setup events legal.fit).orders order i in
+    record { in_zone = subst (λ g. HasZone g order.order.zone) (sym legal.over) sound.in_zone; in_part = sound.in_part; named = sound.named }
+
+pub order-sound : (graph : Graph) (events : List Event) (hour : ℕ) (own : Standing) → IsLegalOver graph events → IsIn own (orders_of events hour) → IsSoundOrder graph own
+order-sound graph events hour own legal i =
+    let stands = from_map (standing events) own (filter (is_order_of hour) (placed events)) i in
+    let there = from_filter (is_order_of hour) stands.0 (placed events) stands.1 in
+    subst (λ s. IsSoundOrder graph s) (sym stands.2) (of_placed graph events legal stands.0 there.0)
+
+-- the one that is found is of the name's hour
+pub record IsFoundAs (graph : Graph) (events : List Event) (name : OrderName) (own : Standing) : Type 0 where
+  pub is_in : IsIn own (orders_of events name.hour)
+  pub hour : own.order.contract.hour ≡ name.hour
+
+pub found_as : (graph : Graph) (events : List Event) (name : OrderName) (own : Standing) → IsLegalOver graph events
+    → find (is_open_as name) (orders_of events name.hour) ≡ Some own → IsFoundAs graph events name own
+found_as graph events name own legal found =
+    let r = from_find (is_open_as name) own (orders_of events name.hour) found in
+    let both = and-true (same_name own.name name) (nat_lt 0 own.left) r.1 in
+    let sound = order-sound graph events name.hour own legal r.0 in
+    record { is_in = r.0; hour = sym sound.named ∙ ap (λ (n : OrderName). n.hour) (same_name-eq own.name name both.0) }
+
+-- the lines of the orders of an hour
+pub lines-are : (graph : Graph) (events : List Event) (orders : List Standing) (contract : Contract) (side : Side) → IsLegalOver graph events
+    → orders ≡ orders_of events contract.hour → line_of orders contract side ≡ line events contract side
+lines-are graph events orders contract side legal same =
+    ap (λ os. line_of os contract side) same ∙ line-of_orders events contract side (history graph events legal)
+
+-- the zones of a line are there
+pub line-zones : (graph : Graph) (events : List Event) (contract : Contract) (side : Side) → IsLegalOver graph events → AreInZones graph (line events contract side)
+line-zones graph events contract side legal = record { each = zone }
+  where
+    zone : (order : Standing) → IsIn order (line events contract side) → HasZone graph order.order.zone
+    zone order i =
+        let found = from_line events contract side order i in
+        let sound = of_placed graph events legal found.order found.is_open.is_placed in
+        subst (λ s. HasZone graph s.order.zone) (sym found.is) sound.in_zone
+
+-- one of the orders of its contract's hour
+pub own-sound : (graph : Graph) (events : List Event) (orders : List Standing) (own : Standing) → IsLegalOver graph events
+    → orders ≡ orders_of events own.order.contract.hour → IsIn own orders → IsSoundOrder graph own
+own-sound graph events orders own legal same i =
+    order-sound graph events own.order.contract.hour own legal (subst (λ os. IsIn own os) same i)
+
+-- what an order finds its partner in: the rooms of its contract and the line of the other side
+pub record IsReady (graph : Graph) (events : List Event) (own : Standing) (others : List Standing) (made : List (ℕ × ℕ)) : Type 0 where
+  pub are : AreRoomsFor graph events own.order.contract made
+  pub line_is : others ≡ line events own.order.contract (opposite own.order.side)
+  pub in_zones : AreInZones graph others
+
+-- the line in which an order seeks its partner
+pub other_line-is : (graph : Graph) (events : List Event) (orders : List Standing) (own : Standing) (order : Order) (side : Side) (found others : List Standing)
+    → IsLegalOver graph events → orders ≡ orders_of events own.order.contract.hour → order ≡ own.order → side ≡ opposite order.side
+    → found ≡ line_of orders order.contract side → others ≡ found → others ≡ line events own.order.contract (opposite own.order.side)
+other_line-is graph events orders own order side found others legal same of_order of_side is_found are_others =
+    are_others ∙ is_found ∙ ap (λ s. line_of orders order.contract s) of_side
+    ∙ ap (λ (o : Order). line_of orders o.contract (opposite o.side)) of_order
+    ∙ lines-are graph events orders own.order.contract (opposite own.order.side) legal same
+
+pub ready : (graph : Graph) (events : List Event) (orders : List Standing) (own : Standing) (order : Order) (side : Side) (found others : List Standing)
+    (made : List (ℕ × ℕ)) → IsLegalOver graph events → orders ≡ orders_of events own.order.contract.hour → order ≡ own.order → side ≡ opposite order.side
+    → found ≡ line_of orders order.contract side → others ≡ found → AreRoomsFor graph events order.contract made → IsReady graph events own others made
+ready graph events orders own order side found others made legal same of_order of_side is_found are_others are =
+    let line_is = other_line-is graph events orders own order side found others legal same of_order of_side is_found are_others in
+    record {
+      are = subst (λ (o : Order). AreRoomsFor graph events o.contract made) of_order are;
+      line_is = line_is;
+      in_zones = subst (AreInZones graph) (sym line_is) (line-zones graph events own.order.contract (opposite own.order.side) legal);
+    }

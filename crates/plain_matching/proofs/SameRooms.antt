@@ -1,0 +1,69 @@
+-- Partners and legs are the same where the rooms of the graph's arcs are.
+use Rattle.std.proofs.Common.{◌≡◌, ◌∙◌, ℕ, ◌&&◌, List, [], ◌∷◌, min, Option, Some, None, refl, ap, inl, inr, if◌then◌else◌}
+use Rattle.std.specs.Option.{option_and_then, option_map, is_some}
+use Rattle.std.specs.Ordering.{is_lt}
+use Rattle.zone_graph.specs.declared.route.Arc.{Arc}
+use Rattle.zone_graph.specs.Graph.{Graph, HasArc, IsGraph}
+use Rattle.zone_graph.specs.Route.{IsIn, best_route, carried}
+use Rattle.zone_graph.proofs.BestRoute.{best_route-rooms}
+use Rattle.market_model.specs.declared.event.Event.{Event}
+use Rattle.market_model.specs.Lines.{buyer_zone, can_trade, seller_zone, time_cmp}
+use Rattle.market_model.specs.Orders.{Standing}
+use Rattle.market_model.specs.Taking.{leg_over}
+use Rattle.market_laws.proofs.Carrying.{best_route-route}
+use Rattle.market_locality.proofs.Restrict.{find-same}
+use Rattle.cut_proof.proofs.Ways.{way_has_arc}
+use Rattle.plain_matching.specs.Over.{crosses_price, leg_of_buy_over, partner_in, resting_trade_over, trade_over}
+
+-- the arcs of a best route are the graph's
+pub best_route-arcs : (graph : Graph) (room : Arc → ℕ) (from to : ℕ) (route : List Arc) → IsGraph graph → best_route graph room from to ≡ Some route
+    → (arc : Arc) → IsIn arc route → HasArc graph arc
+best_route-arcs graph room from to route is found arc i =
+    way_has_arc graph room from to route arc (best_route-route graph room from to route is found).way i
+
+carried-rooms : (graph : Graph) (room other : Arc → ℕ) (lots : ℕ) (route : List Arc) → ((arc : Arc) → HasArc graph arc → room arc ≡ other arc)
+    → ((arc : Arc) → IsIn arc route → HasArc graph arc) → carried room lots route ≡ carried other lots route
+carried-rooms graph room other lots [] same known = refl
+carried-rooms graph room other lots (arc ∷ arcs) same known =
+    ap (λ n. carried room (min lots n) arcs) (same arc (known arc (inl refl)))
+    ∙ carried-rooms graph room other (min lots (other arc)) arcs same (λ a i. known a (inr i))
+
+module _ (graph : Graph) (room other : Arc → ℕ) (is : IsGraph graph) (same : (arc : Arc) → HasArc graph arc → room arc ≡ other arc) where
+  pub can_trade-rooms : (own another : Standing) → can_trade graph room own another ≡ can_trade graph other own another
+  can_trade-rooms own another =
+      ap (λ route. crosses_price own another && is_some route)
+      (best_route-rooms graph room other (seller_zone own another) (buyer_zone own another) is same)
+
+  pub partner_in-rooms : (line : List Standing) (own : Standing) → partner_in graph room line own ≡ partner_in graph other line own
+  partner_in-rooms line own = find-same (can_trade graph room own) (can_trade graph other own) line (λ another i. can_trade-rooms own another)
+
+  pub trade_over-rooms : (taker maker : Standing) → trade_over graph room taker maker ≡ trade_over graph other taker maker
+  trade_over-rooms taker maker =
+      go (best_route graph room (seller_zone taker maker) (buyer_zone taker maker)) refl
+      ∙ ap (option_map (leg_over other taker maker)) (best_route-rooms graph room other (seller_zone taker maker) (buyer_zone taker maker) is same)
+    where
+      go : (o : Option (List Arc)) → best_route graph room (seller_zone taker maker) (buyer_zone taker maker) ≡ o
+          → option_map (leg_over room taker maker) o ≡ option_map (leg_over other taker maker) o
+      go None found = refl
+      go (Some route) found =
+          ap (λ lots. Some (leg_at lots route))
+          (carried-rooms graph room other (min taker.shown maker.shown) route same
+          (best_route-arcs graph room (seller_zone taker maker) (buyer_zone taker maker) route is found))
+        where
+          leg_at : (lots : ℕ) → List Arc → Event
+          leg_at lots route = Rattle.market_model.specs.declared.event.Event.TheVariants.Leg taker.order.contract
+              (record { taker = taker.name; maker = maker.name; lots = lots; price = maker.price; route = route })
+
+  pub resting_trade_over-rooms : (buy sell : Standing) → resting_trade_over graph room buy sell ≡ resting_trade_over graph other buy sell
+  resting_trade_over-rooms buy sell =
+      ap (λ leg. if is_lt (time_cmp buy sell) then leg else trade_over graph room buy sell) (trade_over-rooms sell buy)
+      ∙ ap (λ leg. if is_lt (time_cmp buy sell) then trade_over graph other sell buy else leg) (trade_over-rooms buy sell)
+
+  pub leg_of_buy_over-rooms : (sells : List Standing) (buy : Standing) → leg_of_buy_over graph room sells buy ≡ leg_of_buy_over graph other sells buy
+  leg_of_buy_over-rooms sells buy =
+      ap (option_and_then (resting_trade_over graph room buy)) (partner_in-rooms sells buy)
+      ∙ on (partner_in graph other sells buy)
+    where
+      on : (o : Option Standing) → option_and_then (resting_trade_over graph room buy) o ≡ option_and_then (resting_trade_over graph other buy) o
+      on None = refl
+      on (Some sell) = resting_trade_over-rooms buy sell

@@ -1,0 +1,87 @@
+-- The zones of the two orders of a trade, and what is in reach.
+use Rattle.std.proofs.Common.{◌≡◌, ◌∙◌, ℕ, ◌&&◌, Bool, false, List, Some, None, length, get_or, ◌<◌, refl, ap}
+use Rattle.std.specs.List.{find, list_any}
+use Rattle.order_kinds.specs.declared.order.Order.{Order}
+use Rattle.order_kinds.specs.declared.side.Side.{Side}
+use Rattle.order_kinds.specs.declared.side.Side.TheVariants.{Buy, Sell}
+use Rattle.zone_graph.specs.declared.route.Arc.{Arc}
+use Rattle.zone_graph.specs.Graph.{Graph, HasZone}
+use Rattle.zone_graph.specs.Reach.{reaches}
+use Rattle.market_model.specs.Lines.{buyer_zone, can_trade, seller_zone}
+use Rattle.market_model.specs.Orders.{Standing}
+use Rattle.market_laws.proofs.Members.{from_find}
+use Rattle.market_locality.proofs.Restrict.{find-same}
+use Rattle.plain_routes.specs.declared.zone_set.ZoneSet.{ZoneSet}
+use Rattle.plain_routes.specs.Reached.{has_zone, is_reached}
+use Rattle.plain_matching.specs.Over.{AreInZones, crosses_price, is_buy, is_in_reach, partner_in}
+use Rattle.plain_matching.proofs.Places.{at-IsIn, find-nothing}
+
+-- an order, on a side
+on : Side → Standing → Standing
+on side own = record own { order = record (own.order) { side = side } }
+
+module _ (graph : Graph) (own other : Standing) (own_zone : HasZone graph own.order.zone) (other_zone : HasZone graph other.order.zone) where
+  pub seller-known : HasZone graph (seller_zone own other)
+  unfolding on
+  seller-known = by own.order.side
+    where
+      by : (side : Side) → HasZone graph (seller_zone (on side own) other)
+      by Buy = other_zone
+      by Sell = own_zone
+
+  pub buyer-known : HasZone graph (buyer_zone own other)
+  unfolding on
+  buyer-known = by own.order.side
+    where
+      by : (side : Side) → HasZone graph (buyer_zone (on side own) other)
+      by Buy = own_zone
+      by Sell = other_zone
+
+-- the zones that a route joins with the zone of an order are those of its partners
+reached-is : (graph : Graph) (room : Arc → ℕ) (own other : Standing)
+    → is_reached (is_buy own.order.side) graph room own.order.zone other.order.zone ≡ reaches graph room (seller_zone own other) (buyer_zone own other)
+unfolding on
+reached-is graph room own other = by own.order.side
+  where
+    by : (side : Side)
+        → is_reached (is_buy side) graph room own.order.zone other.order.zone ≡ reaches graph room (seller_zone (on side own) other) (buyer_zone (on side own) other)
+    by Buy = refl
+    by Sell = refl
+
+-- the first order in reach is the partner
+pub in_reach-partner : (graph : Graph) (room : Arc → ℕ) (zones : ZoneSet) (line : List Standing) (own : Standing)
+    → ((other : ℕ) → HasZone graph other → has_zone zones other ≡ is_reached (is_buy own.order.side) graph room own.order.zone other)
+    → AreInZones graph line → find (is_in_reach zones own) line ≡ partner_in graph room line own
+in_reach-partner graph room zones line own are in_zones =
+    find-same (is_in_reach zones own) (can_trade graph room own) line
+    (λ other i. ap (λ b. crosses_price own other && b) (are other.order.zone (in_zones.each other i) ∙ reached-is graph room own other))
+
+-- there is no partner where no price crosses
+pub no_partner : (graph : Graph) (room : Arc → ℕ) (line : List Standing) (own : Standing) → list_any (crosses_price own) line ≡ false
+    → partner_in graph room line own ≡ None
+no_partner graph room line own none =
+    find-nothing (can_trade graph room own) (crosses_price own) line
+    (λ other apart. ap (λ b. b && reaches graph room (seller_zone own other) (buyer_zone own other)) apart) none
+
+-- the first order in reach is the partner, as it is sought
+pub found-partner : (graph : Graph) (room : Arc → ℕ) (zones : ZoneSet) (line : List Standing) (own : Standing) (order : Order) (towards : Bool)
+    → order ≡ own.order → towards ≡ is_buy order.side
+    → ((other : ℕ) → HasZone graph other → has_zone zones other ≡ is_reached towards graph room order.zone other)
+    → AreInZones graph line → find (is_in_reach zones own) line ≡ partner_in graph room line own
+found-partner graph room zones line own order towards of_order of_side are in_zones =
+    in_reach-partner graph room zones line own
+    (λ other known.
+    are other known
+    ∙ ap (λ t. is_reached t graph room order.zone other) (of_side ∙ ap (λ (o : Order). is_buy o.side) of_order)
+    ∙ ap (λ (o : Order). is_reached (is_buy own.order.side) graph room o.zone other) of_order)
+    in_zones
+
+-- the zone of a partner in a line is there
+pub partner-known : (graph : Graph) (room : Arc → ℕ) (line : List Standing) (own other : Standing) → AreInZones graph line
+    → partner_in graph room line own ≡ Some other → HasZone graph other.order.zone
+partner-known graph room line own other in_zones found = in_zones.each other (from_find (can_trade graph room own) other line found).0
+
+-- so is that of the order at a place
+pub at-known : (graph : Graph) (line : List Standing) (place : ℕ) (d : Standing) → AreInZones graph line → place < length line
+    → HasZone graph (get_or line place d).order.zone
+at-known graph line place d in_zones within = in_zones.each (get_or line place d) (at-IsIn line place d within)

@@ -1,0 +1,60 @@
+use Rattle.std.proofs.Common.{◌≡◌, ◌∙◌, true, IfOk, refl, ap, subst, sym, arith}
+use Rattle.order_kinds.specs.declared.order.Order.{Order}
+use Rattle.order_kinds.specs.Contract.{is_known}
+use Rattle.zone_graph.specs.Rooms.{room_of}
+use Rattle.plain_matching.proofs.Apart.{apart-leg}
+use Rattle.plain_matching.proofs.Here.{leg-here, no_partner-leg, partner-here}
+use Rattle.plain_matching.proofs.Orders.{IsSoundOrder, other_line-is, own-sound, ready}
+use Rattle.plain_matching.proofs.Zones.{partner-known}
+use Rattle.plain_matching.proofs.taking.leg_with_partner.Goals as goal
+
+pub prove-unreachable-requires : goal.prove-unreachable-requires
+prove-unreachable-requires c =
+    let sound : IsSoundOrder c.args.grid.now c.args.own.now =
+    own-sound c.args.grid.now c.args.events.now c.args.orders.now c.args.own.now c.requires.legal c.requires.orders c.requires.own in
+    omega (arith, sound.in_zone, c.if-prove.true, c.zones-zones.ensures.count, ap (λ (o : Order). o.zone) c.order-order.ensures)
+
+pub returns-then-not-has_crossing : goal.returns-then-not-has_crossing
+returns-then-not-has_crossing c =
+    apart-leg c.args.grid.now c.args.events.now c.args.own.now c.as_slice.result.now
+    (other_line-is c.args.grid.now c.args.events.now c.args.orders.now c.args.own.now c.order-order.result c.opposite.result c.in_ok-line.line.items c.as_slice.result.now
+    c.requires.legal c.requires.orders c.order-order.ensures c.opposite.ensures c.in_ok-line.ensures c.as_slice.ensures.value)
+    (sym c.if-not-has_crossing.ensures)
+
+pub contract_rooms-requires-clause-part : goal.contract_rooms-requires-clause-part
+contract_rooms-requires-clause-part c =
+    subst (λ (o : Order). is_known o.contract.part ≡ true) (sym c.order-order.ensures)
+    (own-sound c.args.grid.now c.args.events.now c.args.orders.now c.args.own.now c.requires.legal c.requires.orders c.requires.own).in_part
+
+pub partner-requires-clause-line : goal.partner-requires-clause-line
+partner-requires-clause-line c =
+    (ready c.args.grid.now c.args.events.now c.args.orders.now c.args.own.now c.order-order.result c.opposite.result c.in_ok-line.line.items c.as_slice-2.result.now
+    c.in_ok-rooms.rooms c.requires.legal c.requires.orders c.order-order.ensures c.opposite.ensures c.in_ok-line.ensures c.as_slice-2.ensures.value
+    (record { size = c.in_ok-rooms.ensures.size; rooms = c.in_ok-rooms.ensures.rooms })).in_zones
+
+pub trade-requires-clause-maker : goal.trade-requires-clause-maker
+trade-requires-clause-maker c =
+    let r = ready c.args.grid.now c.args.events.now c.args.orders.now c.args.own.now c.order-order.result c.opposite.result c.in_ok-line.line.items c.as_slice-2.result.now
+    c.in_ok-rooms.rooms c.requires.legal c.requires.orders c.order-order.ensures c.opposite.ensures c.in_ok-line.ensures c.as_slice-2.ensures.value
+    (record { size = c.in_ok-rooms.ensures.size; rooms = c.in_ok-rooms.ensures.rooms }) in
+    partner-known c.args.grid.now (room_of c.in_ok-rooms.rooms) c.as_slice-2.result.now c.args.own.now c.in-Some.other r.in_zones (sym c.in-Some.ensures)
+
+pub returns-in-Some : goal.returns-in-Some
+returns-in-Some c =
+    let r = ready c.args.grid.now c.args.events.now c.args.orders.now c.args.own.now c.order-order.result c.opposite.result c.in_ok-line.line.items c.as_slice-2.result.now
+    c.in_ok-rooms.rooms c.requires.legal c.requires.orders c.order-order.ensures c.opposite.ensures c.in_ok-line.ensures c.as_slice-2.ensures.value
+    (record { size = c.in_ok-rooms.ensures.size; rooms = c.in_ok-rooms.ensures.rooms }) in
+    let found = sym (partner-here c.args.grid.now c.zones-zones.ensures.grid.is_graph c.args.events.now c.args.own.now.order.contract c.in_ok-rooms.rooms r.are
+    c.args.own.now c.as_slice-2.result.now refl r.line_is) ∙ sym c.in-Some.ensures in
+    subst (λ v. IfOk c.trade.result (λ leg. leg ≡ v))
+    (leg-here c.args.grid.now c.zones-zones.ensures.grid.is_graph c.args.events.now c.args.own.now.order.contract c.in_ok-rooms.rooms r.are
+    c.args.own.now c.in-Some.other refl found) c.trade.ensures
+
+pub returns : goal.returns
+returns c =
+    let r = ready c.args.grid.now c.args.events.now c.args.orders.now c.args.own.now c.order-order.result c.opposite.result c.in_ok-line.line.items c.as_slice-2.result.now
+    c.in_ok-rooms.rooms c.requires.legal c.requires.orders c.order-order.ensures c.opposite.ensures c.in_ok-line.ensures c.as_slice-2.ensures.value
+    (record { size = c.in_ok-rooms.ensures.size; rooms = c.in_ok-rooms.ensures.rooms }) in
+    no_partner-leg c.args.grid.now c.args.events.now c.args.own.now
+    (sym (partner-here c.args.grid.now c.zones-zones.ensures.grid.is_graph c.args.events.now c.args.own.now.order.contract c.in_ok-rooms.rooms r.are
+    c.args.own.now c.as_slice-2.result.now refl r.line_is) ∙ sym c.in-None.ensures)

@@ -1,0 +1,16 @@
+use Rattle.market_model.specs.Orders.{left}
+use Rattle.market_model.specs.Taking.{take}
+use Rattle.plain_capacity.specs.Hour.{IsLegalOver}
+use Rattle.plain_matching.proofs.Legs.{IsSoFar}
+use Rattle.plain_matching.proofs.taking.take.Given as goal
+
+-- a first part of the legs was made, and the history is legal
+abbrev pub invariant-loop-leg : goal.invariant-loop-leg
+invariant-loop-leg l = record {
+  so_far : IsSoFar (λ history. take l.grid history l.name) l.initial.events l.events;
+  legal : IsLegalOver l.grid l.events;
+}
+
+-- each leg lowers what is left of the order
+abbrev pub decreases-loop-leg : goal.decreases-loop-leg
+decreases-loop-leg l = left l.events l.name

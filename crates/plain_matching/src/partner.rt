@@ -1,0 +1,90 @@
+//! The partner of an order in a line of the order book.
+
+ghost use Rattle.std.specs.Prelude.{◌≡◌, length};
+ghost use Rattle.std.specs.List.{find, list_any};
+ghost use Rattle.zone_graph.specs.Graph.{HasZone, border_count};
+ghost use Rattle.zone_graph.specs.Rooms.{room_of};
+ghost use Rattle.plain_matching.specs.Over as over;
+
+use market_model::Side;
+use plain_orders::StandingOrder;
+use plain_routes::{ZoneSet, reached};
+use zone_graph::{Grid, Rooms};
+
+/// The partner of an order: the first of a line of the other side whose price crosses and to which a
+/// route over arcs with room leads, from the seller to the buyer. The rooms are those of the order's
+/// contract.
+pub(crate) fn partner(
+    grid: &Grid,
+    rooms: &Rooms,
+    line: &[StandingOrder],
+    own: &StandingOrder,
+) -> Option<StandingOrder>
+    requires size { length rooms.now ≡ border_count grid.now }
+    requires line { over.AreInZones grid.now line.now }
+    requires own { HasZone grid.now own.now.order.zone }
+    ensures { result ≡ over.partner_in grid.now (room_of rooms.now) line.now own.now }
+{
+    if !has_crossing(line, own) {
+        return None;
+    }
+    let order = own.order();
+    let count = grid.zones();
+    prove!(order.zone < count);
+    let zones = reached(grid, rooms, order.zone, is_buy(order.side));
+    first_in_reach(&zones, line, own)
+}
+
+// Whether an order is a buy.
+fn is_buy(side: Side) -> bool
+    ensures { result ≡ over.is_buy side }
+{
+    matches!(side, Side::Buy)
+}
+
+/// Whether the first of some orders crosses one of a line of the other side.
+pub(crate) fn first_crosses(orders: &[StandingOrder], line: &[StandingOrder]) -> bool
+    ensures { result ≡ over.first_crosses orders.now line.now }
+{
+    match orders {
+        [] => false,
+        [first, ..] => has_crossing(line, first),
+    }
+}
+
+/// Whether the price of an order of the line crosses.
+pub(crate) fn has_crossing(line: &[StandingOrder], own: &StandingOrder) -> bool
+    ensures { result ≡ list_any (over.crosses_price own.now) line.now }
+{
+    line.iter().any(|other| crosses_price(own, other))
+}
+
+// The first order of the line whose price crosses and whose zone is in the set.
+fn first_in_reach(
+    zones: &ZoneSet,
+    line: &[StandingOrder],
+    own: &StandingOrder,
+) -> Option<StandingOrder>
+    ensures { result ≡ find (over.is_in_reach zones.now own.now) line.now }
+{
+    for other in line {
+        if is_in_reach(zones, own, other) {
+            return Some(*other);
+        }
+    }
+    None
+}
+
+// Whether the prices of two orders cross and the other one's zone is in the set.
+fn is_in_reach(zones: &ZoneSet, own: &StandingOrder, other: &StandingOrder) -> bool
+    ensures { result ≡ over.is_in_reach zones.now own.now other.now }
+{
+    crosses_price(own, other) && zones.contains(other.order().zone)
+}
+
+// Whether the prices of two orders cross.
+fn crosses_price(own: &StandingOrder, other: &StandingOrder) -> bool
+    ensures { result ≡ over.crosses_price own.now other.now }
+{
+    own.order().side.crosses(own.price(), other.price())
+}

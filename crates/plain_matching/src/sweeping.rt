@@ -1,0 +1,171 @@
+//! The legs of an hour's sweep.
+
+ghost use Rattle.std.specs.Prelude.{◌≡◌, ◌++◌, true, IfOk, OnOk, OnErr, length};
+ghost use Rattle.std.specs.List.{list_all};
+ghost use Rattle.order_kinds.specs.Contract as contracts;
+ghost use Rattle.zone_graph.specs.Graph.{HasZone, border_count};
+ghost use Rattle.zone_graph.specs.Grid.{IsGrid};
+ghost use Rattle.zone_graph.specs.Rooms.{room_of};
+ghost use Rattle.market_model.specs.Sweep as market;
+ghost use Rattle.plain_capacity.specs.Hour.{IsLegalOver};
+ghost use Rattle.plain_orders.specs.Listed as listed;
+ghost use Rattle.plain_matching.specs.Grown.{GrewByPart};
+ghost use Rattle.plain_matching.specs.Over as over;
+
+use crate::partner::{first_crosses, partner};
+use crate::trade::resting_trade;
+use market_model::{Contract, Event, Events, NoMemory, Part, Side};
+use plain_capacity::contract_rooms;
+use plain_orders::{StandingOrder, line, orders_of};
+use std::alloc::Global;
+use zone_graph::{Grid, Rooms};
+
+/// Sweeps an hour: resting orders of the hour that can trade do, leg by leg, until none can. Each leg
+/// is at the price of the order that was there earlier and goes to the end of the events.
+///
+/// # Errors
+///
+/// [`NoMemory`], where there is no memory for what the next leg is made from or for the leg: a first
+/// part of the legs then stands behind the events.
+pub fn sweep(alloc: Global, grid: &Grid, events: &mut Events, hour: u32) -> Result<(), NoMemory>
+    requires legal { IsLegalOver grid.now events.old }
+    ensures ok { OnOk result (events.new ≡ events.old ++ market.sweep market.all_parts grid.now hour events.old) }
+    ensures err { OnErr result (GrewByPart (market.sweep market.all_parts grid.now hour events.old) events.old events.new) }
+    ensures legal { IsLegalOver grid.now events.new }
+{
+    while let Some(leg) = sweep_leg(alloc, grid, events.as_slice(), hour)? {
+        events.push(leg)?;
+    }
+    Ok(())
+}
+
+/// The next leg of an hour's sweep: in the first of the hour, its halves and its quarters in which a
+/// buy has a partner, that of the first such buy in priority.
+///
+/// # Errors
+///
+/// [`NoMemory`], where there is no memory for the orders, the lines, the rooms or the route.
+pub fn sweep_leg(
+    alloc: Global,
+    grid: &Grid,
+    events: &[Event],
+    hour: u32,
+) -> Result<Option<Event>, NoMemory>
+    requires legal { IsLegalOver grid.now events.now }
+    ensures leg { IfOk result (λ leg. leg ≡ market.sweep_leg market.all_parts grid.now hour events.now) }
+    ensures grid { IsGrid grid.now }
+{
+    let zones = grid.zones();
+    prove!(zones <= 64);
+    let orders = orders_of(alloc, events, hour)?;
+    let parts = [
+        Part::Hour,
+        Part::Half(1),
+        Part::Half(2),
+        Part::Quarter(1),
+        Part::Quarter(2),
+        Part::Quarter(3),
+        Part::Quarter(4),
+    ];
+    leg_in_parts(alloc, grid, events, orders.as_slice(), hour, &parts)
+}
+
+// The leg in the first of some parts of an hour that has one.
+fn leg_in_parts(
+    alloc: Global,
+    grid: &Grid,
+    events: &[Event],
+    orders: &[StandingOrder],
+    hour: u32,
+    parts: &[Part],
+) -> Result<Option<Event>, NoMemory>
+    requires legal { IsLegalOver grid.now events.now }
+    requires orders { orders.now ≡ listed.orders_of events.now hour }
+    requires parts { list_all contracts.is_known parts.now ≡ true }
+    ensures { IfOk result (λ leg. leg ≡ over.leg_in_parts grid.now events.now hour parts.now) }
+{
+    for part in parts {
+        let contract = Contract { hour, part: *part };
+        if let Some(leg) = leg_in(alloc, grid, events, orders, contract)? {
+            return Ok(Some(leg));
+        }
+    }
+    Ok(None)
+}
+
+// The leg of the first buy of a contract's line that has a partner.
+fn leg_in(
+    alloc: Global,
+    grid: &Grid,
+    events: &[Event],
+    orders: &[StandingOrder],
+    contract: Contract,
+) -> Result<Option<Event>, NoMemory>
+    requires legal { IsLegalOver grid.now events.now }
+    requires orders { orders.now ≡ listed.orders_of events.now contract.hour }
+    requires part { contracts.is_known contract.part ≡ true }
+    ensures { IfOk result (λ leg. leg ≡ market.leg_in grid.now events.now contract) }
+{
+    let zones = grid.zones();
+    prove!(zones <= 64);
+    let buys = line(alloc, orders, contract, Side::Buy)?;
+    if is_nothing(buys.as_slice()) {
+        return Ok(None);
+    }
+    let sells = line(alloc, orders, contract, Side::Sell)?;
+    if !first_crosses(buys.as_slice(), sells.as_slice()) {
+        return Ok(None);
+    }
+    let rooms = contract_rooms(alloc, grid, events, contract)?;
+    first_leg(alloc, grid, &rooms, buys.as_slice(), sells.as_slice())
+}
+
+// Whether a line has no order.
+fn is_nothing(line: &[StandingOrder]) -> bool
+    ensures { result ≡ over.is_nothing line.now }
+{
+    match line {
+        [] => true,
+        [_, ..] => false,
+    }
+}
+
+// The leg of the first of some buys that has a partner in a line of sells.
+fn first_leg(
+    alloc: Global,
+    grid: &Grid,
+    rooms: &Rooms,
+    buys: &[StandingOrder],
+    sells: &[StandingOrder],
+) -> Result<Option<Event>, NoMemory>
+    requires size { length rooms.now ≡ border_count grid.now }
+    requires buys { over.AreInZones grid.now buys.now }
+    requires sells { over.AreInZones grid.now sells.now }
+    ensures { IfOk result (λ leg. leg ≡ market.first_answer (over.leg_of_buy_over grid.now (room_of rooms.now) sells.now) buys.now) }
+{
+    for buy in buys {
+        if let Some(leg) = leg_of_buy(alloc, grid, rooms, sells, buy)? {
+            return Ok(Some(leg));
+        }
+    }
+    Ok(None)
+}
+
+// The leg of a buy with its partner in a line of sells.
+fn leg_of_buy(
+    alloc: Global,
+    grid: &Grid,
+    rooms: &Rooms,
+    sells: &[StandingOrder],
+    buy: &StandingOrder,
+) -> Result<Option<Event>, NoMemory>
+    requires size { length rooms.now ≡ border_count grid.now }
+    requires sells { over.AreInZones grid.now sells.now }
+    requires buy { HasZone grid.now buy.now.order.zone }
+    ensures { IfOk result (λ leg. leg ≡ over.leg_of_buy_over grid.now (room_of rooms.now) sells.now buy.now) }
+{
+    match partner(grid, rooms, sells, buy) {
+        Some(sell) => resting_trade(alloc, grid, rooms, buy, &sell),
+        None => Ok(None),
+    }
+}

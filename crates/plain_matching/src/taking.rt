@@ -1,0 +1,114 @@
+//! The legs of an order that comes in.
+
+ghost use Rattle.std.specs.Prelude.{◌≡◌, ◌++◌, IfOk, OnOk, OnErr};
+ghost use Rattle.std.specs.List.{find};
+ghost use Rattle.zone_graph.specs.Grid.{IsGrid};
+ghost use Rattle.zone_graph.specs.Route.{IsIn};
+ghost use Rattle.market_model.specs.Taking as market;
+ghost use Rattle.plain_capacity.specs.Hour.{IsLegalOver};
+ghost use Rattle.plain_orders.specs.Listed as listed;
+ghost use Rattle.plain_matching.specs.Grown.{GrewByPart};
+ghost use Rattle.plain_matching.specs.Over as over;
+
+use crate::partner::{has_crossing, partner};
+use crate::trade::trade;
+use market_model::{Event, Events, NoMemory, OrderName};
+use plain_capacity::contract_rooms;
+use plain_orders::{StandingOrder, line, orders_of};
+use std::alloc::Global;
+use zone_graph::Grid;
+
+/// Lets the order of this name take from the order book, leg by leg, until it is filled or none is
+/// left with which it can trade. Each leg is at the resting order's price and goes to the end of the
+/// events.
+///
+/// # Errors
+///
+/// [`NoMemory`], where there is no memory for what the next leg is made from or for the leg: a first
+/// part of the legs then stands behind the events.
+pub fn take(
+    alloc: Global,
+    grid: &Grid,
+    events: &mut Events,
+    name: OrderName,
+) -> Result<(), NoMemory>
+    requires legal { IsLegalOver grid.now events.old }
+    ensures ok { OnOk result (events.new ≡ events.old ++ market.take grid.now events.old name) }
+    ensures err { OnErr result (GrewByPart (market.take grid.now events.old name) events.old events.new) }
+    ensures legal { IsLegalOver grid.now events.new }
+{
+    while let Some(leg) = next_leg(alloc, grid, events.as_slice(), name)? {
+        events.push(leg)?;
+    }
+    Ok(())
+}
+
+/// The next leg of the order of this name: with its partner, if it is open and has one.
+///
+/// # Errors
+///
+/// [`NoMemory`], where there is no memory for the orders, the line, the rooms or the route.
+pub fn next_leg(
+    alloc: Global,
+    grid: &Grid,
+    events: &[Event],
+    name: OrderName,
+) -> Result<Option<Event>, NoMemory>
+    requires legal { IsLegalOver grid.now events.now }
+    ensures leg { IfOk result (λ leg. leg ≡ market.next_leg grid.now name events.now) }
+    ensures grid { IsGrid grid.now }
+{
+    let zones = grid.zones();
+    prove!(zones <= 64);
+    let orders = orders_of(alloc, events, name.hour)?;
+    match open_as(orders.as_slice(), name) {
+        Some(own) => leg_with_partner(alloc, grid, events, orders.as_slice(), &own),
+        None => Ok(None),
+    }
+}
+
+// The first of some orders that is open and bears a name.
+fn open_as(orders: &[StandingOrder], name: OrderName) -> Option<StandingOrder>
+    ensures { result ≡ find (over.is_open_as name) orders.now }
+{
+    for order in orders {
+        if is_open_as(order, name) {
+            return Some(*order);
+        }
+    }
+    None
+}
+
+// Whether an order is open and bears a name.
+fn is_open_as(order: &StandingOrder, name: OrderName) -> bool
+    ensures { result ≡ over.is_open_as name order.now }
+{
+    order.name() == name && order.left() > 0
+}
+
+// The leg of one of the orders of an hour with its partner.
+fn leg_with_partner(
+    alloc: Global,
+    grid: &Grid,
+    events: &[Event],
+    orders: &[StandingOrder],
+    own: &StandingOrder,
+) -> Result<Option<Event>, NoMemory>
+    requires legal { IsLegalOver grid.now events.now }
+    requires orders { orders.now ≡ listed.orders_of events.now own.now.order.contract.hour }
+    requires own { IsIn own.now orders.now }
+    ensures { IfOk result (λ leg. leg ≡ over.leg_with_partner grid.now events.now own.now) }
+{
+    let order = own.order();
+    let zones = grid.zones();
+    prove!(order.zone < zones);
+    let line = line(alloc, orders, order.contract, order.side.opposite())?;
+    if !has_crossing(line.as_slice(), own) {
+        return Ok(None);
+    }
+    let rooms = contract_rooms(alloc, grid, events, order.contract)?;
+    match partner(grid, &rooms, line.as_slice(), own) {
+        Some(other) => trade(alloc, grid, &rooms, own, &other),
+        None => Ok(None),
+    }
+}
