@@ -1,5 +1,5 @@
 -- What the tests' days keep.
-use Rattle.std.proofs.Common.{◌≡◌, ℕ, ◌≤◌, ◌&&◌, Bool, true, List, [], ◌∷◌, length, Option, Some, None, Ok, nat_le, pos, ◌≤ℤ◌, refl, arith}
+use Rattle.std.proofs.Common.{count_by, ◌≡◌, ℕ, ◌≤◌, ◌&&◌, Bool, true, List, [], ◌∷◌, length, Option, Some, None, Ok, nat_le, pos, ◌≤ℤ◌, refl, arith}
 use Rattle.std.proofs.lemmas.Int.{ints}
 use Rattle.std.proofs.lemmas.Bool.{le-leb}
 use Rattle.std.proofs.lemmas.List.Sums.{count_by-le-length}
@@ -13,7 +13,7 @@ use Rattle.zone_graph.specs.declared.route.Arc.{Arc}
 use Rattle.zone_graph.specs.Graph.{Graph, HasArc, HasZone}
 use Rattle.market_model.specs.declared.event.Event.{Event}
 use Rattle.market_model.specs.declared.event.Event.TheVariants as event
-use Rattle.market_model.specs.History.{and_then, entered_count, enters}
+use Rattle.market_model.specs.History.{and_then, enters_in}
 use Rattle.market_model.specs.Orders.{next_name}
 use Rattle.market_laws.proofs.Repeats.{fit-more}
 use Rattle.plain_capacity.specs.Hour.{IsLegalOver}
@@ -62,5 +62,5 @@ day_with_offer graph arc lots known most = record {
     enough : pos 0 ≤ℤ pos lots
     enough = omega (arith, ints)
 
-pub few_entered : (events : List Event) → entered_count events ≤ length events
-few_entered events = count_by-le-length enters events
+pub few_entered : (hour : ℕ) (events : List Event) → count_by (enters_in hour) events ≤ length events
+few_entered hour events = count_by-le-length (enters_in hour) events

@@ -1,6 +1,8 @@
 pub mod Apart
 pub mod Days
+pub mod Growths
 pub mod Here
+pub mod Hours
 pub mod Legs
 pub mod Orders
 pub mod Places

@@ -5,6 +5,7 @@
 //! Quantities are lots, tenths of a MW; prices are cents per MWh.
 #![tactic(auto)]
 
+mod growth;
 mod partner;
 mod sweeping;
 mod taking;
@@ -12,5 +13,6 @@ mod taking;
 mod tests;
 mod trade;
 
-pub use sweeping::{sweep, sweep_leg};
+pub use growth::cut_back;
+pub use sweeping::{sweep, sweep_leg, sweeps};
 pub use taking::{next_leg, take};

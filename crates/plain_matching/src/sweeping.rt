@@ -3,13 +3,14 @@
 ghost use Rattle.std.specs.Prelude.{◌≡◌, ◌++◌, true, IfOk, OnOk, OnErr, length};
 ghost use Rattle.std.specs.List.{list_all};
 ghost use Rattle.order_kinds.specs.Contract as contracts;
+ghost use Rattle.order_kinds.specs.Period.{hours_from};
 ghost use Rattle.zone_graph.specs.Graph.{HasZone, border_count};
 ghost use Rattle.zone_graph.specs.Grid.{IsGrid};
 ghost use Rattle.zone_graph.specs.Rooms.{room_of};
 ghost use Rattle.market_model.specs.Sweep as market;
 ghost use Rattle.plain_capacity.specs.Hour.{IsLegalOver};
 ghost use Rattle.plain_orders.specs.Listed as listed;
-ghost use Rattle.plain_matching.specs.Grown.{GrewByPart};
+ghost use Rattle.plain_matching.specs.Grown.{Grew, GrewByPart};
 ghost use Rattle.plain_matching.specs.Over as over;
 
 use crate::partner::{first_crosses, partner};
@@ -35,6 +36,30 @@ pub fn sweep(alloc: Global, grid: &Grid, events: &mut Events, hour: u32) -> Resu
 {
     while let Some(leg) = sweep_leg(alloc, grid, events.as_slice(), hour)? {
         events.push(leg)?;
+    }
+    Ok(())
+}
+
+/// Sweeps the hours from the first to the last, one after the other.
+///
+/// # Errors
+///
+/// [`NoMemory`], where there is no memory for what a leg is made from or for the leg: some of the legs
+/// then stand behind the events.
+pub fn sweeps(
+    alloc: Global,
+    grid: &Grid,
+    events: &mut Events,
+    first: u32,
+    last: u32,
+) -> Result<(), NoMemory>
+    requires legal { IsLegalOver grid.now events.old }
+    ensures ok { OnOk result (events.new ≡ events.old ++ market.sweeps market.all_parts grid.now (hours_from first last) events.old) }
+    ensures err { OnErr result (Grew events.old events.new) }
+    ensures legal { IsLegalOver grid.now events.new }
+{
+    for hour in first..=last {
+        sweep(alloc, grid, events, hour)?;
     }
     Ok(())
 }

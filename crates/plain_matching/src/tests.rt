@@ -7,7 +7,7 @@ ghost use Rattle.zone_graph.specs.Graph.{border_count};
 ghost use Rattle.plain_capacity.specs.Hour.{IsLegalOver};
 ghost use Rattle.plain_matching.specs.Days.{IsDay};
 
-use crate::{next_leg, sweep, sweep_leg, take};
+use crate::{next_leg, sweep, sweep_leg, sweeps, take};
 use market_model::{
     Contract, Event, Events, Kind, Lots, Order, OrderName, Part, Price, Quarter, Side, check_order,
 };
@@ -93,16 +93,42 @@ fn enter(grid: &Grid, events: &mut Events, order: Order) -> Result<OrderName, Fa
     Ok(name)
 }
 
-// An order of so many lots for a part of hour 12.
-fn order(part: Part, zone: u32, side: Side, price: i32, lots: u32) -> Order {
+// What an order of hour 12 has: the part of the hour, the zone, the side, the price, the lots, and of
+// an iceberg the peak.
+type Row = (Part, u32, Side, i32, u32, Option<u32>);
+
+// The order of a row.
+fn order_of(row: &Row) -> Order {
+    let (part, zone, side, price, lots, peak) = *row;
     Order {
         contract: Contract { hour: 12, part },
         zone,
         side,
         price: Price(price),
         quantity: Lots(lots),
-        kind: Kind::Limit,
+        kind: match peak {
+            Some(peak) => Kind::Iceberg {
+                peak: Lots(peak),
+                delta: 0,
+            },
+            None => Kind::Limit,
+        },
     }
+}
+
+// Enters the orders of some rows, one after the other, and gives the name of the last.
+fn enter_all(grid: &Grid, events: &mut Events, rows: &[Row]) -> Result<OrderName, Fail>
+    requires { IsDay grid.now events.old }
+    ensures { OnOk result (IsDay grid.now events.new) }
+{
+    let mut last = OrderName {
+        hour: 12,
+        number: 0,
+    };
+    for row in rows {
+        last = enter(grid, events, order_of(row))?;
+    }
+    Ok(last)
 }
 
 // The numbers of taker and maker, the lots and the price of each leg.
@@ -116,87 +142,50 @@ fn legs(alloc: Global, events: &[Event]) -> Result<Vec<(u32, u32, u32, i32)>, Fa
     Ok(legs)
 }
 
-#[test]
-fn makers_in_the_order_of_their_prices(rt: HostRuntime) -> Result<(), Fail> {
-    let alloc = rt.alloc();
+// The legs that the last of some orders takes where 5.0 MW are offered from DE to FR; then it takes
+// no more.
+fn legs_taken(alloc: Global, rows: &[Row]) -> Result<Vec<(u32, u32, u32, i32)>, Fail> {
     let grid = two_zones(alloc)?;
     let mut events = offered(alloc, &grid, 50)?;
-    enter(
-        &grid,
-        &mut events,
-        order(Part::Hour, 0, Side::Sell, 5000, 30),
-    )?;
-    enter(
-        &grid,
-        &mut events,
-        order(Part::Hour, 0, Side::Sell, 4900, 40),
-    )?;
-    enter(
-        &grid,
-        &mut events,
-        order(Part::Hour, 0, Side::Sell, 5200, 40),
-    )?;
-    let name = enter(
-        &grid,
-        &mut events,
-        order(Part::Hour, 1, Side::Buy, 5100, 80),
-    )?;
+    let name = enter_all(&grid, &mut events, rows)?;
     take(alloc, &grid, &mut events, name)?;
+    hold(next_leg(alloc, &grid, events.as_slice(), name)?.is_none())?;
+    legs(alloc, events.as_slice())
+}
+
+#[test]
+fn makers_in_the_order_of_their_prices(rt: HostRuntime) -> Result<(), Fail> {
+    let rows: [Row; 4] = [
+        (Part::Hour, 0, Side::Sell, 5000, 30, None),
+        (Part::Hour, 0, Side::Sell, 4900, 40, None),
+        (Part::Hour, 0, Side::Sell, 5200, 40, None),
+        (Part::Hour, 1, Side::Buy, 5100, 80, None),
+    ];
     // the offer bounds what is taken
     let want = [(4, 2, 40, 4900), (4, 1, 10, 5000)];
-    assert_eq!(rt; legs(alloc, events.as_slice())?.as_slice(), want.as_slice());
-    assert_eq!(rt; next_leg(alloc, &grid, events.as_slice(), name)?, None);
+    assert_eq!(rt; legs_taken(rt.alloc(), &rows)?.as_slice(), want.as_slice());
     Ok(())
 }
 
 #[test]
 fn equal_prices_in_the_order_of_entry(rt: HostRuntime) -> Result<(), Fail> {
-    let alloc = rt.alloc();
-    let grid = two_zones(alloc)?;
-    let mut events = offered(alloc, &grid, 50)?;
-    enter(
-        &grid,
-        &mut events,
-        order(Part::Half(2), 0, Side::Buy, 5000, 20),
-    )?;
-    enter(
-        &grid,
-        &mut events,
-        order(Part::Half(2), 0, Side::Buy, 5000, 20),
-    )?;
-    let name = enter(
-        &grid,
-        &mut events,
-        order(Part::Half(2), 0, Side::Sell, -1000, 30),
-    )?;
-    take(alloc, &grid, &mut events, name)?;
+    let rows: [Row; 3] = [
+        (Part::Half(2), 0, Side::Buy, 5000, 20, None),
+        (Part::Half(2), 0, Side::Buy, 5000, 20, None),
+        (Part::Half(2), 0, Side::Sell, -1000, 30, None),
+    ];
     let want = [(3, 1, 20, 5000), (3, 2, 10, 5000)];
-    assert_eq!(rt; legs(alloc, events.as_slice())?.as_slice(), want.as_slice());
+    assert_eq!(rt; legs_taken(rt.alloc(), &rows)?.as_slice(), want.as_slice());
     Ok(())
 }
 
 #[test]
 fn an_iceberg_peak_by_peak(rt: HostRuntime) -> Result<(), Fail> {
-    let alloc = rt.alloc();
-    let grid = two_zones(alloc)?;
-    let mut events = offered(alloc, &grid, 50)?;
-    let mut iceberg = order(Part::Hour, 0, Side::Sell, 5000, 30);
-    iceberg.kind = Kind::Iceberg {
-        peak: Lots(10),
-        delta: 0,
-    };
-    enter(&grid, &mut events, iceberg)?;
-    enter(
-        &grid,
-        &mut events,
-        order(Part::Hour, 0, Side::Sell, 5000, 10),
-    )?;
-    let name = enter(
-        &grid,
-        &mut events,
-        order(Part::Hour, 0, Side::Buy, 5000, 35),
-    )?;
-    take(alloc, &grid, &mut events, name)?;
+    let rows: [Row; 3] = [
+        (Part::Hour, 0, Side::Sell, 5000, 30, Some(10)),
+        (Part::Hour, 0, Side::Sell, 5000, 10, None),
+        (Part::Hour, 0, Side::Buy, 5000, 35, None),
+    ];
     // a new peak goes behind the orders of its price
     let want = [
         (3, 1, 10, 5000),
@@ -204,37 +193,25 @@ fn an_iceberg_peak_by_peak(rt: HostRuntime) -> Result<(), Fail> {
         (3, 1, 10, 5000),
         (3, 1, 5, 5000),
     ];
-    assert_eq!(rt; legs(alloc, events.as_slice())?.as_slice(), want.as_slice());
+    assert_eq!(rt; legs_taken(rt.alloc(), &rows)?.as_slice(), want.as_slice());
     Ok(())
 }
 
 #[test]
 fn a_leg_opens_the_border_the_other_way(rt: HostRuntime) -> Result<(), Fail> {
     let alloc = rt.alloc();
+    let rows: [Row; 4] = [
+        (Part::Quarter(1), 1, Side::Sell, 4000, 50, None),
+        (Part::Quarter(1), 0, Side::Buy, 4500, 50, None),
+        (Part::Hour, 0, Side::Sell, 5000, 50, None),
+        (Part::Hour, 1, Side::Buy, 5000, 50, None),
+    ];
     let grid = two_zones(alloc)?;
     let mut events = offered(alloc, &grid, 50)?;
-    enter(
-        &grid,
-        &mut events,
-        order(Part::Quarter(1), 1, Side::Sell, 4000, 50),
-    )?;
-    enter(
-        &grid,
-        &mut events,
-        order(Part::Quarter(1), 0, Side::Buy, 4500, 50),
-    )?;
-    enter(
-        &grid,
-        &mut events,
-        order(Part::Hour, 0, Side::Sell, 5000, 50),
-    )?;
-    let name = enter(
-        &grid,
-        &mut events,
-        order(Part::Hour, 1, Side::Buy, 5000, 50),
-    )?;
+    let name = enter_all(&grid, &mut events, &rows)?;
     assert_eq!(rt; sweep_leg(alloc, &grid, events.as_slice(), 11)?, None);
     take(alloc, &grid, &mut events, name)?;
+    sweeps(alloc, &grid, &mut events, 11, 12)?;
     sweep(alloc, &grid, &mut events, 12)?;
     let want = [(4, 3, 50, 5000), (2, 1, 50, 4000)];
     assert_eq!(rt; legs(alloc, events.as_slice())?.as_slice(), want.as_slice());

@@ -1,7 +1,7 @@
 //! Names.
 
-ghost use Rattle.std.specs.Prelude.{◌≡◌, ◌-◌, ◌^◌, ◌<◌};
-ghost use Rattle.market_model.specs.History.{entered_count};
+ghost use Rattle.std.specs.Prelude.{◌≡◌, ◌-◌, ◌^◌, ◌<◌, count_by};
+ghost use Rattle.market_model.specs.History.{enters_in};
 ghost use Rattle.market_model.specs.Orders as orders;
 
 use crate::tally::entered_in;
@@ -9,7 +9,7 @@ use market_model::{Event, OrderName};
 
 /// The name of the next order or block that enters by an hour: they are numbered from 1.
 pub fn next_name(events: &[Event], hour: u32) -> OrderName
-    requires few { entered_count events.now < 2 ^ 32 - 1 }
+    requires few { count_by (enters_in hour) events.now < 2 ^ 32 - 1 }
     ensures { result ≡ orders.next_name events.now hour }
 {
     OrderName {

@@ -1,0 +1,10 @@
+use Rattle.plain_capacity.specs.Hour.{IsLegalOver}
+use Rattle.plain_matching.proofs.Hours.{IsSwept}
+use Rattle.plain_matching.proofs.sweeping.sweeps.Given as goal
+
+-- the hours before this one are swept, and the history is legal
+abbrev pub invariant-loop-hour : goal.invariant-loop-hour
+invariant-loop-hour l = record {
+  swept : IsSwept l.grid l.first l.last l.hour l.initial.events l.events;
+  legal : IsLegalOver l.grid l.events;
+}
