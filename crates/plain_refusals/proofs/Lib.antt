@@ -1,0 +1,5 @@
+pub mod Rules
+pub mod Quarters
+pub mod Hours
+pub mod Capacities
+pub mod Days
