@@ -1,0 +1,5 @@
+pub mod Peaks
+pub mod Crosses
+pub mod Lines
+pub mod Reaches
+pub mod Days

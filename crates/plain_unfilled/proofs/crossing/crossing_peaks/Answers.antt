@@ -1,0 +1,37 @@
+use Rattle.std.proofs.Common.{◌≡◌, ◌∙◌, ◌<◌, ◌≤◌, refl, ap, ap₂, arith}
+use Rattle.order_kinds.specs.Order.{peak_count}
+use Rattle.order_kinds.specs.Side.{crosses}
+use Rattle.zone_graph.specs.Pour.{lots_if}
+use Rattle.plain_unfilled.specs.Crossing.{crossing_peak, crossing_peaks}
+use Rattle.plain_unfilled.proofs.Crosses.{lots_if-most}
+use Rattle.plain_unfilled.proofs.Peaks.{change-within, moved-peak, peaks-more, peaks-sound}
+use Rattle.plain_unfilled.proofs.crossing.crossing_peaks.Goals as goal
+
+pub loop-number-init : goal.loop-number-init
+unfolding crossing_peaks
+loop-number-init c = record { lots = refl; most = omega arith }
+
+pub overflow_mul-delta : goal.overflow_mul-delta
+overflow_mul-delta c =
+    let within : c.loop-number.number < peak_count c.args.order.now.quantity.0 c.args.peak.0 = omega arith in
+    omega (arith, change-within c.args.order.now c.args.peak c.args.delta c.requires.sound c.requires.kind c.loop-number.number within)
+
+pub peak_price-price-requires-clause-most : goal.peak_price-price-requires-clause-most
+peak_price-price-requires-clause-most c =
+    let within : c.loop-number.number < peak_count c.args.order.now.quantity.0 c.args.peak.0 = omega arith in
+    change-within c.args.order.now c.args.peak c.args.delta c.requires.sound c.requires.kind c.loop-number.number within
+
+pub loop-number-preserved : goal.loop-number-preserved
+loop-number-preserved c =
+    let order = c.args.order.now in
+    let taker = c.args.taker.now in
+    let price = c.peak_price-price.ensures ∙ moved-peak order.side order.price c.args.delta c.loop-number.number in
+    let crossing = c.crosses.ensures ∙ ap (crosses taker.side taker.price) price in
+    let here : c.lots_if-lots.result ≡ crossing_peak taker order c.args.peak.0 c.args.delta c.args.filled c.loop-number.number =
+    c.lots_if-lots.ensures ∙ ap₂ lots_if crossing c.peak_left.ensures.lots in
+    let most : c.lots_if-lots.result ≤ c.peak_left.result = omega (arith, c.lots_if-lots.ensures, lots_if-most c.crosses.result c.peak_left.result) in
+    let peaks = peaks-sound order c.args.peak c.args.delta c.requires.sound c.requires.kind in
+    record {
+      lots = omega (arith, here, peaks-more taker order c.args.peak.0 c.args.delta c.args.filled c.loop-number.number, c.loop-number.invariant.lots);
+      most = omega (arith, most, c.peak_left.ensures.most, peaks.most, c.loop-number.invariant.most);
+    }
