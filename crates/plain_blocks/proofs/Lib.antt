@@ -1,0 +1,9 @@
+pub mod Days
+pub mod Deals
+pub mod Entries
+pub mod Legs
+pub mod Lines
+pub mod Meetings
+pub mod Pours
+pub mod Rounds
+pub mod Times
