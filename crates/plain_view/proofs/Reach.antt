@@ -1,0 +1,57 @@
+-- The first maker in reach, and the trade with it.
+use Rattle.std.proofs.Common.{◌≡◌, ◌∙◌, ℕ, ◌<◌, ◌&&◌, Bool, List, Option, Some, None, nat_lt, is_some, refl, sym, ap, if◌then◌else◌}
+use Rattle.std.proofs.lemmas.Bool.{lt-ltb}
+use Rattle.std.specs.List.{find}
+use Rattle.std.specs.Option.{option_and_then}
+use Rattle.order_kinds.specs.declared.side.Side.{Side}
+use Rattle.order_kinds.specs.declared.side.Side.TheVariants.{Buy, Sell}
+use Rattle.order_kinds.specs.Same.{same_side}
+use Rattle.zone_graph.specs.declared.route.Arc.{Arc}
+use Rattle.zone_graph.specs.Graph.{Graph, HasArc, HasZone, IsGraph}
+use Rattle.zone_graph.specs.Route.{IsIn, best_route}
+use Rattle.market_laws.proofs.Carrying.{best_route-route}
+use Rattle.market_laws.proofs.Members.{from_find}
+use Rattle.market_locality.proofs.Restrict.{find-same}
+use Rattle.cut_proof.proofs.Ways.{way_has_arc}
+use Rattle.plain_routes.specs.declared.zone_set.ZoneSet.{ZoneSet}
+use Rattle.plain_routes.specs.Reached.{has_zone, is_reached}
+use Rattle.plain_view.specs.declared.maker.Maker.{Maker}
+use Rattle.plain_view.specs.Depth.{AreInZones, buyer_zone, can_fill, crosses_any, fill_with, is_in_reach, next_fill, route_with, seller_zone}
+
+-- the arcs of a best route are the graph's
+pub best_route-arcs : (graph : Graph) (room : Arc → ℕ) (from to : ℕ) (route : List Arc) → IsGraph graph → best_route graph room from to ≡ Some route
+    → (arc : Arc) → IsIn arc route → HasArc graph arc
+best_route-arcs graph room from to route is found arc i =
+    way_has_arc graph room from to route arc (best_route-route graph room from to route is found).way i
+
+pub seller-known : (graph : Graph) (side : Side) (zone : ℕ) (maker : Maker) → HasZone graph zone → HasZone graph maker.zone → HasZone graph (seller_zone side zone maker)
+seller-known graph Buy zone maker own other = own
+seller-known graph Sell zone maker own other = other
+
+pub buyer-known : (graph : Graph) (side : Side) (zone : ℕ) (maker : Maker) → HasZone graph zone → HasZone graph maker.zone → HasZone graph (buyer_zone side zone maker)
+buyer-known graph Buy zone maker own other = other
+buyer-known graph Sell zone maker own other = own
+
+-- the zones in reach are those to or from which a route leads
+reached-is : (graph : Graph) (room : Arc → ℕ) (side : Side) (zone : ℕ) (maker : Maker)
+    → is_reached (same_side side Sell) graph room zone maker.zone ≡ is_some (route_with graph room side zone maker)
+reached-is graph room Buy zone maker = refl
+reached-is graph room Sell zone maker = refl
+
+module _ (graph : Graph) (room : Arc → ℕ) (side : Side) (zone left : ℕ) (makers : List Maker) where
+  -- the first maker in reach is the first with which a trade can be made
+  pub reach-find : (zones : ZoneSet) (towards : Bool) → towards ≡ same_side side Sell
+      → ((other : ℕ) → HasZone graph other → has_zone zones other ≡ is_reached towards graph room zone other) → AreInZones graph makers
+      → find (is_in_reach zones side) makers ≡ find (can_fill graph room side zone) makers
+  reach-find zones towards way are known = find-same (is_in_reach zones side) (can_fill graph room side zone) makers
+      (λ maker i. ap (λ b. nat_lt 0 maker.left && crosses_any side maker && b)
+      (are maker.zone (known.each maker i) ∙ ap (λ t. is_reached t graph room zone maker.zone) way ∙ reached-is graph room side zone maker))
+
+  pub found-fill : (found : Option Maker) → 0 < left → found ≡ find (can_fill graph room side zone) makers
+      → option_and_then (fill_with graph room side zone left) found ≡ next_fill graph side zone (record { makers = makers; room = room; left = left })
+  found-fill found some is =
+      ap (option_and_then (fill_with graph room side zone left)) is
+      ∙ ap (λ b. if b then option_and_then (fill_with graph room side zone left) (find (can_fill graph room side zone) makers) else None) (sym (lt-ltb 0 left some))
+
+  pub in_reach-known : (zones : ZoneSet) (maker : Maker) → AreInZones graph makers → find (is_in_reach zones side) makers ≡ Some maker → HasZone graph maker.zone
+  in_reach-known zones maker known found = known.each maker (from_find (is_in_reach zones side) maker makers found).0

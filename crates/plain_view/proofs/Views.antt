@@ -1,0 +1,188 @@
+-- The rows of a view are those of the trades of a taker of any quantity.
+use Rattle.std.proofs.Common.{◌≡◌, ◌∙◌, ℕ, ◌+◌, ◌-◌, ◌≤◌, Bool, true, false, List, [], ◌∷◌, length, map, Some, refl, sym, ap, subst, if◌then◌else◌, arith}
+use Rattle.std.specs.List.{filter_map}
+use Rattle.std.specs.Option.{option_map}
+use Rattle.std.proofs.lemmas.List.{length-map}
+use Rattle.order_kinds.specs.declared.contract.Contract.{Contract}
+use Rattle.order_kinds.specs.declared.order.OrderName.{OrderName}
+use Rattle.order_kinds.specs.declared.side.Side.{Side}
+use Rattle.order_kinds.specs.Period.{contract_quarters}
+use Rattle.order_kinds.specs.Same.{same_name}
+use Rattle.zone_graph.specs.declared.route.Arc.{Arc}
+use Rattle.zone_graph.specs.Graph.{Graph, HasArc, HasZone, IsGraph}
+use Rattle.zone_graph.specs.Pour.{lots_if, opposite_arc, uses}
+use Rattle.zone_graph.specs.Rooms.{room_of}
+use Rattle.zone_graph.specs.Route.{IsIn}
+use Rattle.zone_graph.specs.Steps.{IsRun}
+use Rattle.zone_graph.proofs.Membership.{from_map}
+use Rattle.zone_graph.proofs.Runs.{steps-run}
+use Rattle.cut_proof.proofs.Ways.{way_has_arc}
+use Rattle.market_model.specs.declared.event.Event.{Event}
+use Rattle.market_model.specs.declared.event.Leg.{Leg}
+use Rattle.market_model.specs.History.{and_then}
+use Rattle.market_model.specs.Lines.{line}
+use Rattle.market_model.specs.Orders.{Standing, left}
+use Rattle.market_model.specs.Room.{room}
+use Rattle.market_model.specs.Taking.{next_leg, take}
+use Rattle.market_model.specs.View.{rows_of, trade_of, view}
+use Rattle.market_laws.proofs.Balances.{left-leg as left-after_leg, names-taker}
+use Rattle.market_laws.proofs.Placed.{all_are_sound}
+use Rattle.market_laws.proofs.Trades.{from_line}
+use Rattle.market_laws.proofs.Uses.{within_offers}
+use Rattle.market_locality.proofs.Restrict.{map-same}
+use Rattle.route_choice.specs.Poured.{FitTogether}
+use Rattle.plain_capacity.specs.Hour.{IsLegalOver}
+use Rattle.plain_orders.specs.Listed.{line_of, orders_of}
+use Rattle.plain_orders.proofs.LineLaws.{line-of_orders}
+use Rattle.plain_view.specs.declared.filling.Fill.{Fill}
+use Rattle.plain_view.specs.declared.maker.Maker.{Maker}
+use Rattle.plain_view.specs.declared.rows.MakerRow.{MakerRow}
+use Rattle.plain_view.specs.Depth.{AreInZones, Depth, after_fill, buyer_zone, depth_of, leg_of, maker_of, next_fill, seller_zone, taken_of}
+use Rattle.plain_view.specs.Filled.{AreRowsFilled, row_in}
+use Rattle.plain_view.proofs.Fills.{IsFill, next_fill-is}
+use Rattle.plain_view.proofs.Kept.{IsAfter, after-leg, left-leg}
+use Rattle.plain_view.proofs.NextLeg.{IsDepth, leg_event, maker_now, next_leg-fill, taker_of}
+use Rattle.plain_view.proofs.RoomsAfter.{room-leg, rooms-together}
+use Rattle.plain_view.proofs.RowLemmas.{rows-are, same_name-sym}
+use Rattle.plain_view.proofs.Start.{after-start, depth-start, start, taker_name}
+
+map-map : {X Y Z : Type 0} (g : Y → Z) (f : X → Y) (xs : List X) → map g (map f xs) ≡ map (λ x. g (f x)) xs
+map-map g f [] = refl
+map-map g f (x ∷ xs) = ap (λ zs. g (f x) ∷ zs) (map-map g f xs)
+
+module _ (graph : Graph) (is : IsGraph graph) (events : List Event) (contract : Contract) (side : Side) (zone : ℕ) (name : OrderName) where
+  -- the history and the depth of a taker
+  record Takes (V : List Event) (depth : Depth) : Type 0 where
+    after : IsAfter events contract side (taker_of name contract side zone) V
+    of : IsDepth graph events contract side name V depth
+
+  -- they go on together
+  module _ (V : List Event) (depth : Depth) (takes : Takes V depth) (fill : Fill) (next : next_fill graph side zone depth ≡ Some fill) where
+    filled_with : IsFill graph side zone depth fill
+    filled_with = next_fill-is graph side zone depth fill is next
+
+    maker_in : (s : Standing) × IsIn s (line events contract side) × (filled_with.with ≡ maker_now V s)
+    maker_in = from_map (maker_now V) filled_with.with (line events contract side) (subst (IsIn filled_with.with) takes.of.makers filled_with.is_in)
+
+    leg : Leg
+    leg = leg_of name fill
+
+    maker-is : fill.maker ≡ maker_in.0.name
+    maker-is = filled_with.named ∙ ap (λ (m : Maker). m.name) maker_in.2
+
+    shows : fill.lots ≤ left V maker_in.0.name
+    shows = subst (λ (m : Maker). fill.lots ≤ m.left) maker_in.2 filled_with.shows
+
+    on_graph : (arc : Arc) → IsIn arc fill.route → HasArc graph arc
+    on_graph arc i =
+        way_has_arc graph depth.room (seller_zone side zone filled_with.with) (buyer_zone side zone filled_with.with) fill.route arc filled_with.fits.is_route.way i
+
+    has : (arc : Arc) → IsIn arc fill.route → fill.lots ≤ room V (contract_quarters contract) arc
+    has arc i = subst (λ n. fill.lots ≤ n) (takes.of.rooms arc (on_graph arc i)) (filled_with.fits.has_room arc i)
+
+    after-next : IsAfter events contract side (taker_of name contract side zone) (and_then V (leg_event contract name fill))
+    after-next = after-leg events contract side (taker_of name contract side zone) V takes.after (leg_of name fill) refl maker_in.0 maker_in.1 maker-is filled_with.some shows has
+
+    taken-now : (s : Standing) → IsIn s (line events contract side) → taken_of fill.maker fill.lots (maker_now V s) ≡ maker_now (and_then V (leg_event contract name fill)) s
+    taken-now s i =
+        go (same_name s.name fill.maker)
+        ∙ ap (λ b. at (left V s.name - lots_if b fill.lots)) (same_name-sym s.name fill.maker)
+        ∙ ap at (sym (left-leg events contract side (taker_of name contract side zone) V takes.after (leg_of name fill) refl maker_in.0 maker_in.1 maker-is filled_with.some shows has s i))
+      where
+        at : ℕ → Maker
+        at n = record { name = s.name; zone = s.order.zone; price = s.price; left = n }
+
+        go : (b : Bool) → (if b then at (left V s.name - fill.lots) else at (left V s.name)) ≡ at (left V s.name - lots_if b fill.lots)
+        go true = refl
+        go false = ap at (let n = left V s.name in let z : n ≡ n - 0 = omega arith in z)
+
+    depth-next : IsDepth graph events contract side name (and_then V (leg_event contract name fill)) (after_fill depth fill)
+    depth-next = record {
+      makers =
+          ap (map (taken_of fill.maker fill.lots)) takes.of.makers
+          ∙ map-map (taken_of fill.maker fill.lots) (maker_now V) (line events contract side)
+          ∙ map-same (λ s. taken_of fill.maker fill.lots (maker_now V s)) (maker_now (and_then V (leg_event contract name fill))) (line events contract side) taken-now;
+      rooms = λ arc known.
+          ap (λ n. (n + lots_if (uses fill.route (opposite_arc arc)) fill.lots) - lots_if (uses fill.route arc) fill.lots) (takes.of.rooms arc known)
+          ∙ sym (room-leg V contract (leg_of name fill) takes.after.within filled_with.some has arc);
+      rest = ap (λ n. n - fill.lots) takes.of.rest ∙ sym (left-after_leg V contract (leg_of name fill) name (names-taker (leg_of name fill)));
+    }
+
+    takes-next : Takes (and_then V (leg_event contract name fill)) (after_fill depth fill)
+    takes-next = record { after = after-next; of = depth-next }
+
+  -- the legs of a run of trades
+  legs-run : (V : List Event) (depth : Depth) (fills : List Fill) → Takes V depth → IsRun (next_fill graph side zone) after_fill depth fills
+      → IsRun (next_leg graph name) and_then V (map (leg_event contract name) fills)
+  legs-run V depth [] takes none =
+      next_leg-fill graph is events contract side zone name V takes.after depth takes.of ∙ ap (option_map (leg_event contract name)) none
+  legs-run V depth (fill ∷ fills) takes run = (
+    next_leg-fill graph is events contract side zone name V takes.after depth takes.of ∙ ap (option_map (leg_event contract name)) run.0,
+    legs-run (and_then V (leg_event contract name fill)) (after_fill depth fill) fills (takes-next V depth takes fill run.0) run.1,
+  )
+
+  -- each has a lot at least
+  run-short : (depth : Depth) (fills : List Fill) → IsRun (next_fill graph side zone) after_fill depth fills → length fills ≤ depth.left
+  run-short depth [] none = omega arith
+  run-short depth (fill ∷ fills) run =
+      let f = next_fill-is graph side zone depth fill is run.0 in
+      let rest = run-short (after_fill depth fill) fills run.1 in
+      let some = f.some in let enough = f.enough in omega (arith, rest, some, enough)
+
+  trades-of : (fills : List Fill) → filter_map trade_of (map (leg_event contract name) fills) ≡ map (leg_of name) fills
+  trades-of [] = refl
+  trades-of (fill ∷ fills) = ap (λ legs. leg_of name fill ∷ legs) (trades-of fills)
+
+module _ (graph : Graph) (is : IsGraph graph) (events : List Event) (legal : IsLegalOver graph events) (contract : Contract) (side : Side) (zone : ℕ) (rooms : List (ℕ × ℕ))
+    (are : (arc : Arc) → HasArc graph arc → room_of rooms arc ≡ room events (contract_quarters contract) arc) where
+  abbrev depth : Depth
+  depth = depth_of (map maker_of (line events contract side)) rooms 4294967295
+
+  -- the rows of the run are the view
+  pub view-is : (rows : List MakerRow) → AreRowsFilled graph side zone (depth_of (map maker_of (line events contract side)) rooms 4294967295) rows
+      → map row_in rows ≡ view graph events contract side zone
+  unfolding view take
+  view-is rows filled =
+      let of = depth-start legal.setup events legal.fit contract side zone graph rooms are in
+      let takes : Takes graph is events contract side zone name (start legal.setup events legal.fit contract side zone) depth =
+      record { after = after-start legal.setup events legal.fit contract side zone; of = of } in
+      let short = run-short graph is events contract side zone name depth filled.fills filled.run in
+      let rest = of.rest in
+      let few : length (map (leg_event contract name) filled.fills) ≤ left (start legal.setup events legal.fit contract side zone) name =
+      (let size = length-map filled.fills (leg_event contract name) in omega (arith, size, short, rest)) in
+      let legs : take graph (start legal.setup events legal.fit contract side zone) name ≡ map (leg_event contract name) filled.fills =
+      steps-run (left (start legal.setup events legal.fit contract side zone) name) (next_leg graph name) and_then (start legal.setup events legal.fit contract side zone)
+      (map (leg_event contract name) filled.fills)
+      (legs-run graph is events contract side zone name (start legal.setup events legal.fit contract side zone) depth filled.fills takes filled.run) few in
+      ap (map row_in) filled.are ∙ rows-are name filled.fills
+      ∙ ap rows_of (sym (ap (filter_map trade_of) legs ∙ trades-of graph is events contract side zone name filled.fills))
+    where
+      name : OrderName
+      name = taker_name legal.setup events legal.fit contract side zone
+
+  -- the makers are in zones that there are
+  pub makers-in_zones : AreInZones graph (map maker_of (line events contract side))
+  makers-in_zones = record {
+    each = λ maker i.
+        let from = from_map maker_of maker (line events contract side) i in
+        let found = from_line events contract side from.0 from.1 in
+        let sound = (all_are_sound legal.setup events legal.fit).orders found.order found.is_open.is_placed in
+        subst (λ (m : Maker). HasZone graph m.zone) (sym from.2)
+        (subst (λ (s : Standing). HasZone graph s.order.zone) (sym found.is) (subst (λ g. HasZone g found.order.order.zone) (sym legal.over) sound.in_zone));
+  }
+
+  pub fit-together : FitTogether graph (room_of rooms)
+  fit-together arc known =
+      let most = rooms-together events contract arc (within_offers legal.setup events legal.fit) in
+      let own = are arc known in
+      let back = are (opposite_arc arc) known in omega (arith, most, own, back)
+
+-- the makers that are made of the orders of an hour are those of the line
+pub makers-made : (graph : Graph) (events : List Event) (legal : IsLegalOver graph events) (contract : Contract) (side : Side)
+    (orders orders_seen made made_seen : List Standing) (makers makers_seen : List Maker) → orders ≡ orders_of events contract.hour → orders_seen ≡ orders
+    → made ≡ line_of orders_seen contract side → made_seen ≡ made → makers ≡ map maker_of made_seen → makers_seen ≡ makers
+    → makers_seen ≡ map maker_of (line events contract side)
+makers-made graph events legal contract side orders orders_seen made made_seen makers makers_seen are seen line_is line_seen makers_are makers_are_seen =
+    makers_are_seen ∙ makers_are
+    ∙ ap (map maker_of) (line_seen ∙ line_is ∙ ap (λ os. line_of os contract side) (seen ∙ are)
+    ∙ line-of_orders events contract side (record { setup = legal.setup; fit = legal.fit }))

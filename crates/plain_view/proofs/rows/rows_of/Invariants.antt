@@ -1,0 +1,7 @@
+use Rattle.std.proofs.Common.{◌≡◌, map, take}
+use Rattle.plain_view.specs.Filled.{row_in}
+use Rattle.plain_view.proofs.rows.rows_of.Given as goal
+
+-- the rows so far
+abbrev pub invariant-loop-maker : goal.invariant-loop-maker
+invariant-loop-maker l = l.rows ≡ map row_in (take l.maker-index l.makers)

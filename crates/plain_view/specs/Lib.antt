@@ -1,0 +1,4 @@
+-- What the contracts of this crate cite.
+pub mod Days
+pub mod Depth
+pub mod Filled
