@@ -1,0 +1,88 @@
+-- What is judged after a taking is what the rules ask.
+use Rattle.std.proofs.Common.{◌≡◌, ◌∙◌, ℕ, zero, suc, List, Option, Some, None, refl, sym, ap}
+use Rattle.order_kinds.specs.declared.order.Kind.{Kind}
+use Rattle.order_kinds.specs.declared.order.Kind.TheVariants as kind
+use Rattle.order_kinds.specs.declared.order.Order.{Order}
+use Rattle.order_kinds.specs.declared.order.OrderName.{OrderName}
+use Rattle.zone_graph.specs.Graph.{Graph}
+use Rattle.market_model.specs.declared.command.Command.TheVariants as command
+use Rattle.market_model.specs.declared.event.Event.{Event}
+use Rattle.market_model.specs.declared.refusal.Refusal.{Refusal}
+use Rattle.market_model.specs.declared.refusal.Refusal.TheVariants as refusal
+use Rattle.market_model.specs.Certificate.{bound_of, unfilled_zones}
+use Rattle.market_model.specs.Entering.{after_taking, name_of_next, rest_of, with_order}
+use Rattle.market_model.specs.Refusals.{basket_order_refusal, order_desk_refusal}
+use Rattle.market_model.specs.Rules.{first_broken}
+use Rattle.market_model.specs.Sweep.{first_answer, or_else}
+use Rattle.plain_refusals.specs.State.{filling_rules}
+use Rattle.plain_entering.proofs.Parts.{IsTaken}
+use Rattle.plain_entering.specs.Judging.{refusal_after, unless_filled, unless_full}
+
+or-nothing : (o : Option Refusal) → or_else o (λ _. None) ≡ o
+or-nothing None = refl
+or-nothing (Some x) = refl
+
+-- an order of another kind
+of_kind : Kind → Order → Order
+of_kind kind order = record order { kind = kind }
+
+full-is : (graph : Graph) (events : List Event) (caller : ℕ) (order : Order)
+    → unless_full (after_taking graph events caller order) (name_of_next events order) ≡ order_desk_refusal graph events caller order
+full-is graph events caller order = go (rest_of graph events caller order) refl
+  where
+    go : (rest : ℕ) → rest_of graph events caller order ≡ rest
+        → unless_full (after_taking graph events caller order) (name_of_next events order) ≡ order_desk_refusal graph events caller order
+    go zero e = rw e refl
+    go (suc more) e = rw e refl
+
+-- an order by itself
+pub order-judged : (graph : Graph) (events : List Event) (caller : ℕ) (order : Order)
+    → refusal_after graph (with_order events caller order) (after_taking graph events caller order) (name_of_next events order) order
+    ≡ first_broken (filling_rules graph events caller (command.Enter order))
+unfolding of_kind unfilled_zones bound_of
+order-judged graph events caller order = by order.kind
+  where
+    by : (kind : Kind)
+        → refusal_after graph (with_order events caller (of_kind kind order)) (after_taking graph events caller (of_kind kind order)) (name_of_next events (of_kind kind order))
+        (of_kind kind order)
+        ≡ first_broken (filling_rules graph events caller (command.Enter (of_kind kind order)))
+    by kind.Fok = sym (or-nothing _)
+    by kind.Ioc = refl
+    by kind.Limit = full-is graph events caller (of_kind kind.Limit order) ∙ sym (or-nothing (order_desk_refusal graph events caller (of_kind kind.Limit order)))
+    by (kind.Iceberg peak delta) =
+        full-is graph events caller (of_kind (kind.Iceberg peak delta) order)
+        ∙ sym (or-nothing (order_desk_refusal graph events caller (of_kind (kind.Iceberg peak delta) order)))
+
+-- an order of a basket
+pub one-judged : (graph : Graph) (events : List Event) (caller : ℕ) (order : Order)
+    → unless_filled (λ zones bound. refusal.BasketUnfilled order.contract.hour zones bound) graph (with_order events caller order)
+    (after_taking graph events caller order) (name_of_next events order) order
+    ≡ basket_order_refusal graph events caller order
+unfolding unfilled_zones bound_of
+one-judged graph events caller order = refl
+
+-- a basket
+pub basket-judged : (graph : Graph) (events : List Event) (caller : ℕ) (orders : List Order)
+    → first_answer (basket_order_refusal graph events caller) orders ≡ first_broken (filling_rules graph events caller (command.EnterBasket orders))
+basket-judged graph events caller orders = sym (or-nothing (first_answer (basket_order_refusal graph events caller) orders))
+
+-- the same of what was taken
+module _ (graph : Graph) (events : List Event) (caller : ℕ) (order : Order) (start after : List Event) (name : OrderName)
+    (is_taken : IsTaken graph events caller order start after name) where
+  over : (judge : List Event → List Event → OrderName → Option Refusal)
+      → judge start after name ≡ judge (with_order events caller order) (after_taking graph events caller order) (name_of_next events order)
+  over judge =
+      ap (λ history. judge history after name) is_taken.start_is
+      ∙ ap (λ history. judge (with_order events caller order) history name) is_taken.after_is
+      ∙ ap (judge (with_order events caller order) (after_taking graph events caller order)) is_taken.name_is
+
+  pub order-found : (found : Option Refusal) → found ≡ refusal_after graph start after name order
+      → found ≡ first_broken (filling_rules graph events caller (command.Enter order))
+  order-found found is = is ∙ over (λ s a n. refusal_after graph s a n order) ∙ order-judged graph events caller order
+
+  pub one-found : (found : Option Refusal)
+      → found ≡ unless_filled (λ zones bound. refusal.BasketUnfilled order.contract.hour zones bound) graph start after name order
+      → found ≡ basket_order_refusal graph events caller order
+  one-found found is =
+      is ∙ over (λ s a n. unless_filled (λ zones bound. refusal.BasketUnfilled order.contract.hour zones bound) graph s a n order)
+      ∙ one-judged graph events caller order

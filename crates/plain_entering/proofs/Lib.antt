@@ -1,0 +1,6 @@
+pub mod Baskets
+pub mod Days
+pub mod Fitting
+pub mod Hours
+pub mod Judged
+pub mod Parts

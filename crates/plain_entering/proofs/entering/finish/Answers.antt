@@ -1,0 +1,10 @@
+use Rattle.std.proofs.Common.{subst, sym}
+use Rattle.plain_capacity.specs.Hour.{IsLegalOver}
+use Rattle.plain_entering.proofs.Fitting.{rested-legal}
+use Rattle.plain_entering.proofs.entering.finish.Goals as goal
+
+pub sweep-requires : goal.sweep-requires
+sweep-requires c = record {
+  legal = subst (IsLegalOver c.args.grid.now) (sym c.in_ok-withdraw_rest.ensures.ok)
+      (rested-legal c.args.grid.now c.args.events.now c.args.order.now.kind c.args.name c.zones-zones.ensures.grid.is_graph c.requires.legal);
+}
