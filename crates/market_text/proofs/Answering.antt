@@ -1,5 +1,5 @@
 -- Answers that are handed on.
-use Rattle.std.proofs.Common.{◌≡◌, ◌∙◌, Option, Some, None, Result, Ok, Err}
+use Rattle.std.proofs.Common.{◌≡◌, ◌∙◌, Option, None, Result, Ok, Err}
 use Rattle.market_text.specs.declared.fault.LineFault.{LineFault}
 use Rattle.market_text.specs.declared.fault.LineFault.TheVariants as line_fault
 use Rattle.market_text.specs.Fault.{Answers}

@@ -1,16 +1,13 @@
 -- What was read stays well formed as lines are added.
 use Rattle.std.proofs.Common.{◌≡◌, ℕ, ℤ, ◌+◌, ◌*◌, ◌<◌, ◌≤◌, ◌==◌, Bool, true, false, ◌&&◌, nat_lt, is_none, cond, List, [], ◌∷◌, ◌++◌, length, get_or, refl, sym, ap, ◌∙◌, arith, All, count_by, length-append, map, subst, Option, Some, None, IfSome, IsSome, replicate}
 use Rattle.std.specs.Prelude.{slice_set}
-use Rattle.std.specs.List.{list_all}
 use Rattle.std.proofs.lemmas.List.{length-map, length-set, length-replicate, get_or-map, get_or-set_same, get_or-set_other, get_or_append_left}
-use Rattle.std.proofs.lemmas.List.Sums.{AllPass-from_list_all}
 use Rattle.std.proofs.lemmas.List.FromFn.{fill_by_all}
-use Rattle.std.proofs.lemmas.List.Elements.{All-append, All-replicate, All-set, All-get_or}
+use Rattle.std.proofs.lemmas.List.Elements.{All-append, All-replicate}
 use Rattle.std.proofs.Math.Seq.{get_or-append_seam}
 use Rattle.std.proofs.lemmas.Bool.Decides.{nat_tests}
 use Rattle.zone_graph.specs.Name.{IsName}
 use Rattle.contract_calendar.specs.Day.{DeliveryDay}
-use Rattle.market_model.specs.Command.{IsLimitEntry}
 use Rattle.market_model.specs.declared.command.Command.{Command}
 use Rattle.market_model.specs.declared.setup.Role.{Role}
 use Rattle.market_model.specs.declared.setup.Role.TheVariants as role
@@ -24,7 +21,6 @@ use Rattle.market_text.specs.Commands.{commands_of, with_commands}
 use Rattle.market_text.specs.Names.{place_of}
 use Rattle.market_text.specs.Steps.{may_add_zone, may_add_caller, caller_at, callers_of, session_of}
 use Rattle.market_text.specs.Reading.{IsReading}
-use Rattle.market_text.specs.Played.{is_played}
 use Rattle.market_text.proofs.Lists.{All-push, All-of-map, count_none, count_more}
 
 -- a list with one item more is longer by one
@@ -51,7 +47,6 @@ with_zone reader name r few is =
       matched = r.matched;
       clocked = r.clocked;
       counted = r.counted;
-      entries = r.entries;
     }
 
 -- one border more
@@ -75,7 +70,6 @@ with_border reader ends r few one other =
       matched = r.matched;
       clocked = r.clocked;
       counted = r.counted;
-      entries = r.entries;
     }
 
 -- the counts with one caller more, who gave no command
@@ -123,7 +117,6 @@ with_caller reader name role r few is =
       matched = omega arith;
       clocked = omega arith;
       counted = counted_with_caller reader.commands reader.turns r.counted (λ k d lt. let h = r.known k d lt in omega arith);
-      entries = All-push (All IsLimitEntry) reader.commands [] r.entries (λ k d lt. absurd (omega arith));
     }
 
 -- the counts with more commands of a caller
@@ -152,19 +145,11 @@ counted_with_commands lists turns giver commands counted there caller lt = by (g
         let before = counted caller lt in
         rw (get_or-set_other lists giver caller (commands_of lists giver ++ commands) [] differs) (omega arith)
 
--- the commands that are played are entries of plain limit orders
-pub entries_of_played : (commands : List Command) → list_all is_played commands ≡ true → All IsLimitEntry commands
-entries_of_played commands played k d lt =
-    one (get_or commands k d) (AllPass-from_list_all is_played commands played k d lt)
-  where
-    one : (command : Command) → is_played command ≡ true → IsLimitEntry command
-    one command is = grind arith
-
 -- more commands of a caller
 pub with_turns : (reader : Reader) (caller : ℕ) (commands : List Command) → IsReading reader → caller < length reader.callers
-    → length reader.turns + length commands ≤ 262144 → list_all is_played commands ≡ true
+    → length reader.turns + length commands ≤ 262144
     → IsReading (record reader { commands = with_commands reader.commands caller commands; turns = reader.turns ++ replicate (length commands) caller })
-with_turns reader caller commands r there few played =
+with_turns reader caller commands r there few =
     let matched = r.matched in
     let among : caller < length reader.commands = omega arith in
     let turns : length (reader.turns ++ replicate (length commands) caller) ≡ length reader.turns + length commands = simp (length-append, length-replicate) in
@@ -185,7 +170,6 @@ with_turns reader caller commands r there few played =
       matched = same ∙ matched;
       clocked = r.clocked;
       counted = λ k lt. counted_with_commands reader.commands reader.turns caller commands r.counted among k (omega arith);
-      entries = All-set (All IsLimitEntry) reader.commands caller given (All-append IsLimitEntry (commands_of reader.commands caller) commands (All-get_or (All IsLimitEntry) reader.commands caller [] among r.entries) (entries_of_played commands played)) r.entries;
     }
 
 -- another last clock line of a caller
@@ -208,7 +192,6 @@ with_clock reader caller instant r =
       matched = r.matched;
       clocked = same ∙ r.clocked;
       counted = r.counted;
-      entries = r.entries;
     }
 
 -- the hours of the day that was read
@@ -251,7 +234,6 @@ is_session reader hours zones callers commands r is_hours some_day begun same_zo
       counted = r.counted;
       rooms = rooms;
       few = r.few_turns;
-      entries = r.entries;
     })
 
 -- both tests hold

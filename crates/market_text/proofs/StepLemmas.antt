@@ -1,5 +1,5 @@
 -- The steps of lines, by what their words are.
-use Rattle.std.proofs.Common.{◌≡◌, ℕ, List, [], ◌∷◌, refl, Bool, true, false, Option, Some}
+use Rattle.std.proofs.Common.{◌≡◌, ℕ, List, [], ◌∷◌, refl, true, false, Some}
 use Rattle.market_model.specs.declared.command.Command.{Command}
 use Rattle.market_spelling.specs.Words.{heading_of, verb_of}
 use Rattle.market_spelling.specs.declared.words.Heading.{Heading}

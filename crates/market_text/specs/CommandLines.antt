@@ -1,6 +1,6 @@
 -- The command for which the words of a line stand that follow the caller's name, by the numbers of
 -- the zones: none where they are not of the verb's form.
-use Rattle.std.specs.Prelude.{ℕ, zero, suc, ◌+◌, ◌*◌, ◌/◌, Bool, ◌&&◌, ◌==◌, nat_le, List, [], ◌∷◌, length, drop, map, get_or, codes, Option, Some, None, if◌then◌else◌}
+use Rattle.std.specs.Prelude.{ℕ, ◌*◌, ◌/◌, ◌&&◌, ◌==◌, nat_le, List, [], ◌∷◌, length, drop, map, get_or, codes, Option, Some, None, if◌then◌else◌}
 use Rattle.std.specs.List.{range_with_len}
 use Rattle.order_kinds.specs.declared.side.Side.{Side}
 use Rattle.order_kinds.specs.declared.order.Kind.{Kind}

@@ -4,7 +4,6 @@ pub mod CommandLines
 pub mod Commands
 pub mod Fault
 pub mod Names
-pub mod Played
 pub mod Reading
 pub mod Session
 pub mod Steps

@@ -1,7 +1,6 @@
 -- What the lines that were read so far keep.
 use Rattle.std.specs.Prelude.{◌≡◌, ℕ, ◌<◌, ◌≤◌, ◌==◌, IsTrue, length, count_by, All, IfSome}
 use Rattle.zone_graph.specs.Name.{IsName}
-use Rattle.market_model.specs.Command.{IsLimitEntry}
 use Rattle.market_text.specs.declared.reader.Reader.{Reader}
 use Rattle.market_text.specs.Commands.{commands_of}
 
@@ -23,4 +22,3 @@ pub record IsReading (reader : Reader) : Type 0 where
   pub clocked : length reader.clocks ≡ length reader.callers
   pub counted : (caller : ℕ) → caller < length reader.commands
       → length (commands_of reader.commands caller) ≡ count_by (λ turn. turn == caller) reader.turns
-  pub entries : All (All IsLimitEntry) reader.commands

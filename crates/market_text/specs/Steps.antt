@@ -1,6 +1,6 @@
 -- What each line makes of what was read before it: none where the line is bad.
-use Rattle.std.specs.Prelude.{ℕ, ◌+◌, Bool, true, false, not, ◌&&◌, ◌==◌, nat_lt, nat_le, List, [], ◌∷◌, ◌++◌, length, drop, map, replicate, get_or, slice_set, is_some, is_none, Option, Some, None, if◌then◌else◌}
-use Rattle.std.specs.List.{list_any, list_all, range_with_len}
+use Rattle.std.specs.Prelude.{ℕ, ◌+◌, Bool, true, false, not, ◌&&◌, ◌==◌, nat_lt, nat_le, List, [], ◌∷◌, ◌++◌, length, map, replicate, get_or, slice_set, is_some, is_none, Option, Some, None, if◌then◌else◌}
+use Rattle.std.specs.List.{list_any, range_with_len}
 use Rattle.contract_calendar.specs.Day.{DeliveryDay, day_of}
 use Rattle.market_model.specs.declared.command.Command.{Command}
 use Rattle.market_model.specs.declared.setup.Caller.{Caller}
@@ -16,10 +16,9 @@ use Rattle.market_spelling.specs.declared.words.Verb.TheVariants as verb
 use Rattle.market_text.specs.declared.reader.Reader.{Reader}
 use Rattle.market_text.specs.declared.session.Session.{Session}
 use Rattle.market_text.specs.Clocks.{last_clock, gates_of}
-use Rattle.market_text.specs.CommandLines.{word_at, first_word, only_word, command_of}
+use Rattle.market_text.specs.CommandLines.{first_word, only_word, command_of}
 use Rattle.market_text.specs.Commands.{commands_of, with_commands}
 use Rattle.market_text.specs.Names.{name_at, place_of, joins_zones}
-use Rattle.market_text.specs.Played.{is_played}
 
 -- before the first line
 abbrev pub nothing_read : Reader
@@ -128,17 +127,13 @@ header_step reader words = do
   heading ← heading_of parts.0
   heading_step heading reader parts.1
 
--- the commands of a line, at most 262144 with those before it, of which each is played
+-- the commands of a line, at most 262144 with those before it
 unfoldable pub take_commands : Reader → ℕ → List Command → Option Reader
 take_commands reader caller commands =
-    if nat_le (length reader.turns + length commands) 262144 then played else None
-  where
-    played : Option Reader
-    played =
-        if list_all is_played commands then Some (record reader {
-          commands = with_commands reader.commands caller commands;
-          turns = reader.turns ++ replicate (length commands) caller;
-        }) else None
+    if nat_le (length reader.turns + length commands) 262144 then Some (record reader {
+      commands = with_commands reader.commands caller commands;
+      turns = reader.turns ++ replicate (length commands) caller;
+    }) else None
 
 -- the words after a verb that stands for one command
 unfoldable pub entry_step : Verb → ℕ → Reader → List (List ℕ) → Option Reader

@@ -1,12 +1,16 @@
-//! Lines of commands, whether or not the market that plays sessions knows them.
+//! Lines of commands of each form, with the commands for which they stand.
 
 use crate::clocks::list_gates;
 use crate::commands::command_of_words;
 use crate::fault::LineFault;
 use crate::names::NameTable;
+use crate::tests::{check_commands, check_operator, check_trader};
 use contract_calendar::Day;
 use jiff::civil::Date;
-use market_model::{Command, Contract, OrderName, Part, Phase, Quarter, Side};
+use market_model::{
+    BlockOrder, Command, Commands, Contract, Kind, Lots, Order, OrderName, Orders, Part, Phase,
+    Price, Quarter, Side,
+};
 use market_spelling::{read_instant, read_verb};
 use std::process::Abort;
 use std::test::Fail;
@@ -139,6 +143,512 @@ const BROKEN_LINES: [&[u8]; 63] = [
     b"clock 2025-06-17T10:00:00Z",
 ];
 
+// A limit order of 1.0 MW at 10.00 in hour 12 and zone DE, of another kind.
+const KINDS: [(&[u8], Side, Kind); 12] = [
+    (b"ann buy h12 DE 1.0 10.00\n", Side::Buy, Kind::Limit),
+    (b"ann buy h12 DE 1.0 10.00 ioc\n", Side::Buy, Kind::Ioc),
+    (b"ann sell h12 DE 1.0 10.00 ioc\n", Side::Sell, Kind::Ioc),
+    (b"ann buy h12 DE 1.0 10.00 fok\n", Side::Buy, Kind::Fok),
+    (b"ann sell h12 DE 1.0 10.00 fok\n", Side::Sell, Kind::Fok),
+    (
+        b"ann buy h12 DE 1.0 10.00 iceberg 0.1 0.05\n",
+        Side::Buy,
+        Kind::Iceberg {
+            peak: Lots(1),
+            delta: 5,
+        },
+    ),
+    (
+        b"ann sell h12 DE 1.0 10.00 iceberg 0.1 0.05\n",
+        Side::Sell,
+        Kind::Iceberg {
+            peak: Lots(1),
+            delta: 5,
+        },
+    ),
+    (
+        b"ann buy h12 DE 1.0 10.00 iceberg 0.0 0.00\n",
+        Side::Buy,
+        Kind::Iceberg {
+            peak: Lots(0),
+            delta: 0,
+        },
+    ),
+    (
+        b"ann sell h12 DE 1.0 10.00 iceberg 1.0 0.10\n",
+        Side::Sell,
+        Kind::Iceberg {
+            peak: Lots(10),
+            delta: 10,
+        },
+    ),
+    (
+        b"ann buy h12 DE 1.0 10.00 iceberg 999.1 10.00\n",
+        Side::Buy,
+        Kind::Iceberg {
+            peak: Lots(9991),
+            delta: 1000,
+        },
+    ),
+    (
+        b"ann sell h12 DE 1.0 10.00 iceberg 9999999.9 9999999.99\n",
+        Side::Sell,
+        Kind::Iceberg {
+            peak: Lots(99999999),
+            delta: 999999999,
+        },
+    ),
+    (
+        b"#\nann buy h12 DE 1.0 10.00 iceberg 0.9 0.01\n\n",
+        Side::Buy,
+        Kind::Iceberg {
+            peak: Lots(9),
+            delta: 1,
+        },
+    ),
+];
+
+// Lines of baskets: the side, the hour, the part of the hour and the zone of each item, of which
+// each has 1.0 MW and 10.00.
+const BASKETS: [(&[u8], &[(Side, u32, Part, u32)]); 4] = [
+    (
+        b"ann basket buy h1 DE 1.0 10.00\n",
+        &[(Side::Buy, 1, Part::Hour, 0)],
+    ),
+    (
+        b"ann basket buy h1 DE 1.0 10.00 sell h2q4 FR 1.0 10.00\n",
+        &[
+            (Side::Buy, 1, Part::Hour, 0),
+            (Side::Sell, 2, Part::Quarter(4), 1),
+        ],
+    ),
+    (
+        b"ann basket sell h2f1 AT 1.0 10.00 buy h1 DE 1.0 10.00 buy h1 DE 1.0 10.00\n",
+        &[
+            (Side::Sell, 2, Part::Half(1), 2),
+            (Side::Buy, 1, Part::Hour, 0),
+            (Side::Buy, 1, Part::Hour, 0),
+        ],
+    ),
+    (
+        b"ann basket buy h1 D 1.0 10.00 buy h2 D 1.0 10.00 buy h3 D 1.0 10.00 buy h4 D 1.0 10.00 buy h5 D 1.0 10.00 buy h6 D 1.0 10.00 buy h7 D 1.0 10.00 buy h8 D 1.0 10.00\n",
+        &[
+            (Side::Buy, 1, Part::Hour, 2),
+            (Side::Buy, 2, Part::Hour, 2),
+            (Side::Buy, 3, Part::Hour, 2),
+            (Side::Buy, 4, Part::Hour, 2),
+            (Side::Buy, 5, Part::Hour, 2),
+            (Side::Buy, 6, Part::Hour, 2),
+            (Side::Buy, 7, Part::Hour, 2),
+            (Side::Buy, 8, Part::Hour, 2),
+        ],
+    ),
+];
+
+// Lines of a trader, with their commands.
+const TRADER_LINES: [(&[u8], Command); 23] = [
+    (
+        b"ann buyblock h1 h2 DE 1.0 10.00\n",
+        Command::EnterBlock {
+            order: BlockOrder {
+                first: 1,
+                last: 2,
+                zone: 0,
+                side: Side::Buy,
+                price: Price(1000),
+                quantity: Lots(10),
+            },
+        },
+    ),
+    (
+        b"ann sellblock h1 h2 DE 1.0 10.00\n",
+        Command::EnterBlock {
+            order: BlockOrder {
+                first: 1,
+                last: 2,
+                zone: 0,
+                side: Side::Sell,
+                price: Price(1000),
+                quantity: Lots(10),
+            },
+        },
+    ),
+    (
+        b"ann sellblock h02 h1 FR 0.0 -0.01\n",
+        Command::EnterBlock {
+            order: BlockOrder {
+                first: 2,
+                last: 1,
+                zone: 1,
+                side: Side::Sell,
+                price: Price(-1),
+                quantity: Lots(0),
+            },
+        },
+    ),
+    (
+        b"ann buyblock h99 h0 nowhere 9999999.9 9999999.99\n",
+        Command::EnterBlock {
+            order: BlockOrder {
+                first: 99,
+                last: 0,
+                zone: 2,
+                side: Side::Buy,
+                price: Price(999999999),
+                quantity: Lots(99999999),
+            },
+        },
+    ),
+    (
+        b"ann cancel h12#1\n",
+        Command::Cancel {
+            name: OrderName {
+                hour: 12,
+                number: 1,
+            },
+        },
+    ),
+    (
+        b"ann cancel h12#07\n",
+        Command::Cancel {
+            name: OrderName {
+                hour: 12,
+                number: 7,
+            },
+        },
+    ),
+    (
+        b"ann cancel h01#000000001\n",
+        Command::Cancel {
+            name: OrderName { hour: 1, number: 1 },
+        },
+    ),
+    (
+        b"ann cancel h99#999999999\n",
+        Command::Cancel {
+            name: OrderName {
+                hour: 99,
+                number: 999999999,
+            },
+        },
+    ),
+    (
+        b"ann reduce h12#1 0.5\n",
+        Command::Reduce {
+            name: OrderName {
+                hour: 12,
+                number: 1,
+            },
+            to: 5,
+        },
+    ),
+    (
+        b"ann reduce h12#7 5.0\n",
+        Command::Reduce {
+            name: OrderName {
+                hour: 12,
+                number: 7,
+            },
+            to: 50,
+        },
+    ),
+    (
+        b"ann reduce h0#0 0.0\n",
+        Command::Reduce {
+            name: OrderName { hour: 0, number: 0 },
+            to: 0,
+        },
+    ),
+    (
+        b"ann reduce h12#999999999 9999999.9\n",
+        Command::Reduce {
+            name: OrderName {
+                hour: 12,
+                number: 999999999,
+            },
+            to: 99999999,
+        },
+    ),
+    (b"ann blocks h1 h2\n", Command::Blocks { first: 1, last: 2 }),
+    (b"ann blocks h2 h1\n", Command::Blocks { first: 2, last: 1 }),
+    (
+        b"ann blocks h0 h99\n",
+        Command::Blocks { first: 0, last: 99 },
+    ),
+    (
+        b"ann request DE>FR h1q1 h1q4 1.0\n",
+        Command::Request {
+            from: 0,
+            to: 1,
+            first: Quarter { hour: 1, number: 1 },
+            last: Quarter { hour: 1, number: 4 },
+            lots: 10,
+        },
+    ),
+    (
+        b"ann request FR>DE h1q1 h1q1 0.1\n",
+        Command::Request {
+            from: 1,
+            to: 0,
+            first: Quarter { hour: 1, number: 1 },
+            last: Quarter { hour: 1, number: 1 },
+            lots: 1,
+        },
+    ),
+    (
+        b"ann request FR>AT h1q1 h1q2 1.0\n",
+        Command::Request {
+            from: 1,
+            to: 2,
+            first: Quarter { hour: 1, number: 1 },
+            last: Quarter { hour: 1, number: 2 },
+            lots: 10,
+        },
+    ),
+    (
+        b"ann request AT>CH h2q2 h1q1 0.1\n",
+        Command::Request {
+            from: 2,
+            to: 2,
+            first: Quarter { hour: 2, number: 2 },
+            last: Quarter { hour: 1, number: 1 },
+            lots: 1,
+        },
+    ),
+    (
+        b"ann view h12 buy DE\n",
+        Command::View {
+            contract: Contract {
+                hour: 12,
+                part: Part::Hour,
+            },
+            side: Side::Buy,
+            zone: 0,
+        },
+    ),
+    (
+        b"ann view h5f2 sell FR\n",
+        Command::View {
+            contract: Contract {
+                hour: 5,
+                part: Part::Half(2),
+            },
+            side: Side::Sell,
+            zone: 1,
+        },
+    ),
+    (
+        b"ann view h12q3 sell nowhere\n",
+        Command::View {
+            contract: Contract {
+                hour: 12,
+                part: Part::Quarter(3),
+            },
+            side: Side::Sell,
+            zone: 2,
+        },
+    ),
+    (
+        b"ann gate h12 local\n",
+        Command::Gate {
+            hour: 12,
+            phase: Phase::Local,
+        },
+    ),
+];
+
+// Lines of an operator, with their commands.
+const OPERATOR_LINES: [(&[u8], Command); 16] = [
+    (
+        b"tso offer DE>FR h1q1 h24q4 100.0\n",
+        Command::Offer {
+            from: 0,
+            to: 1,
+            first: Quarter { hour: 1, number: 1 },
+            last: Quarter {
+                hour: 24,
+                number: 4,
+            },
+            lots: 1000,
+        },
+    ),
+    (
+        b"tso offer DE>FR h1q1 h24q4 0.1\n",
+        Command::Offer {
+            from: 0,
+            to: 1,
+            first: Quarter { hour: 1, number: 1 },
+            last: Quarter {
+                hour: 24,
+                number: 4,
+            },
+            lots: 1,
+        },
+    ),
+    (
+        b"tso offer FR>DE h1q0 h1q9 0.0\n",
+        Command::Offer {
+            from: 1,
+            to: 0,
+            first: Quarter { hour: 1, number: 0 },
+            last: Quarter { hour: 1, number: 9 },
+            lots: 0,
+        },
+    ),
+    (
+        b"tso halt DE>FR h1 h24\n",
+        Command::Halt {
+            from: 0,
+            to: 1,
+            first: 1,
+            last: 24,
+        },
+    ),
+    (
+        b"tso halt FR>DE h3 h4\n",
+        Command::Halt {
+            from: 1,
+            to: 0,
+            first: 3,
+            last: 4,
+        },
+    ),
+    (
+        b"tso halt x>y h0 h99\n",
+        Command::Halt {
+            from: 2,
+            to: 2,
+            first: 0,
+            last: 99,
+        },
+    ),
+    (
+        b"tso resume DE>FR h1 h24\n",
+        Command::Resume {
+            from: 0,
+            to: 1,
+            first: 1,
+            last: 24,
+        },
+    ),
+    (
+        b"tso resume FR>DE h3 h4\n",
+        Command::Resume {
+            from: 1,
+            to: 0,
+            first: 3,
+            last: 4,
+        },
+    ),
+    (
+        b"tso resume AT>DE h2 h1\n",
+        Command::Resume {
+            from: 2,
+            to: 0,
+            first: 2,
+            last: 1,
+        },
+    ),
+    (
+        b"tso gate h12 open\n",
+        Command::Gate {
+            hour: 12,
+            phase: Phase::Open,
+        },
+    ),
+    (
+        b"tso gate h12 local\n",
+        Command::Gate {
+            hour: 12,
+            phase: Phase::Local,
+        },
+    ),
+    (
+        b"tso gate h12 closed\n",
+        Command::Gate {
+            hour: 12,
+            phase: Phase::Closed,
+        },
+    ),
+    (
+        b"tso gate h05 local\n",
+        Command::Gate {
+            hour: 5,
+            phase: Phase::Local,
+        },
+    ),
+    (
+        b"tso gate h0 closed\n",
+        Command::Gate {
+            hour: 0,
+            phase: Phase::Closed,
+        },
+    ),
+    (
+        b"tso gate h99 open\n",
+        Command::Gate {
+            hour: 99,
+            phase: Phase::Open,
+        },
+    ),
+    (
+        b"tso cancel h1#2\n",
+        Command::Cancel {
+            name: OrderName { hour: 1, number: 2 },
+        },
+    ),
+];
+
+// Clock lines, with the gates for which they stand, in their order: the first and the last of some
+// hours, and the phase to which they come.
+const CLOCKS: [(&[u8], &[(u32, u32, Phase)]); 10] = [
+    (b"tso clock 2025-06-16T21:00:00Z\n", &[(1, 1, Phase::Local)]),
+    (
+        b"tso clock 2025-06-16T21:55:00Z\n",
+        &[(1, 1, Phase::Closed)],
+    ),
+    (
+        b"tso clock 2025-06-16T22:00:00Z\n",
+        &[(1, 1, Phase::Closed), (2, 2, Phase::Local)],
+    ),
+    (
+        b"tso clock 2025-06-17T10:00:00Z\n",
+        &[(1, 13, Phase::Closed), (14, 14, Phase::Local)],
+    ),
+    (
+        b"tso clock 2025-06-17T10:55:00Z\n",
+        &[(1, 14, Phase::Closed)],
+    ),
+    (
+        b"tso clock 2099-12-31T23:59:59Z\n",
+        &[(1, 24, Phase::Closed)],
+    ),
+    (
+        b"tso clock 2025-06-16T21:00:00Z\ntso clock 2025-06-16T22:00:00Z\n",
+        &[
+            (1, 1, Phase::Local),
+            (1, 1, Phase::Closed),
+            (2, 2, Phase::Local),
+        ],
+    ),
+    (
+        b"tso clock 2025-06-16T22:00:00Z\ntso clock 2025-06-16T21:00:00Z\n",
+        &[(1, 1, Phase::Closed), (2, 2, Phase::Local)],
+    ),
+    (
+        b"tso clock 2025-06-16T21:55:00Z\ntso clock 2025-06-16T20:00:00Z\ntso clock 2025-06-16T21:00:00Z\n",
+        &[(1, 1, Phase::Closed), (1, 1, Phase::Local)],
+    ),
+    (
+        b"tso clock 2025-06-16T21:00:00Z\ntso gate h1 closed\ntso clock 2025-06-16T21:55:00Z\n",
+        &[
+            (1, 1, Phase::Local),
+            (1, 1, Phase::Closed),
+            (1, 1, Phase::Closed),
+        ],
+    ),
+];
+
 #[test]
 fn lines_of_each_verb_are_read(rt: HostRuntime) -> Result<(), Fail> {
     for line in READ_LINES {
@@ -156,81 +666,95 @@ fn lines_that_break_the_form_of_their_verb_are_bad(rt: HostRuntime) -> Result<()
 }
 
 #[test]
-fn a_line_of_an_order_or_an_hour_stands_for_its_command(rt: HostRuntime) -> Result<(), Fail> {
-    let name = OrderName {
-        hour: 12,
-        number: 7,
-    };
-    let gate = Command::Gate {
-        hour: 5,
-        phase: Phase::Local,
-    };
-    let view = Command::View {
-        contract: Contract {
-            hour: 5,
-            part: Part::Half(2),
-        },
-        side: Side::Sell,
-        zone: 1,
-    };
-    for (line, command) in [
-        (b"cancel h12#07".as_slice(), Command::Cancel { name }),
-        (b"reduce h12#7 5.0", Command::Reduce { name, to: 50 }),
-        (b"blocks h1 h2", Command::Blocks { first: 1, last: 2 }),
-        (b"gate h5 local", gate),
-        (b"view h5f2 sell FR", view),
-    ] {
-        assert_eq!(rt; command_of(&rt, line)?, Some(command), "{line:?}");
+fn orders_of_each_kind_are_read(rt: HostRuntime) -> Result<(), Fail> {
+    for (line, side, kind) in KINDS {
+        let order = Order {
+            contract: Contract {
+                hour: 12,
+                part: Part::Hour,
+            },
+            zone: 0,
+            side,
+            price: Price(1000),
+            quantity: Lots(10),
+            kind,
+        };
+        check_trader(&rt, line, Command::Enter { order })?;
     }
     Ok(())
 }
 
 #[test]
-fn a_line_of_capacity_stands_for_its_command(rt: HostRuntime) -> Result<(), Fail> {
-    let quarter = |hour, number| Quarter { hour, number };
-    let offer = Command::Offer {
-        from: 0,
-        to: 1,
-        first: quarter(1, 1),
-        last: quarter(24, 4),
-        lots: 1,
-    };
-    let request = Command::Request {
-        from: 1,
-        to: 2,
-        first: quarter(1, 1),
-        last: quarter(1, 2),
-        lots: 10,
-    };
-    for (line, command) in [
-        (b"offer DE>FR h1q1 h24q4 0.1".as_slice(), offer),
-        (b"request FR>AT h1q1 h1q2 1.0", request),
-    ] {
-        assert_eq!(rt; command_of(&rt, line)?, Some(command), "{line:?}");
+fn lines_of_a_trader_stand_for_their_commands(rt: HostRuntime) -> Result<(), Fail> {
+    for (line, command) in TRADER_LINES {
+        check_trader(&rt, line, command)?;
     }
     Ok(())
 }
 
 #[test]
-fn a_line_of_a_border_stands_for_its_command(rt: HostRuntime) -> Result<(), Fail> {
-    let halt = Command::Halt {
-        from: 1,
-        to: 0,
-        first: 3,
-        last: 4,
-    };
-    let resume = Command::Resume {
-        from: 1,
-        to: 0,
-        first: 3,
-        last: 4,
-    };
-    for (line, command) in [
-        (b"halt FR>DE h3 h4".as_slice(), halt),
-        (b"resume FR>DE h3 h4", resume),
-    ] {
-        assert_eq!(rt; command_of(&rt, line)?, Some(command), "{line:?}");
+fn lines_of_an_operator_stand_for_their_commands(rt: HostRuntime) -> Result<(), Fail> {
+    for (line, command) in OPERATOR_LINES {
+        check_operator(&rt, line, command)?;
     }
+    Ok(())
+}
+
+#[test]
+fn baskets_are_read(rt: HostRuntime) -> Result<(), Fail> {
+    for (line, items) in BASKETS {
+        let mut orders = Orders::new(rt.alloc());
+        for (side, hour, part, zone) in items {
+            orders.push(Order {
+                contract: Contract {
+                    hour: *hour,
+                    part: *part,
+                },
+                zone: *zone,
+                side: *side,
+                price: Price(1000),
+                quantity: Lots(10),
+                kind: Kind::Fok,
+            })?;
+        }
+        check_trader(&rt, line, Command::EnterBasket { orders })?;
+    }
+    Ok(())
+}
+
+#[test]
+fn clock_lines_stand_for_gates(rt: HostRuntime) -> Result<(), Fail> {
+    for (lines, phases) in CLOCKS {
+        let mut gates = Commands::new(rt.alloc());
+        let mut turns = Vec::new(rt.alloc());
+        for (first, last, phase) in phases {
+            for hour in *first..=*last {
+                gates.push(Command::Gate {
+                    hour,
+                    phase: *phase,
+                })?;
+                turns.push(1)?;
+            }
+        }
+        check_commands(&rt, lines, turns.as_slice(), &[], gates.as_slice())?;
+    }
+    Ok(())
+}
+
+#[test]
+fn each_caller_has_a_clock_of_its_own(rt: HostRuntime) -> Result<(), Fail> {
+    let gate = |hour, phase| Command::Gate { hour, phase };
+    check_commands(
+        &rt,
+        b"ann clock 2025-06-16T22:00:00Z\ntso clock 2025-06-16T21:00:00Z\nann clock 2025-06-16T22:55:00Z\n",
+        &[0, 0, 1, 0],
+        &[
+            gate(1, Phase::Closed),
+            gate(2, Phase::Local),
+            gate(2, Phase::Closed),
+        ],
+        &[gate(1, Phase::Local)],
+    )?;
     Ok(())
 }
 

@@ -2,13 +2,13 @@
 //! those that are bad.
 
 use super::*;
-use crate::tests::{HEADER, bad_line_of_two, limit, read_after_header};
+use crate::tests::{HEADER, bad_line_of_two, check_trader, limit, read_after_header};
 use market_model::{Part, Side};
 use std::test::Fail;
 
 // Lines of plain limit orders: the side, the hour, the part of the hour, the zone, the lots and the
 // cents.
-const ORDERS: [(&[u8], Side, u32, Part, u32, u32, i32); 40] = [
+const ORDERS: [(&[u8], Side, u32, Part, u32, u32, i32); 48] = [
     (
         b"ann buy h12 DE 10.0 50.00\n",
         Side::Buy,
@@ -369,11 +369,83 @@ const ORDERS: [(&[u8], Side, u32, Part, u32, u32, i32); 40] = [
         10,
         -999999999,
     ),
+    (
+        b"ann sell h0 FR 0.0 0.00\n",
+        Side::Sell,
+        0,
+        Part::Hour,
+        1,
+        0,
+        0,
+    ),
+    (
+        b"ann sell h99 AT 9999999.9 9999999.99\n",
+        Side::Sell,
+        99,
+        Part::Hour,
+        2,
+        99999999,
+        999999999,
+    ),
+    (
+        b"ann buy h01 ann 0.1 -0.01\n",
+        Side::Buy,
+        1,
+        Part::Hour,
+        2,
+        1,
+        -1,
+    ),
+    (
+        b"ann buy h1q3 DE 999.1 -9999999.99\n",
+        Side::Buy,
+        1,
+        Part::Quarter(3),
+        0,
+        9991,
+        -999999999,
+    ),
+    (
+        b"ann buy h12q0 DE 1.0 0.10\n",
+        Side::Buy,
+        12,
+        Part::Quarter(0),
+        0,
+        10,
+        10,
+    ),
+    (
+        b"ann buy h12q9 DE 1.0 1.05\n",
+        Side::Buy,
+        12,
+        Part::Quarter(9),
+        0,
+        10,
+        105,
+    ),
+    (
+        b"ann buy h12f2 FR 1.0 1.00\n",
+        Side::Buy,
+        12,
+        Part::Half(2),
+        1,
+        10,
+        100,
+    ),
+    (
+        b"# a comment\n\nann buy h12f0 FR 1.0 1.00\n\n#\n",
+        Side::Buy,
+        12,
+        Part::Half(0),
+        1,
+        10,
+        100,
+    ),
 ];
 
 // Lines that stand for no command: comments, and clock lines at which no hour has come to a later
 // phase.
-const NO_COMMANDS: [&[u8]; 10] = [
+const NO_COMMANDS: [&[u8]; 11] = [
     b"\n",
     b"#\n",
     b"# ann buy h1 DE 1.0 1.00\n",
@@ -384,6 +456,7 @@ const NO_COMMANDS: [&[u8]; 10] = [
     b"tso clock 2025-06-16T20:59:59Z\n",
     b"tso clock 2025-06-16T20:59:59Z\ntso clock 2025-06-16T20:59:58Z\n",
     b"ann clock 2025-01-01T00:00:00Z\ntso clock 2025-06-15T12:30:45Z\n",
+    b"tso clock 2025-06-16T10:00:00Z\n",
 ];
 
 // Whole headers of every form.
@@ -405,7 +478,7 @@ const HEADERS: [&[u8]; 14] = [
 ];
 
 // Lines of commands that are not of their form, after a whole header.
-const BAD_LINES: [&[u8]; 46] = [
+const BAD_LINES: [&[u8]; 70] = [
     b"ann\n",
     b"ann \n",
     b"bob buy h12 DE 1.0 10.00\n",
@@ -452,6 +525,30 @@ const BAD_LINES: [&[u8]; 46] = [
     b"ann buy h12 DE 1.0 -\n",
     b"ann buy h12 DE 1.0 -01.00\n",
     b"ann buy h12 DE 1.0 12345678.00\n",
+    b"ann enter h12 DE 1.0 10.00\n",
+    b"ann buy h12 DE 1.0 10.00 Ioc\n",
+    b"ann buy h12 DE 1.0 10.00 ioc fok\n",
+    b"ann buy h12 DE 1.0 10.00 iceberg\n",
+    b"ann buy h12 DE 1.0 10.00 iceberg 1.0\n",
+    b"ann buy h12 DE 1.0 10.00 iceberg 1.0 -0.01\n",
+    b"ann buy h12 DE 1.0 10.00 iceberg 1.0 0.01 fok\n",
+    b"ann buyblock h1 DE 1.0 10.00\n",
+    b"ann sellblock h1q1 h2 DE 1.0 10.00\n",
+    b"ann sellblock h1 h2 DE 1.0 10.00 fok\n",
+    b"ann basket\n",
+    b"ann basket buy h1 DE 1.0\n",
+    b"ann basket buy h1 DE 1.0 10.00 fok\n",
+    b"ann cancel h12\n",
+    b"ann cancel h12#1234567890\n",
+    b"ann reduce h12#7\n",
+    b"ann blocks h1\n",
+    b"tso offer DE h1q1 h24q4 1.0\n",
+    b"ann request DE>FR h1 h2 1.0\n",
+    b"tso halt DE>FR h1\n",
+    b"tso resume DE>FR h1q1 h1q4\n",
+    b"tso gate h12 shut\n",
+    b"tso gate h12q1 closed\n",
+    b"ann view h12 DE buy\n",
 ];
 
 // Clock lines that are not of their form, after a whole header.
@@ -467,42 +564,11 @@ const BAD_CLOCKS: [&[u8]; 9] = [
     b"ann clock 2100-01-01T00:00:00Z\n",
 ];
 
-// Lines of commands that are not played yet, after a whole header.
-const NOT_PLAYED: [&[u8]; 19] = [
-    b"ann buy h12 DE 1.0 10.00 ioc\n",
-    b"ann sell h12 DE 1.0 10.00 fok\n",
-    b"ann buy h12 DE 1.0 10.00 iceberg 0.1 0.05\n",
-    b"ann buyblock h1 h2 DE 1.0 10.00\n",
-    b"ann sellblock h1 h2 DE 1.0 10.00\n",
-    b"ann basket buy h1 DE 1.0 10.00\n",
-    b"ann cancel h12#1\n",
-    b"ann reduce h12#1 0.5\n",
-    b"ann blocks h1 h2\n",
-    b"tso offer DE>FR h1q1 h24q4 100.0\n",
-    b"ann request DE>FR h1q1 h1q4 1.0\n",
-    b"tso halt DE>FR h1 h24\n",
-    b"tso resume DE>FR h1 h24\n",
-    b"tso gate h12 local\n",
-    b"tso gate h12 closed\n",
-    b"ann view h12 buy DE\n",
-    b"tso clock 2025-06-16T21:00:00Z\n",
-    b"tso clock 2025-06-17T10:00:00Z\n",
-    b"ann clock 2099-12-31T23:59:59Z\n",
-];
-
 #[test]
 fn lines_of_orders_stand_for_them(rt: HostRuntime) -> Result<(), Fail> {
     for (line, side, hour, part, zone, lots, cents) in ORDERS {
-        let session = read_after_header(&rt, line)?;
-        let command = limit(side, hour, part, zone, lots, cents);
-        assert_eq!(rt; session.turns.as_slice(), [0].as_slice());
-        assert_eq!(rt; session.commands.len(), 2);
-        assert_eq!(rt;
-            session.commands.as_slice()[0].as_slice(),
-            [command].as_slice(),
-            "{line:?}"
-        );
-        assert_eq!(rt; session.commands.as_slice()[1].len(), 0);
+        let order = limit(side, hour, part, zone, lots, cents);
+        check_trader(&rt, line, order)?;
     }
     Ok(())
 }
@@ -530,14 +596,6 @@ fn lines_that_are_not_of_their_form_are_bad(rt: HostRuntime) -> Result<(), Fail>
         assert_eq!(rt; bad_line_of_two(&rt, HEADER, line)?, 8, "{line:?}");
     }
     for line in BAD_CLOCKS {
-        assert_eq!(rt; bad_line_of_two(&rt, HEADER, line)?, 8, "{line:?}");
-    }
-    Ok(())
-}
-
-#[test]
-fn lines_of_commands_that_are_not_played_yet_are_bad(rt: HostRuntime) -> Result<(), Fail> {
-    for line in NOT_PLAYED {
         assert_eq!(rt; bad_line_of_two(&rt, HEADER, line)?, 8, "{line:?}");
     }
     Ok(())

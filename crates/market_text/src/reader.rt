@@ -1,10 +1,7 @@
 //! What was read of a session text so far, and how commands are taken.
 
 ghost use Rattle.std.specs.Prelude.{◌≡◌, ◌<◌, ◌∷◌, ◌++◌, [], length, map, replicate, OnOk, IfOk, unwrap_or};
-ghost use Rattle.std.specs.List.{list_all};
 ghost use Rattle.market_text.specs.Fault.{Answers};
-ghost use Rattle.market_model.specs.Refusals.{is_limit};
-ghost use Rattle.market_text.specs.Played.{is_played};
 ghost use Rattle.market_text.specs.Reading.{IsReading};
 ghost use Rattle.market_text.specs.Steps as steps;
 
@@ -16,7 +13,7 @@ use crate::names::NameTable;
 use crate::session::Turns;
 use crate::words::{first_word, only_word};
 use contract_calendar::Day;
-use market_model::{Command, Commands, Kind, NoMemory, Pairs, Role, Sequence};
+use market_model::{Commands, NoMemory, Pairs, Role, Sequence};
 use market_spelling::{Verb, read_instant, read_verb};
 use std::alloc::Global;
 
@@ -167,9 +164,6 @@ impl Reader {
         if commands.len() > MOST_COMMANDS - self.turns.len() {
             return Err(LineFault::Bad);
         }
-        if !are_played(commands.as_slice()) {
-            return Err(LineFault::Bad);
-        }
         add_turns(&mut self.turns, caller as u32, commands.len())?;
         self.commands.give(caller, commands)?;
         Ok(self)
@@ -191,28 +185,4 @@ fn add_turns(turns: &mut Turns, caller: u32, count: usize) -> Result<(), NoMemor
         turns.push(caller)?;
     }
     Ok(())
-}
-
-// Whether the market that plays sessions knows each of these commands.
-fn are_played(commands: &[Command]) -> bool
-    ensures { result ≡ list_all is_played commands.now }
-{
-    commands.iter().all(|command| is_played(command))
-}
-
-// Whether the market that plays sessions knows a command: it knows plain limit orders alone.
-fn is_played(command: &Command) -> bool
-    ensures { result ≡ is_played command.now }
-{
-    match command {
-        Command::Enter { order } => is_limit(order.kind),
-        _ => false,
-    }
-}
-
-// Whether what is not traded at once stays in the order book.
-fn is_limit(kind: Kind) -> bool
-    ensures { result ≡ is_limit kind }
-{
-    matches!(kind, Kind::Limit)
 }

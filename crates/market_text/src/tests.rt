@@ -123,6 +123,42 @@ pub fn read_after_header<R: Abort + AllocGlobal>(
     }
 }
 
+// Checks that lines after the header stand for the commands of these turns, with these commands of
+// the trader and of the operator.
+pub fn check_commands<R: Abort + AllocGlobal>(
+    rt: &R,
+    lines: &[u8],
+    turns: &[u32],
+    trader: &[Command],
+    operator: &[Command],
+) -> Result<(), AllocError> {
+    let session = read_after_header(rt, lines)?;
+    assert_eq!(rt; session.turns.as_slice(), turns, "{lines:?}");
+    let commands = session.commands.as_slice();
+    assert_eq!(rt; commands.len(), 2);
+    assert_eq!(rt; commands[0].as_slice(), trader, "{lines:?}");
+    assert_eq!(rt; commands[1].as_slice(), operator, "{lines:?}");
+    Ok(())
+}
+
+// Checks that a line after the header stands for this command, of the trader alone.
+pub fn check_trader<R: Abort + AllocGlobal>(
+    rt: &R,
+    line: &[u8],
+    command: Command,
+) -> Result<(), AllocError> {
+    check_commands(rt, line, &[0], &[command], &[])
+}
+
+// Checks that a line after the header stands for this command, of the operator alone.
+pub fn check_operator<R: Abort + AllocGlobal>(
+    rt: &R,
+    line: &[u8],
+    command: Command,
+) -> Result<(), AllocError> {
+    check_commands(rt, line, &[1], &[], &[command])
+}
+
 // The entry of a plain limit order.
 pub fn limit(side: Side, hour: u32, part: Part, zone: u32, lots: u32, cents: i32) -> Command {
     Command::Enter {
@@ -253,6 +289,21 @@ fn there_are_at_most_262144_commands(rt: HostRuntime) -> Result<(), Fail> {
     assert_eq!(rt; bad_line(&rt, text.as_slice()), 0);
     text.extend_from_slice(b"#\ntso buy h1 DE 1.0 1.00\n#")?;
     assert_eq!(rt; bad_line(&rt, text.as_slice()), 262153);
+    Ok(())
+}
+
+#[test]
+fn each_gate_of_a_clock_line_counts_as_a_command(rt: HostRuntime) -> Result<(), Fail> {
+    let mut text = Vec::from_slice(rt.alloc(), HEADER)?;
+    let day = b"tso clock 2099-12-31T23:59:59Z\ntso clock 2000-01-01T00:00:00Z\n";
+    for _ in 0..10922u32 {
+        text.extend_from_slice(day)?;
+    }
+    text.extend_from_slice(b"tso clock 2025-06-17T10:00:00Z\ntso clock 2000-01-01T00:00:00Z\n")?;
+    let two_gates = b"tso clock 2025-06-16T22:00:00Z\n".as_slice();
+    let three_gates = b"tso clock 2025-06-16T23:00:00Z\n".as_slice();
+    assert_eq!(rt; bad_line_of_two(&rt, text.as_slice(), two_gates)?, 0);
+    assert_eq!(rt; bad_line_of_two(&rt, text.as_slice(), three_gates)?, 21854);
     Ok(())
 }
 

@@ -1,1 +1,3 @@
-pub mod Limit
+-- What the contracts of this crate cite.
+pub mod Borders
+pub mod LetIn

@@ -1,2 +1,5 @@
+pub mod Completion
+pub mod JournalTexts
+pub mod Journals
 pub mod Turns
 pub mod WritingLemmas

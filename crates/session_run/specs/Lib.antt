@@ -1,3 +1,4 @@
+pub mod Journal
 pub mod Reading
 pub mod Status
 pub mod Words

@@ -1,8 +1,11 @@
 //! A run, from the words of the command line to the written journal.
 
-ghost use Rattle.std.specs.Prelude.{◌≡◌, ◌≢◌, ◌≤◌, ◌↔◌, IsTrue, None, false};
+ghost use Rattle.std.specs.Prelude.{◌≡◌, ◌≢◌, ◌≤◌, ◌↔◌, ◌⊎◌, ℕ, List, IsTrue, Ok, Some, None, false, length};
 ghost use Rattle.outside.specs.Faults.{Rose};
-ghost use Rattle.session_run.specs.Reading.{Reads};
+ghost use Rattle.session_run.specs.Journal.{Outcome};
+ghost use Rattle.market_text.specs.Text.{session_of_text};
+ghost use Rattle.market_text.specs.declared.session.Session.{Session};
+ghost use Rattle.session_run.specs.Reading.{Reads, longest_session};
 ghost use Rattle.session_run.specs.Status.{writes_nothing};
 ghost use Rattle.session_run.specs.Words.{task_of as task_named, is_trade as trades};
 
@@ -34,6 +37,8 @@ pub fn run<R: Threads + Wait + Sync, S: Source, K: Sink, G: Gate>(
     ensures usage { (result ≡ Status.Usage) ↔ (task_named words.now ≡ None) }
     ensures unread { result ≡ Status.Usage → source.new ≡ source.old }
     ensures unwritten { IsTrue (writes_nothing result) → sink.new ≡ sink.old }
+    ensures outcome { (bytes : List ℕ) → S.left source.old ≡ Some bytes → Outcome bytes result (K.written sink.old) (K.written sink.new) }
+    ensures complete { (bytes : List ℕ) (session : Session) → task_named words.now ≢ None → S.left source.old ≡ Some bytes → session_of_text bytes ≡ Ok session → length bytes ≤ longest_session → ¬ Rose (S.faults source.old) (S.faults source.new) → ¬ Rose (K.faults sink.old) (K.faults sink.new) → (result ≡ Status.Done) ⊎ (result ≡ Status.NoMemory) }
     ensures reads { task_named words.now ≢ None → result ≢ Status.NoMemory → Reads (S.left source.old) (S.left source.new) result }
     ensures read_count { S.faults source.old ≤ S.faults source.new }
     ensures read_fault { result ≡ Status.ReadFault → Rose (S.faults source.old) (S.faults source.new) }
@@ -57,6 +62,8 @@ pub fn run_alone<S: Source, K: Sink>(
     ensures usage { (result ≡ Status.Usage) ↔ (task_named words.now ≡ None) }
     ensures unread { result ≡ Status.Usage → source.new ≡ source.old }
     ensures unwritten { IsTrue (writes_nothing result) → sink.new ≡ sink.old }
+    ensures outcome { (bytes : List ℕ) → S.left source.old ≡ Some bytes → Outcome bytes result (K.written sink.old) (K.written sink.new) }
+    ensures complete { (bytes : List ℕ) (session : Session) → task_named words.now ≢ None → S.left source.old ≡ Some bytes → session_of_text bytes ≡ Ok session → length bytes ≤ longest_session → ¬ Rose (S.faults source.old) (S.faults source.new) → ¬ Rose (K.faults sink.old) (K.faults sink.new) → (result ≡ Status.Done) ⊎ (result ≡ Status.NoMemory) }
     ensures reads { task_named words.now ≢ None → result ≢ Status.NoMemory → Reads (S.left source.old) (S.left source.new) result }
     ensures read_count { S.faults source.old ≤ S.faults source.new }
     ensures read_fault { result ≡ Status.ReadFault → Rose (S.faults source.old) (S.faults source.new) }
@@ -73,6 +80,7 @@ pub fn run_alone<S: Source, K: Sink>(
 fn replay<S: Source, K: Sink>(alloc: Global, source: &mut S, sink: &mut K) -> Status
     ensures usage { result ≢ Status.Usage }
     ensures unwritten { IsTrue (writes_nothing result) → sink.new ≡ sink.old }
+    ensures outcome { (bytes : List ℕ) → S.left source.old ≡ Some bytes → Outcome bytes result (K.written sink.old) (K.written sink.new) }
     ensures reads { result ≢ Status.NoMemory → Reads (S.left source.old) (S.left source.new) result }
     ensures read_count { S.faults source.old ≤ S.faults source.new }
     ensures read_fault { result ≡ Status.ReadFault → Rose (S.faults source.old) (S.faults source.new) }

@@ -17,6 +17,20 @@ const SALE: &[u8] =
 const JOURNAL: &[u8] =
     b"{\"caller\":\"ann\",\"command\":1,\"done\":[[\"entered\",\"h12#1\",\"h12\"]],\"entry\":1}\n{\"caller\":\"bob\",\"command\":1,\"done\":[[\"entered\",\"h12#2\",\"h12\"],[\"leg\",\"h12#2\",\"h12#1\",\"4.0\",\"50.00\",[]]],\"entry\":2}\n";
 
+// A leg that opens the border the other way, and the sweep after it.
+const SWEEP: &[u8] =
+    b"day 2025-06-17\nzone DE\nzone FR\nborder DE FR\ntrader ann\ntrader bob\ntrader cat\noperator tso\nbegin\ntso offer DE>FR h12q1 h12q4 5.0\nann sell h12q1 FR 5.0 40.00\nbob buy h12q1 DE 5.0 45.00\ncat sell h12 DE 5.0 50.00\nann buy h12 FR 5.0 50.00\n";
+
+// Its journal.
+const SWEEP_JOURNAL: &[u8] =
+    b"{\"caller\":\"tso\",\"command\":1,\"done\":[[\"offered\",\"DE>FR\",\"h12q1\",\"h12q4\",\"5.0\"]],\"entry\":1}\n{\"caller\":\"ann\",\"command\":1,\"done\":[[\"entered\",\"h12#1\",\"h12q1\"]],\"entry\":2}\n{\"caller\":\"bob\",\"command\":1,\"done\":[[\"entered\",\"h12#2\",\"h12q1\"]],\"entry\":3}\n{\"caller\":\"cat\",\"command\":1,\"done\":[[\"entered\",\"h12#3\",\"h12\"]],\"entry\":4}\n{\"caller\":\"ann\",\"command\":2,\"done\":[[\"entered\",\"h12#4\",\"h12\"],[\"leg\",\"h12#4\",\"h12#3\",\"5.0\",\"50.00\",[\"DE>FR\"]],[\"leg\",\"h12#2\",\"h12#1\",\"5.0\",\"40.00\",[\"FR>DE\"]]],\"entry\":5}\n";
+
+// How much of it is written before each write of at most 16 bytes of what is left of a line.
+const BEFORE_EACH_WRITE: [usize; 32] = [
+    0, 16, 32, 48, 64, 80, 90, 106, 122, 138, 154, 166, 182, 198, 214, 230, 242, 258, 274, 290,
+    306, 316, 332, 348, 364, 380, 396, 412, 428, 444, 460, 476,
+];
+
 // The one word `replay`.
 fn replay_word(alloc: Global) -> Result<Sequence<Word>, NoMemory>
     ensures { IfOk result (λ words. is_trade words ≡ false) }
@@ -110,6 +124,32 @@ fn a_failed_write_leaves_what_went_before(rt: HostRuntime) -> Result<(), Fail> {
     let status = run_alone(rt.alloc(), words.as_slice(), &mut source, &mut sink);
     assert_eq!(rt; status, Status::WriteFault);
     assert_eq!(rt; sink.bytes(), &JOURNAL[..20]);
+    Ok(())
+}
+
+#[test]
+fn each_failed_read_leaves_nothing_written(rt: HostRuntime) -> Result<(), Fail> {
+    let words = replay_word(rt.alloc())?;
+    for fails in 1..=5 {
+        let mut source = BytesSource::new(rt.alloc(), SWEEP, 64, &[fails])?;
+        let mut sink = BytesSink::new(rt.alloc(), 16, &[])?;
+        let status = run_alone(rt.alloc(), words.as_slice(), &mut source, &mut sink);
+        assert_eq!(rt; status, Status::ReadFault, "read {fails}");
+        assert_eq!(rt; sink.bytes(), b"".as_slice());
+    }
+    Ok(())
+}
+
+#[test]
+fn each_failed_write_leaves_the_pieces_before_it(rt: HostRuntime) -> Result<(), Fail> {
+    let words = replay_word(rt.alloc())?;
+    for (place, end) in BEFORE_EACH_WRITE.iter().enumerate() {
+        let mut source = SteadySource::new(rt.alloc(), SWEEP)?;
+        let mut sink = BytesSink::new(rt.alloc(), 16, &[place as u64 + 1])?;
+        let status = run_alone(rt.alloc(), words.as_slice(), &mut source, &mut sink);
+        assert_eq!(rt; status, Status::WriteFault, "write {place}");
+        assert_eq!(rt; Some(sink.bytes()), SWEEP_JOURNAL.get(..*end));
+    }
     Ok(())
 }
 

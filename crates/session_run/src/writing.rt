@@ -4,6 +4,7 @@ ghost use Rattle.std.specs.Prelude.{◌≡◌, ◌≤◌, ℕ, List, All, OnOk, 
 ghost use Rattle.std.specs.Io.KnownBytes.{Appends};
 ghost use Rattle.outside.specs.Faults.{Rose};
 ghost use Rattle.market_model.specs.Naming.{IsEntryIn, IsNamed};
+ghost use Rattle.session_run.specs.Journal.{journal_text};
 ghost use Rattle.session_run.specs.Writing.{Wrote};
 
 use journal_print::print_entry;
@@ -53,6 +54,8 @@ pub fn write_journal<K: Sink>(
     requires named { IsNamed setup.now }
     requires within { All (IsEntryIn setup.now) entries.now }
     ensures count { K.faults sink.old ≤ K.faults sink.new }
+    ensures ok { OnOk result (Appends (K.written sink.old) (K.written sink.new) (journal_text setup.now entries.now)) }
+    ensures front { OnErr result ((rest : List ℕ) × Wrote (K.written sink.old) (K.written sink.new) (journal_text setup.now entries.now) rest) }
     ensures fault { result ≡ Err WriteError.Fault → Rose (K.faults sink.old) (K.faults sink.new) }
 {
     for (index, entry) in entries.iter().enumerate() {

@@ -1,7 +1,7 @@
 -- Which steps the lines of commands make.
 use Rattle.std.proofs.Common.{◌≡◌, ℕ, ℤ, ◌+◌, ◌≤◌, ◌&&◌, nat_le, Bool, true, false, cond, List, [], ◌∷◌, ◌++◌, length, map, replicate, refl, sym, ap, ◌∙◌, arith, Option, Some, None}
 use Rattle.std.specs.Prelude.{slice_set, unwrap_or}
-use Rattle.std.specs.List.{AllPairs, list_all}
+use Rattle.std.specs.List.{AllPairs}
 use Rattle.std.proofs.lemmas.Bool.Decides.{nat_tests}
 use Rattle.std.proofs.lemmas.List.{get_or-map}
 use Rattle.contract_calendar.specs.Day.{DeliveryDay}
@@ -16,10 +16,9 @@ use Rattle.market_text.specs.Clocks.{gates_of, last_clock}
 use Rattle.market_text.specs.CommandLines.{only_word, command_of}
 use Rattle.market_text.specs.Commands.{commands_of, with_commands}
 use Rattle.market_text.specs.Names.{place_of}
-use Rattle.market_text.specs.Played.{is_played}
 use Rattle.market_text.specs.Steps.{words_step, header_step, command_step, clock_step, is_clock, take_commands}
 use Rattle.market_text.proofs.StepLemmas.{command_is, clock_is, entry_is, entry_taken}
-use Rattle.text_grammar.specs.Contents.{CommandLine, IsCommandLine, command_line, caller_names, caller_number, is_clock_line, is_line_of, clock_of, last_clock_of, gates_of_words, entry_of_words, commands_of_line, only_played, all_commands, given_by, turns_of}
+use Rattle.text_grammar.specs.Contents.{CommandLine, IsCommandLine, command_line, caller_names, caller_number, is_clock_line, is_line_of, clock_of, last_clock_of, gates_of_words, entry_of_words, commands_of_line, all_commands, given_by, turns_of}
 use Rattle.text_grammar.proofs.Drafts.{Draft, reader_of, day_of_draft, given_more, given_same, last_more, last_same, turns_more, count_turns}
 use Rattle.text_grammar.proofs.Places.{place_of_declared, other_fails, same_passes, one_changed, name_at_place}
 use Rattle.text_grammar.proofs.Runs.{first_step}
@@ -30,20 +29,12 @@ pub after_begin : (reader : Reader) (row : List (List ℕ)) → reader.has_begun
 after_begin reader row begun = ap (λ b. cond b (command_step reader row) (header_step reader row)) begun
 
 -- commands that are taken
-take_step : (reader : Reader) (caller : ℕ) (commands : List Command) → length reader.turns + length commands ≤ 262144 → list_all is_played commands ≡ true
+take_step : (reader : Reader) (caller : ℕ) (commands : List Command) → length reader.turns + length commands ≤ 262144
     → take_commands reader caller commands ≡ Some (record reader { commands = with_commands reader.commands caller commands; turns = reader.turns ++ replicate (length commands) caller })
 unfolding take_commands
-take_step reader caller commands few played =
+take_step reader caller commands few =
     let room : nat_le (length reader.turns + length commands) 262144 ≡ true = grind (arith, nat_tests) in
-    rw (room, played) refl
-
--- commands that are all played
-pub played_are : (commands others : List Command) → only_played commands ≡ Some others → (list_all is_played commands ≡ true) × (commands ≡ others)
-played_are commands others is = by (list_all is_played commands) refl is
-  where
-    by : (b : Bool) → list_all is_played commands ≡ b → cond b (Some commands) None ≡ Some others → (list_all is_played commands ≡ true) × (commands ≡ others)
-    by true e some = (e, cc)
-    by false e none = absurd cc
+    rw room refl
 
 -- the line of a clock
 pub record IsClock (day : DeliveryDay) (last : Option ℤ) (words : List (List ℕ)) (commands : List Command) : Type 0 where
@@ -52,7 +43,6 @@ pub record IsClock (day : DeliveryDay) (last : Option ℤ) (words : List (List �
   pub instant : ℤ
   pub read : instant_of word ≡ Some instant
   pub gates : gates_of day last instant ≡ commands
-  pub played : list_all is_played commands ≡ true
 
 -- the line of one command
 pub record IsEntry (zones : List (List ℕ)) (verb_word : List ℕ) (words : List (List ℕ)) (commands : List Command) : Type 0 where
@@ -61,7 +51,6 @@ pub record IsEntry (zones : List (List ℕ)) (verb_word : List ℕ) (words : Lis
   pub command : Command
   pub is_command : command_of verb zones words ≡ Some command
   pub one : command ∷ [] ≡ commands
-  pub played : list_all is_played commands ≡ true
 
 -- what the commands of a clock line come from
 clock_parts : (day : DeliveryDay) (zones : List (List ℕ)) (before : List CommandLine) (line : CommandLine) (commands : List Command)
@@ -69,16 +58,14 @@ clock_parts : (day : DeliveryDay) (zones : List (List ℕ)) (before : List Comma
     → IsClock day (last_clock_of line.caller before) line.words commands
 unfolding commands_of_line gates_of_words
 clock_parts day zones before line commands clock is =
-    let gates = first_step (gates_of_words day (last_clock_of line.caller before) line.words) only_played commands
-    (ap (λ b. cond b (gates_of_words day (last_clock_of line.caller before) line.words) (entry_of_words zones line.verb line.words) >>= only_played) (sym clock) ∙ is) in
-    let word = first_step (only_word line.words) (λ word. instant_of word >>= λ instant. Some (gates_of day (last_clock_of line.caller before) instant)) gates.0 gates.1 in
-    let instant = first_step (instant_of word.0) (λ instant. Some (gates_of day (last_clock_of line.caller before) instant)) gates.0 word.2 in
-    let played = played_are gates.0 commands gates.2 in
-    let all : gates_of day (last_clock_of line.caller before) instant.0 ≡ commands = same (gates_of day (last_clock_of line.caller before) instant.0) gates.0 commands instant.2 played.1 in
-    record { word = word.0; only = word.1; instant = instant.0; read = instant.1; gates = all; played = ap (list_all is_played) (sym played.1) ∙ played.0 }
+    let gates : gates_of_words day (last_clock_of line.caller before) line.words ≡ Some commands =
+    ap (λ b. cond b (gates_of_words day (last_clock_of line.caller before) line.words) (entry_of_words zones line.verb line.words)) (sym clock) ∙ is in
+    let word = first_step (only_word line.words) (λ word. instant_of word >>= λ instant. Some (gates_of day (last_clock_of line.caller before) instant)) commands gates in
+    let instant = first_step (instant_of word.0) (λ instant. Some (gates_of day (last_clock_of line.caller before) instant)) commands word.2 in
+    record { word = word.0; only = word.1; instant = instant.0; read = instant.1; gates = same (gates_of day (last_clock_of line.caller before) instant.0) commands instant.2 }
   where
-    same : (one other third : List Command) → Some one ≡ Some other → other ≡ third → one ≡ third
-    same one other third first second = cc
+    same : (one other : List Command) → Some one ≡ Some other → one ≡ other
+    same one other is = cc
 
 -- what the command of another line comes from
 entry_parts : (day : DeliveryDay) (zones : List (List ℕ)) (before : List CommandLine) (line : CommandLine) (commands : List Command)
@@ -86,16 +73,14 @@ entry_parts : (day : DeliveryDay) (zones : List (List ℕ)) (before : List Comma
     → IsEntry zones line.verb line.words commands
 unfolding commands_of_line entry_of_words
 entry_parts day zones before line commands clock is =
-    let entry = first_step (entry_of_words zones line.verb line.words) only_played commands
-    (ap (λ b. cond b (gates_of_words day (last_clock_of line.caller before) line.words) (entry_of_words zones line.verb line.words) >>= only_played) (sym clock) ∙ is) in
-    let verb = first_step (verb_of line.verb) (λ verb. command_of verb zones line.words >>= λ command. Some (command ∷ [])) entry.0 entry.1 in
-    let command = first_step (command_of verb.0 zones line.words) (λ command. Some (command ∷ [])) entry.0 verb.2 in
-    let played = played_are entry.0 commands entry.2 in
-    let all : command.0 ∷ [] ≡ commands = same (command.0 ∷ []) entry.0 commands command.2 played.1 in
-    record { verb = verb.0; is_verb = verb.1; command = command.0; is_command = command.1; one = all; played = ap (list_all is_played) (sym played.1) ∙ played.0 }
+    let entry : entry_of_words zones line.verb line.words ≡ Some commands =
+    ap (λ b. cond b (gates_of_words day (last_clock_of line.caller before) line.words) (entry_of_words zones line.verb line.words)) (sym clock) ∙ is in
+    let verb = first_step (verb_of line.verb) (λ verb. command_of verb zones line.words >>= λ command. Some (command ∷ [])) commands entry in
+    let command = first_step (command_of verb.0 zones line.words) (λ command. Some (command ∷ [])) commands verb.2 in
+    record { verb = verb.0; is_verb = verb.1; command = command.0; is_command = command.1; one = same (command.0 ∷ []) commands command.2 }
   where
-    same : (one other third : List Command) → Some one ≡ Some other → other ≡ third → one ≡ third
-    same one other third first second = cc
+    same : (one other : List Command) → Some one ≡ Some other → one ≡ other
+    same one other is = cc
 
 -- the step of a clock line
 clock_taken : (caller : ℕ) (reader : Reader) (day : DeliveryDay) (last : Option ℤ) (words : List (List ℕ)) (commands : List Command)
@@ -113,7 +98,7 @@ clock_taken caller reader day last words commands is is_day is_last few =
     ∙ ap (λ o. o >>= λ instant. taken day instant) is.read
     ∙ ap (λ last. take_commands clocked caller (gates_of day last is.instant)) is_last
     ∙ ap (take_commands clocked caller) is.gates
-    ∙ take_step clocked caller commands few is.played
+    ∙ take_step clocked caller commands few
   where
     taken : DeliveryDay → ℤ → Option Reader
     taken day instant = take_commands (record reader { clocks = slice_set reader.clocks caller (Some instant) }) caller (gates_of day (last_clock reader.clocks caller) instant)
@@ -216,5 +201,5 @@ command_taken draft day line begun is_day differ is few =
         (first_found line.caller (line.verb ∷ line.words)) (first_found line.verb line.words) place.1 parts.is_verb
         ∙ entry_is reader line.words place.0 parts.verb other
         ∙ entry_taken parts.verb place.0 reader line.words parts.command line.commands parts.is_command (sym parts.one)
-        ∙ take_step reader place.0 line.commands room parts.played
+        ∙ take_step reader place.0 line.commands room
         ∙ (λ i. Some (record reader { clocks = clocks i; commands = commands i; turns = turns i }))

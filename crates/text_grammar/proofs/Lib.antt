@@ -2,6 +2,7 @@ pub mod CommandSteps
 pub mod Complete
 pub mod Drafts
 pub mod Going
+pub mod Grids
 pub mod HeaderSteps
 pub mod LinesRead
 pub mod Places

@@ -1,6 +1,6 @@
 -- What a line is that is taken.
 use Rattle.std.proofs.Common.{◌≡◌, ℕ, ℤ, ◌+◌, ◌<◌, ◌≤◌, ◌==◌, ◌&&◌, nat_lt, nat_le, not, Bool, true, false, List, [], ◌∷◌, length, refl, arith, Option, Some, None, is_none, is_some}
-use Rattle.std.specs.List.{list_any, list_all}
+use Rattle.std.specs.List.{list_any}
 use Rattle.std.proofs.lemmas.Bool.{eqb-true}
 use Rattle.std.proofs.lemmas.Bool.Decides.{nat_tests}
 use Rattle.contract_calendar.specs.Day.{DeliveryDay}
@@ -14,7 +14,6 @@ use Rattle.market_text.specs.declared.reader.Reader.{Reader}
 use Rattle.market_text.specs.Clocks.{gates_of, last_clock}
 use Rattle.market_text.specs.CommandLines.{first_word, only_word, command_of}
 use Rattle.market_text.specs.Names.{place_of, joins_zones}
-use Rattle.market_text.specs.Played.{is_played}
 use Rattle.market_text.specs.Steps.{header_step, command_step, entry_step, clock_step, take_commands, take_day, take_zone, take_border, take_caller, take_begin, may_add_zone, may_add_caller, may_join, new_ends, day_of_word}
 
 -- nothing is no value
@@ -237,15 +236,13 @@ command_read reader row read is = by (first_word row) refl
 
 -- commands that are taken
 pub take_read : (reader : Reader) (caller : ℕ) (commands : List Command) (read : Reader) → take_commands reader caller commands ≡ Some read
-    → (length reader.turns + length commands ≤ 262144) × (list_all is_played commands ≡ true)
+    → length reader.turns + length commands ≤ 262144
 unfolding take_commands
-take_read reader caller commands read is = by (nat_le (length reader.turns + length commands) 262144) (list_all is_played commands) refl refl
+take_read reader caller commands read is = by (nat_le (length reader.turns + length commands) 262144) refl
   where
-    by : (a b : Bool) → nat_le (length reader.turns + length commands) 262144 ≡ a → list_all is_played commands ≡ b
-        → (length reader.turns + length commands ≤ 262144) × (list_all is_played commands ≡ true)
-    by true true room played = (grind (arith, nat_tests), played)
-    by true false room played = let h = rw (room, played) at is in absurd (clash read h)
-    by false b room played = let h = rw room at is in absurd (clash read h)
+    by : (b : Bool) → nat_le (length reader.turns + length commands) 262144 ≡ b → length reader.turns + length commands ≤ 262144
+    by true room = grind (arith, nat_tests)
+    by false room = let h = rw room at is in absurd (clash read h)
 
 -- the one command of a line
 pub record EntryRead (verb : Verb) (caller : ℕ) (reader : Reader) (words : List (List ℕ)) (read : Reader) : Type 0 where
@@ -271,7 +268,6 @@ pub record ClockRead (caller : ℕ) (reader : Reader) (words : List (List ℕ)) 
   pub instant : ℤ
   pub is : instant_of word ≡ Some instant
   pub few : length reader.turns + length (gates_of day (last_clock reader.clocks caller) instant) ≤ 262144
-  pub played : list_all is_played (gates_of day (last_clock reader.clocks caller) instant) ≡ true
 
 pub clock_read : (caller : ℕ) (reader : Reader) (words : List (List ℕ)) (read : Reader) → clock_step caller reader words ≡ Some read
     → ClockRead caller reader words
@@ -282,8 +278,8 @@ clock_read caller reader words read is = by (only_word words) refl
         → (o : Option ℤ) → instant_of word ≡ o → ClockRead caller reader words
     by_instant word only day is_day None none = let h = rw (only, is_day, none) at is in absurd (clash read h)
     by_instant word only day is_day (Some instant) some =
-        let taken = take_read _ caller (gates_of day (last_clock reader.clocks caller) instant) read (rw (only, is_day, some) at is) in
-        record { word = word; only = only; day = day; is_day = is_day; instant = instant; is = some; few = taken.0; played = taken.1 }
+        let few = take_read _ caller (gates_of day (last_clock reader.clocks caller) instant) read (rw (only, is_day, some) at is) in
+        record { word = word; only = only; day = day; is_day = is_day; instant = instant; is = some; few = few }
 
     by_day : (word : List ℕ) → only_word words ≡ Some word → (o : Option DeliveryDay) → reader.day ≡ o → ClockRead caller reader words
     by_day word only None none = let h = rw (only, none) at is in absurd (clash read h)

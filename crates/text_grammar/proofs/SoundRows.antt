@@ -20,7 +20,7 @@ use Rattle.market_text.specs.Clocks.{gates_of, last_clock}
 use Rattle.market_text.specs.Steps.{words_step, day_of_word, verb_step, clock_step, entry_step, is_clock, session_of, callers_of, caller_at}
 use Rattle.market_text.proofs.ReadingLemmas.{finished}
 use Rattle.market_text.proofs.StepLemmas.{command_is, clock_is, entry_is}
-use Rattle.text_grammar.specs.Contents.{CallerLine, CommandLine, Contents, IsAllowed, IsCommandLine, command_line, caller_names, last_clock_of, gates_of_words, entry_of_words, commands_of_line, only_played, all_commands, given_by, caller_of_line, lines_of_contents, session_of_contents, zone_line, border_line, caller_line}
+use Rattle.text_grammar.specs.Contents.{CallerLine, CommandLine, Contents, IsAllowed, IsCommandLine, command_line, caller_names, last_clock_of, gates_of_words, entry_of_words, commands_of_line, all_commands, given_by, caller_of_line, lines_of_contents, session_of_contents, zone_line, border_line, caller_line}
 use Rattle.text_grammar.proofs.CommandSteps.{after_begin, command_taken}
 use Rattle.text_grammar.proofs.Drafts.{Draft, IsDraft, reader_of, rows_of, start_rows, begin_rows, day_of_draft, all_more, count_turns}
 use Rattle.text_grammar.proofs.LinesRead.{command_read, clock_read, entry_read, take_read}
@@ -111,9 +111,8 @@ clock_next draft read name word words caller is begun place clock whole step =
     ∙ ap (λ o. o >>= λ instant. Some (gates_of k.day (last_clock_of name draft.commands) instant)) k.is
     ∙ ap (λ last. Some (gates_of k.day last k.instant)) (sym last) in
     let stands : commands_of_line k.day draft.zones draft.commands line ≡ Some gates =
-    ap (λ b. cond b (gates_of_words k.day (last_clock_of name draft.commands) words) (entry_of_words draft.zones word words) >>= only_played) clock
-    ∙ ap (λ o. o >>= only_played) by_words
-    ∙ ap (λ b. cond b (Some gates) None) k.played in
+    ap (λ b. cond b (gates_of_words k.day (last_clock_of name draft.commands) words) (entry_of_words draft.zones word words)) clock
+    ∙ by_words in
     next_command draft k.day line read is begun k.is_day (record { declared = declared_at_place (caller_names draft.callers) name caller place; stands_for = stands }) few whole
 
 -- the line of one command comes next
@@ -125,17 +124,16 @@ entry_next : (draft : Draft) (day : DeliveryDay) (read : Reader) (name word : Li
 unfolding commands_of_line entry_of_words
 entry_next draft day read name word words caller verb is begun is_day place is_verb clock whole step =
     let e = entry_read verb caller (reader_of draft) words read step in
-    let taken = take_read (reader_of draft) caller (e.command ∷ []) read e.taken in
+    let room = take_read (reader_of draft) caller (e.command ∷ []) read e.taken in
     let line : CommandLine = record { caller = name; verb = word; words = words; commands = e.command ∷ [] } in
     let count = count_turns (caller_names draft.callers) draft.commands in
-    let few : length (all_commands draft.commands) + length (e.command ∷ []) ≤ 262144 = let h = taken.0 in omega arith in
+    let few : length (all_commands draft.commands) + length (e.command ∷ []) ≤ 262144 = omega arith in
     let by_words : entry_of_words draft.zones word words ≡ Some (e.command ∷ []) =
     ap (λ o. o >>= λ verb. command_of verb draft.zones words >>= λ command. Some (command ∷ [])) is_verb
     ∙ ap (λ o. o >>= λ command. Some (command ∷ [])) e.is in
     let stands : commands_of_line day draft.zones draft.commands line ≡ Some (e.command ∷ []) =
-    ap (λ b. cond b (gates_of_words day (last_clock_of name draft.commands) words) (entry_of_words draft.zones word words) >>= only_played) clock
-    ∙ ap (λ o. o >>= only_played) by_words
-    ∙ ap (λ b. cond b (Some (e.command ∷ [])) None) taken.1 in
+    ap (λ b. cond b (gates_of_words day (last_clock_of name draft.commands) words) (entry_of_words draft.zones word words)) clock
+    ∙ by_words in
     next_command draft day line read is begun is_day (record { declared = declared_at_place (caller_names draft.callers) name caller place; stands_for = stands }) few whole
 
 -- the day is there once `begin` was read

@@ -1,6 +1,6 @@
 -- What the lines of a session text say, which rules they keep, and for which session they stand.
 use Rattle.std.specs.Prelude.{◌≡◌, ℕ, ◌<◌, ◌≤◌, ◌++◌, Bool, ◌&&◌, List, [], ◌∷◌, length, take, map, replicate, get_or, codes, nat_eq, ◌⊎◌, ℤ, Option, Some, None, unwrap_or, if◌then◌else◌}
-use Rattle.std.specs.List.{All, AllPairs, Contains, filter, filter_map, flat_map, fold, list_all}
+use Rattle.std.specs.List.{All, AllPairs, Contains, filter, filter_map, flat_map, fold}
 use Rattle.std.specs.Cmp.Lexicographic.{pointwise}
 use Rattle.zone_graph.specs.Name.{IsName}
 use Rattle.contract_calendar.specs.Day.{DeliveryDay}
@@ -15,7 +15,6 @@ use Rattle.market_text.specs.declared.session.Session.{Session}
 use Rattle.market_text.specs.Clocks.{gates_of}
 use Rattle.market_text.specs.CommandLines.{only_word, command_of}
 use Rattle.market_text.specs.Names.{place_of, zone_number}
-use Rattle.market_text.specs.Played.{is_played}
 use Rattle.market_text.specs.Steps.{day_of_word}
 
 -- the line of a caller: what it may do, and its name
@@ -117,16 +116,11 @@ entry_of_words zones verb_word words = do
   command ← command_of verb zones words
   Some (command ∷ [])
 
--- the commands that the market that plays sessions knows, all of them
-abbrev pub only_played : List Command → Option (List Command)
-only_played commands = if list_all is_played commands then Some commands else None
-
 -- the commands for which a line stands after the lines before it
 unfoldable pub commands_of_line : DeliveryDay → (zones : List (List ℕ)) → (before : List CommandLine) → CommandLine → Option (List Command)
 commands_of_line day zones before line =
-    (if is_clock_line line then gates_of_words day (last_clock_of line.caller before) line.words
-    else entry_of_words zones line.verb line.words)
-    >>= only_played
+    if is_clock_line line then gates_of_words day (last_clock_of line.caller before) line.words
+    else entry_of_words zones line.verb line.words
 
 -- all commands, in the order of the lines
 abbrev pub all_commands : List CommandLine → List Command

@@ -1,5 +1,9 @@
--- What is read is what the grammar has, and the line that is reported is the first bad one.
-use Rattle.std.specs.Prelude.{◌≡◌, ℕ, List, Result, Ok, Err}
+-- What is read is what the grammar has, and makes a grid; and the line that is reported is the first
+-- bad one.
+use Rattle.std.specs.Prelude.{◌≡◌, ℕ, List, Result, Ok, Err, None}
+use Rattle.zone_graph.specs.Grid.{JoinsZones}
+use Rattle.zone_graph.specs.GridFault.{grid_fault}
+use Rattle.market_model.specs.Grid.{graph_of}
 use Rattle.market_text.specs.declared.fault.TextFault.{TextFault}
 use Rattle.market_text.specs.declared.fault.TextFault.TheVariants as fault
 use Rattle.market_text.specs.declared.session.Session.{Session}
@@ -32,3 +36,8 @@ IsAnswerByGrammar bytes (Err fault.NoMemory) = Unit {0}
 -- every answer to a text is one by the grammar
 abbrev pub AnswersAreByGrammar : Type 0
 AnswersAreByGrammar = (bytes : List ℕ) (result : Result Session TextFault) → IsAnswer (session_of_text bytes) result → IsAnswerByGrammar bytes result
+
+-- the zones and borders of a session that is read make a grid
+abbrev pub SessionsMakeGrids : Type 0
+SessionsMakeGrids = (bytes : List ℕ) (session : Session) → session_of_text bytes ≡ Ok session
+    → JoinsZones (graph_of session.setup) × (grid_fault (graph_of session.setup) ≡ None)

@@ -1,7 +1,7 @@
-//! What is read is what the grammar has.
+//! What is read is what the grammar has, and makes a grid.
 
 ghost use Rattle.text_grammar.specs.Laws.{AcceptedIsInGrammar, AnswersAreByGrammar, FirstBadIsReported};
-ghost use Rattle.text_grammar.specs.Laws.{GrammarIsAccepted, ReportedIsFirstBad};
+ghost use Rattle.text_grammar.specs.Laws.{GrammarIsAccepted, ReportedIsFirstBad, SessionsMakeGrids};
 
 /// A text of which a session is read is a text of that session, by the grammar.
 pub fn accepted_is_in_grammar()
@@ -28,4 +28,10 @@ pub fn first_bad_is_reported()
 /// line, unless memory is wanting.
 pub fn answers_are_by_grammar()
     ensures { AnswersAreByGrammar }
+{}
+
+/// The zones and borders of a session that is read make a grid: each border joins zones of the
+/// session, and the graph has none of the faults for which a grid is refused.
+pub fn sessions_make_grids()
+    ensures { SessionsMakeGrids }
 {}

@@ -1,4 +1,4 @@
-use Rattle.std.proofs.Common.{◌≡◌, ◌∙◌, ap, sym, arith, None}
+use Rattle.std.proofs.Common.{◌∙◌, ap, sym, arith}
 use Rattle.market_text.specs.declared.reader.Reader.{Reader}
 use Rattle.market_text.specs.Text.{text_from, lines_of, line_step, session_of_text}
 use Rattle.market_text.proofs.TextLemmas.{answer_at, line_taken, line_refused}

@@ -1,4 +1,4 @@
-use Rattle.std.proofs.Common.{◌∙◌, sym, rules}
+use Rattle.std.proofs.Common.{◌∙◌, sym}
 use Rattle.market_text.proofs.Answering.{carried}
 use Rattle.market_text.proofs.StepLemmas.{command_is, clock_is, entry_is}
 use Rattle.market_text.proofs.reader.Reader.read_command.Goals as goal

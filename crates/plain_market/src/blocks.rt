@@ -1,0 +1,62 @@
+//! Blocks.
+
+ghost use Rattle.std.specs.Prelude.{◌≡◌, ◌-◌, ◌^◌, ◌<◌, ◌++◌, ◌||◌, Ok, Some, None, IfOk, OnErr};
+ghost use Rattle.market_model.specs.declared.refusal.Refusal.{Refusal as TheRefusal};
+ghost use Rattle.market_model.specs.Blocks as market;
+ghost use Rattle.market_model.specs.History.{entered_count};
+ghost use Rattle.market_model.specs.Refusals.{block_desk_refusal, has_desk_room as has_room};
+ghost use Rattle.market_model.specs.Sweep.{all_parts};
+ghost use Rattle.plain_blocks.specs.Entering.{CanEnterBlock};
+ghost use Rattle.plain_matching.specs.Grown.{Grew};
+ghost use Rattle.plain_orders.specs.Histories.{IsSomeHistory};
+
+use market_model::{BlockOrder, Event, Events, NoMemory, OrderName, Refusal};
+use plain_blocks::take_block;
+use plain_matching::{cut_back, sweeps};
+use plain_orders::{has_desk_room, next_name};
+use std::alloc::Global;
+use zone_graph::Grid;
+
+/// Enters a block, unless it finds no partner and has no room on the desk of its first hour: its
+/// entry, the legs with its partner and the sweeps of its hours go to the end of the events. It answers
+/// why the block is refused; the events are then as they were.
+///
+/// # Errors
+///
+/// [`NoMemory`], where there is no memory for the events or for what they are made from: some of them
+/// may then stand behind those before.
+pub(crate) fn enter_block(
+    alloc: Global,
+    grid: &Grid,
+    events: &mut Events,
+    caller: u32,
+    order: &BlockOrder,
+) -> Result<Option<Refusal>, NoMemory>
+    requires can { CanEnterBlock grid.now events.old caller order.now }
+    requires few { entered_count events.old < 2 ^ 32 - 1 }
+    ensures refusal { IfOk result (λ refusal. refusal ≡ block_desk_refusal grid.now events.old caller order.now) }
+    ensures done { result ≡ Ok None → events.new ≡ events.old ++ market.enter_block all_parts grid.now caller order.now events.old }
+    ensures kept { (refusal : TheRefusal) → result ≡ Ok (Some refusal) → events.new ≡ events.old }
+    ensures err { OnErr result (Grew events.old events.new) }
+{
+    let zones = grid.zones();
+    prove!(zones <= 64);
+    let before = events.len();
+    let name = next_name(events.as_slice(), order.first);
+    let found = take_block(alloc, grid, events, caller, order)?;
+    if may_stay(alloc, events.as_slice(), name, found)? {
+        sweeps(alloc, grid, events, order.first, order.last)?;
+        Ok(None)
+    } else {
+        cut_back(events, before);
+        Ok(Some(Refusal::DeskFull))
+    }
+}
+
+// Whether a block may stay: it found a partner, or it has room on the desk.
+fn may_stay(alloc: Global, events: &[Event], name: OrderName, found: bool) -> Result<bool, NoMemory>
+    requires history { IsSomeHistory events.now }
+    ensures { IfOk result (λ may. may ≡ (found || has_room events.now name)) }
+{
+    Ok(found || has_desk_room(alloc, events, name)?)
+}

@@ -1,0 +1,137 @@
+//! What commands other than entries bring about.
+
+ghost use Rattle.std.specs.Prelude.{◌≡◌, ◌-◌, ◌≤◌, ◌++◌, ℕ, None, OnOk, OnErr};
+ghost use Rattle.order_kinds.specs.Period.{hours_from};
+ghost use Rattle.market_model.specs.declared.event.Event.TheVariants as event;
+ghost use Rattle.market_model.specs.Blocks as blocks;
+ghost use Rattle.market_model.specs.Grid.{graph_of};
+ghost use Rattle.market_model.specs.History.{and_then};
+ghost use Rattle.market_model.specs.Market as market;
+ghost use Rattle.market_model.specs.Orders as orders;
+ghost use Rattle.market_model.specs.Sweep.{all_parts};
+ghost use Rattle.market_model.specs.WellFormed.{IsHistory};
+ghost use Rattle.plain_capacity.specs.Hour.{IsLegalOver};
+ghost use Rattle.plain_blocks.specs.Entering.{IsHistoryOver};
+ghost use Rattle.plain_market.specs.Borders as borders;
+ghost use Rattle.plain_market.specs.LetIn.{IsNoEntry};
+ghost use Rattle.plain_matching.specs.Grown.{Grew};
+ghost use Rattle.plain_orders.specs.Histories.{IsSomeHistory};
+
+use crate::border_events::{BorderEvent, border_event};
+use crate::gates::move_hour;
+use market_model::{Command, Event, Events, NoMemory, OrderName, Setup};
+use plain_blocks::match_deals;
+use plain_matching::sweeps;
+use plain_orders::left;
+use std::alloc::Global;
+use zone_graph::Grid;
+
+/// Carries out a command that no rule refuses and that enters nothing: what it brings about goes to
+/// the end of the events.
+///
+/// # Errors
+///
+/// [`NoMemory`], where there is no memory for the events or for what they are made from: some of them
+/// may then stand behind those before.
+pub(crate) fn change(
+    alloc: Global,
+    grid: &Grid,
+    setup: &Setup,
+    events: &mut Events,
+    command: &Command,
+) -> Result<(), NoMemory>
+    requires grid { grid.now ≡ graph_of setup.now }
+    requires history { IsHistory setup.now events.old }
+    requires after { (caller : ℕ) → IsHistory setup.now (events.old ++ market.events_done all_parts setup.now events.old caller command.now) }
+    requires no_entry { IsNoEntry command.now }
+    ensures ok { (caller : ℕ) → OnOk result (events.new ≡ events.old ++ market.events_done all_parts setup.now events.old caller command.now) }
+    ensures err { OnErr result (Grew events.old events.new) }
+{
+    match border_event(grid, command) {
+        Some(happening) => then_sweeps(alloc, grid, events, happening),
+        None => change_others(alloc, grid, setup, events, command),
+    }
+}
+
+// Lets an event happen, and sweeps the hours of which it is.
+fn then_sweeps(
+    alloc: Global,
+    grid: &Grid,
+    events: &mut Events,
+    happening: BorderEvent,
+) -> Result<(), NoMemory>
+    requires legal { IsLegalOver grid.now (and_then events.old happening.event) }
+    ensures ok { OnOk result (events.new ≡ events.old ++ market.then_sweeps all_parts grid.now (hours_from happening.first happening.last) events.old happening.event) }
+    ensures err { OnErr result (Grew events.old events.new) }
+{
+    events.push(happening.event)?;
+    sweeps(alloc, grid, events, happening.first, happening.last)
+}
+
+// The same for commands that make no event on a border.
+fn change_others(
+    alloc: Global,
+    grid: &Grid,
+    setup: &Setup,
+    events: &mut Events,
+    command: &Command,
+) -> Result<(), NoMemory>
+    requires grid { grid.now ≡ graph_of setup.now }
+    requires history { IsHistory setup.now events.old }
+    requires after { (caller : ℕ) → IsHistory setup.now (events.old ++ market.events_done all_parts setup.now events.old caller command.now) }
+    requires no_entry { IsNoEntry command.now }
+    requires no_border { borders.border_event grid.now command.now ≡ None }
+    ensures ok { (caller : ℕ) → OnOk result (events.new ≡ events.old ++ market.events_done all_parts setup.now events.old caller command.now) }
+    ensures err { OnErr result (Grew events.old events.new) }
+{
+    match command {
+        Command::Cancel { name } => withdraw(events, *name),
+        Command::Reduce { name, to } => reduce(events, *name, *to),
+        Command::Blocks { first, last } => match_blocks(alloc, grid, events, *first, *last),
+        Command::Gate { hour, phase } => move_hour(alloc, grid, events, *hour, *phase),
+        _ => Ok(()),
+    }
+}
+
+// Matches the resting blocks of a period, and sweeps its hours.
+fn match_blocks(
+    alloc: Global,
+    grid: &Grid,
+    events: &mut Events,
+    first: u32,
+    last: u32,
+) -> Result<(), NoMemory>
+    requires history { IsHistoryOver grid.now events.old }
+    ensures ok { OnOk result (events.new ≡ events.old ++ blocks.match_blocks all_parts grid.now first last events.old) }
+    ensures err { OnErr result (Grew events.old events.new) }
+{
+    let zones = grid.zones();
+    prove!(zones <= 64);
+    match_deals(alloc, grid, events, first, last)?;
+    sweeps(alloc, grid, events, first, last)
+}
+
+// Withdraws all that is left of an order or block.
+#[tactic(auto, using(crate::proofs::Growing::stays))]
+fn withdraw(events: &mut Events, name: OrderName) -> Result<(), NoMemory>
+    requires history { IsSomeHistory events.old }
+    ensures ok { OnOk result (events.new ≡ and_then events.old (event.Withdrawn name (orders.left events.old name))) }
+    ensures err { OnErr result (Grew events.old events.new) }
+{
+    let lots = left(events.as_slice(), name);
+    events.push(Event::Withdrawn { name, lots })?;
+    Ok(())
+}
+
+// Takes off an order all but some lots.
+#[tactic(auto, using(crate::proofs::Growing::stays))]
+fn reduce(events: &mut Events, name: OrderName, to: u32) -> Result<(), NoMemory>
+    requires history { IsSomeHistory events.old }
+    requires less { to ≤ orders.left events.old name }
+    ensures ok { OnOk result (events.new ≡ and_then events.old (event.Reduced name (orders.left events.old name - to))) }
+    ensures err { OnErr result (Grew events.old events.new) }
+{
+    let by = left(events.as_slice(), name) - to;
+    events.push(Event::Reduced { name, by })?;
+    Ok(())
+}
