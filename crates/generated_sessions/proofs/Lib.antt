@@ -1,0 +1,6 @@
+mod Words
+mod Spaced
+mod Commands
+mod Drawn
+mod Read
+pub mod Sessions

@@ -1,0 +1,2 @@
+-- What the law of generated texts says.
+pub mod Laws
