@@ -10,7 +10,7 @@ ghost use Rattle.plain_orders.specs.Histories.{IsSomeHistory};
 
 use market_model::{Duplicate, Event, Events, NoMemory, Phase};
 use plain_matching::sweep;
-use plain_orders::{left, open_names};
+use plain_orders::withdrawals;
 use std::alloc::Global;
 use zone_graph::Grid;
 
@@ -59,13 +59,8 @@ fn gate_events(alloc: Global, events: &[Event], hour: u32, phase: Phase) -> Resu
     let mut made = Events::new(alloc);
     made.push(Event::Gated { hour, phase })?;
     if phase == Phase::Closed {
-        let names = open_names(alloc, events, hour)?;
-        for name in names.as_slice() {
-            made.push(Event::Withdrawn {
-                name: *name,
-                lots: left(events, *name),
-            })?;
-        }
+        let withdrawn = withdrawals(alloc, events, hour)?;
+        append(&mut made, withdrawn.as_slice())?;
     }
     Ok(made)
 }

@@ -37,7 +37,7 @@ pub block_priority_weak : (side : Side) → IsStrictWeakOrder (λ (a b : Standin
 block_priority_weak side = ranks_by (block_priority_total side) (λ (s : StandingBlock). s)
 
 -- a filter of what comes from items
-filter-map : {X Y : Type 0} (p : Y → Bool) (f : X → Y) (xs : List X) → filter p (map f xs) ≡ map f (filter (λ x. p (f x)) xs)
+pub filter-map : {X Y : Type 0} (p : Y → Bool) (f : X → Y) (xs : List X) → filter p (map f xs) ≡ map f (filter (λ x. p (f x)) xs)
 filter-map p f [] = refl
 filter-map {X} {Y} p f (x ∷ xs) = go (p (f x)) (filter-map p f xs)
   where

@@ -76,6 +76,12 @@ filtered-same pick p front before e y split is fails =
     ap (λ es. filter p (filter_map pick es)) split ∙ ap (filter p) (picked-more pick before e y is) ∙ filter-append p (filter_map pick before) (y ∷ [])
     ∙ ap (λ b. filter p (filter_map pick before) ++ cond b (y ∷ []) []) fails ∙ append-nil (filter p (filter_map pick before))
 
+-- what comes from the names that pass
+pub filtered-listed-more : {Y Z : Type 0} (pick : Event → Option Y) (p : Y → Bool) (f : Y → Z) (front before : List Event) (e : Event) (y : Y) → front ≡ and_then before e
+    → pick e ≡ Some y → p y ≡ true → map f (filter p (filter_map pick front)) ≡ map f (filter p (filter_map pick before)) ++ f y ∷ []
+filtered-listed-more pick p f front before e y split is passes =
+    ap (map f) (filtered-more pick p front before e y split is passes) ∙ map_push f (filter p (filter_map pick before)) y
+
 pub orders-listed : (events : List Event) (hour : ℕ) → map (standing events) (filter_map (order_given hour) events) ≡ orders_of events hour
 orders-listed events hour = ap (map (standing events)) (kept-filter placed_by (is_order_of hour) events)
 
@@ -186,6 +192,7 @@ name-enters hour name (event.Reduced given by) is = absurd (cc)
 
 pub record NameAt (events : List Event) (hour : ℕ) (name : OrderName) : Type 0 where
   pub has_place : (size : ℕ) → entered_in events hour < size → name.number < size
+  pub left_is : (tally : Tally) → Tells events (name_in hour name.number) tally → tally.left ≡ left events name
   pub opens : (tally : Tally) → Tells events (name_in hour name.number) tally → 0 < tally.left → is_open events name ≡ true
   pub closes : (tally : Tally) → Tells events (name_in hour name.number) tally → tally.left ≤ 0 → is_open events name ≡ false
 
@@ -196,6 +203,7 @@ name-at events place e hour name history within is given =
     let here = in-list events place e within is in
     record {
       has_place = λ size room. has-place history.setup events history.fit name hour size (times-some name e events here enters.0) enters.1 room;
+      left_is = λ tally tells. (subst (λ n. Tells events n tally) (same-name name hour enters.1) tells).left;
       opens = λ tally tells some. let told = subst (λ n. Tells events n tally) (same-name name hour enters.1) tells in
           let is_left = told.left in lt-ltb 0 (left events name) (omega (arith, is_left, some));
       closes = λ tally tells none. let told = subst (λ n. Tells events n tally) (same-name name hour enters.1) tells in

@@ -32,7 +32,8 @@ place-of z (y ∷ ys) h = elim h [
 ]
 
 module _ {X : Type 0} (cmp : X → X → Ordering) (o : IsStrictWeakOrder (λ (x y : X). is_lt (cmp x y))) where
-  abbrev lt : X → X → Bool
+  -- an item comes before another
+  abbrev pub lt : X → X → Bool
   lt x y = is_lt (cmp x y)
 
   itself : (x : X) → lt x x ≡ false
@@ -52,7 +53,8 @@ module _ {X : Type 0} (cmp : X → X → Ordering) (o : IsStrictWeakOrder (λ (x
   after : (x y z : X) → lt x y ≡ true → lt z y ≡ false → lt z x ≡ false
   after x y z before not_before = o.chain z y x not_before (o.one_way x y before)
 
-  before_too : (x y z : X) → lt x y ≡ true → lt z y ≡ false → lt x z ≡ true
+  -- what comes before an item comes before all that do not come before that one
+  pub before_too : (x y z : X) → lt x y ≡ true → lt z y ≡ false → lt x z ≡ true
   before_too x y z before not_before = go (lt x z) refl
     where
       go : (b : Bool) → lt x z ≡ b → b ≡ true
@@ -63,7 +65,7 @@ module _ {X : Type 0} (cmp : X → X → Ordering) (o : IsStrictWeakOrder (λ (x
   no-tie w x z tie less = by_absurd (ties lt w z) (λ h. true≢false (sym less ∙ o.chain x w z (from-tie w x tie).1 (from-tie w z h).0))
 
   -- no item comes before one that stands in front of it
-  abbrev Ascends : List X → Type 0
+  abbrev pub Ascends : List X → Type 0
   Ascends [] = Unit {0}
   Ascends (y ∷ ys) = ((z : X) → IsIn z ys → lt z y ≡ false) × Ascends ys
 
@@ -80,7 +82,7 @@ module _ {X : Type 0} (cmp : X → X → Ordering) (o : IsStrictWeakOrder (λ (x
   )
 
   -- an item put in order
-  ascends-put : (ys : List X) (x : X) → Ascends ys → Ascends (put_in_order cmp ys x)
+  pub ascends-put : (ys : List X) (x : X) → Ascends ys → Ascends (put_in_order cmp ys x)
   ascends-put [] x up = (λ z i. absurd i, tt)
   ascends-put (y ∷ ys) x up = go (ascends-put ys x up.1) (lt x y) refl
     where

@@ -1,14 +1,16 @@
 //! The orders and blocks of an hour.
 
 ghost use Rattle.std.specs.Prelude.{◌≡◌, IfOk};
+ghost use Rattle.market_model.specs.Market as market;
 ghost use Rattle.market_model.specs.Orders as orders;
+ghost use Rattle.order_kinds.specs.declared.phase.Phase.TheVariants as phase;
 ghost use Rattle.plain_orders.specs.Histories.{IsSomeHistory};
 ghost use Rattle.plain_orders.specs.Listed as listed;
 
 use crate::placed::{PlacedBlock, PlacedOrder};
 use crate::standing::{StandingBlock, StandingOrder};
 use crate::tally::tallies_of;
-use market_model::{Event, NoMemory, OrderName};
+use market_model::{Event, Events, NoMemory, OrderName};
 use std::alloc::Global;
 
 /// All orders that are named by an hour, open or not, in order of entry, as they stand.
@@ -84,6 +86,32 @@ pub fn open_names(alloc: Global, events: &[Event], hour: u32) -> Result<Vec<Orde
         }
     }
     Ok(names)
+}
+
+/// What withdrawing all open orders and blocks that are named by an hour brings about, in order of
+/// entry: of each what is left of it.
+///
+/// # Errors
+///
+/// [`NoMemory`], where there is no memory for the sums of the hour or for the events.
+pub fn withdrawals(alloc: Global, events: &[Event], hour: u32) -> Result<Events, NoMemory>
+    requires history { IsSomeHistory events.now }
+    ensures { IfOk result (λ made. made ≡ market.withdrawals events.now hour phase.Closed) }
+{
+    let tallies = tallies_of(alloc, events, hour)?;
+    let mut made = Events::new(alloc);
+    for event in events {
+        match name_given(event, hour) {
+            Some(name) => {
+                let lots = tallies[name.number as usize].left;
+                if lots > 0 {
+                    made.push(Event::Withdrawn { name, lots })?;
+                }
+            }
+            None => {}
+        }
+    }
+    Ok(made)
 }
 
 // The order that an event enters, if it is named by an hour.

@@ -195,6 +195,31 @@ fn blocks_stand_until_they_are_withdrawn(rt: HostRuntime) -> Result<(), Fail> {
     Ok(())
 }
 
+// Of an open order what is left of it is withdrawn, and of one that is not nothing.
+#[test]
+fn what_is_left_is_withdrawn(rt: HostRuntime) -> Result<(), Fail> {
+    let events = session(rt.alloc())?;
+    let made = withdrawals(rt.alloc(), events.as_slice(), 12)?;
+    let expected = [
+        Event::Withdrawn {
+            name: FIRST,
+            lots: 70,
+        },
+        Event::Withdrawn {
+            name: SECOND,
+            lots: 40,
+        },
+        Event::Withdrawn {
+            name: FIFTH,
+            lots: 40,
+        },
+    ];
+    assert_eq!(rt; made.as_slice(), expected.as_slice());
+    let others = withdrawals(rt.alloc(), events.as_slice(), 13)?;
+    assert_eq!(rt; others.len(), 0);
+    Ok(())
+}
+
 #[test]
 fn orders_are_found_by_their_names(rt: HostRuntime) -> Result<(), Fail> {
     let events = session(rt.alloc())?;
