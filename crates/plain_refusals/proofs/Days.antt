@@ -1,21 +1,15 @@
 -- What the tests' day keeps.
-use Rattle.std.proofs.Common.{◌≡◌, ℕ, true, [], ◌∷◌, length, Option, Some, None, pos, ◌≤ℤ◌, refl, arith}
+use Rattle.std.proofs.Common.{◌≡◌, true, [], ◌∷◌, length, pos, ◌≤ℤ◌, refl, arith}
 use Rattle.std.proofs.lemmas.Int.{ints}
 use Rattle.order_kinds.specs.declared.contract.Part.TheVariants as part
 use Rattle.order_kinds.specs.declared.order.Kind.TheVariants as kind
 use Rattle.order_kinds.specs.declared.phase.Phase.TheVariants as phase
 use Rattle.order_kinds.specs.declared.side.Side.TheVariants.{Sell}
 use Rattle.zone_graph.specs.Graph.{Graph, HasZone}
-use Rattle.market_model.specs.declared.command.Command.{Command}
 use Rattle.market_model.specs.declared.event.Event.TheVariants as event
-use Rattle.market_model.specs.declared.refusal.Refusal.{Refusal}
 use Rattle.market_model.specs.declared.setup.Role.TheVariants as role
 use Rattle.market_model.specs.declared.setup.Setup.{Setup}
-use Rattle.market_model.specs.Grid.{graph_of}
-use Rattle.market_model.specs.Rules.{early_refusal, naming_refusal}
-use Rattle.market_model.specs.Sweep.{or_else}
 use Rattle.plain_capacity.specs.Hour.{IsLegalOver}
-use Rattle.plain_refusals.specs.State.{IsNamedIn}
 
 -- a day of 24 hours over a graph, with an operator and a trader
 day_of : Graph → Setup
@@ -58,12 +52,3 @@ day_legal graph one zone = record {
   where
     enough : pos 0 ≤ℤ pos 50
     enough = omega (arith, ints)
-
--- a command that breaks no rule by itself names what is there
-pub command_named : (setup : Setup) (graph : Graph) (caller : ℕ) (given : Command) → graph ≡ graph_of setup → early_refusal setup caller given ≡ None
-    → IsNamedIn graph caller given
-command_named setup graph caller given over none = record { setup = setup; over = over; named = first (naming_refusal setup caller given) _ none }
-  where
-    first : (o : Option Refusal) → (other : Unit {0} → Option Refusal) → or_else o other ≡ None → o ≡ None
-    first None other e = refl
-    first (Some broken) other e = absurd (cc)

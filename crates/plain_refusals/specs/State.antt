@@ -1,6 +1,6 @@
 -- The rules on the state of orders, hours and capacity: those between the rules on a command's numbers
 -- and the rule that a fill-or-kill order is filled.
-use Rattle.std.specs.Prelude.{◌≡◌, ℕ, List, [], ◌∷◌, ◌++◌, Option, None}
+use Rattle.std.specs.Prelude.{◌≡◌, ℕ, List, [], ◌∷◌, ◌++◌, Option}
 use Rattle.std.specs.Option.{option_map}
 use Rattle.zone_graph.specs.Graph.{Graph}
 use Rattle.market_model.specs.declared.command.Command.{Command}
@@ -10,7 +10,7 @@ use Rattle.market_model.specs.declared.refusal.Refusal.TheVariants as refusal
 use Rattle.market_model.specs.declared.setup.Setup.{Setup}
 use Rattle.market_model.specs.Grid.{graph_of}
 use Rattle.market_model.specs.Refusals.{basket_refusal, closed_hour, desk_refusal, gate_refusal, offer_refusal, order_is_known, reduces, refusal_of_command, request_refusal, unfilled_refusal}
-use Rattle.market_model.specs.Rules.{early_refusal, first_broken, naming_refusal, unless}
+use Rattle.market_model.specs.Rules.{early_refusal, first_broken, unless}
 use Rattle.market_model.specs.Sweep.{or_else}
 
 -- the rules on the state of orders and hours, in order
@@ -59,9 +59,3 @@ StateComesSecond = (setup : Setup) (events : List Event) (caller : ℕ) (given :
     ≡ or_else (early_refusal setup caller given) (λ _.
     or_else (state_refusal (graph_of setup) events caller given) (λ _.
     first_broken (filling_rules (graph_of setup) events caller given)))
-
--- a command names what is there, in a market over a graph
-pub record IsNamedIn (graph : Graph) (caller : ℕ) (given : Command) : Type 0 where
-  pub setup : Setup
-  pub over : graph ≡ graph_of setup
-  pub named : naming_refusal setup caller given ≡ None

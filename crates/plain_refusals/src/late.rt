@@ -31,7 +31,6 @@ pub fn refuse_late(
     command: &Command,
 ) -> Result<Option<Refusal>, NoMemory>
     requires legal { IsLegalOver grid.now events.now }
-    requires named { state.IsNamedIn grid.now caller command.now }
     ensures refusal { IfOk result (λ refusal. refusal ≡ state.state_refusal grid.now events.now caller command.now) }
 {
     match refuse_by_orders(events, caller, command) {

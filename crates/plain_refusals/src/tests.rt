@@ -3,14 +3,12 @@
 
 ghost use Rattle.std.specs.Prelude.{◌≡◌, ◌<◌, IfOk, length};
 ghost use Rattle.zone_graph.specs.Graph.{HasZone};
-ghost use Rattle.zone_graph.specs.Grid.{JoinsZones};
-ghost use Rattle.market_model.specs.Grid.{graph_of};
 ghost use Rattle.plain_capacity.specs.Hour.{IsLegalOver};
 
 use super::*;
 use market_model::{
-    Arc, Caller, Callers, Command, Contract, Event, Events, Kind, Lots, Names, NoMemory, Order,
-    OrderName, Pairs, Part, Phase, Price, Quarter, Refusal, Role, Setup, Side, Word, refuse_early,
+    Arc, Command, Contract, Event, Events, Kind, Lots, Names, NoMemory, Order, OrderName, Pairs,
+    Part, Phase, Price, Quarter, Refusal, Side, Word,
 };
 use std::alloc::Global;
 use std::test::Fail;
@@ -22,36 +20,19 @@ const TRADER: u32 = 1;
 
 const OTHER_TRADER: u32 = 2;
 
-fn caller_of(alloc: Global, role: Role) -> Result<Caller, NoMemory> {
-    Ok(Caller {
-        name: Word::new(alloc, b"name")?,
-        role,
-        room: 9,
-    })
-}
+const STRANGER: u32 = 9;
 
-// A day of 24 hours, two zones and the border between them, an operator and two traders.
-fn setup_of(alloc: Global) -> Result<Setup, NoMemory>
-    ensures zones { IfOk result (λ setup. JoinsZones (graph_of setup)) }
-    ensures zone { IfOk result (λ setup. HasZone (graph_of setup) 0) }
-    ensures border { IfOk result (λ setup. length setup.borders ≡ 1) }
-    ensures callers { IfOk result (λ setup. length setup.callers ≡ 3) }
+// Two zones and the border between them.
+fn grid_of(alloc: Global) -> Result<Grid, Fail>
+    ensures border { IfOk result (λ grid. length grid.borders ≡ 1) }
+    ensures zone { IfOk result (λ grid. HasZone grid 0) }
 {
     let mut zones = Names::new(alloc);
     zones.push(Word::new(alloc, b"DE")?)?;
     zones.push(Word::new(alloc, b"FR")?)?;
     let mut borders = Pairs::new(alloc);
     borders.push((0, 1))?;
-    let mut callers = Callers::new(alloc);
-    callers.push(caller_of(alloc, Role::Operator)?)?;
-    callers.push(caller_of(alloc, Role::Trader)?)?;
-    callers.push(caller_of(alloc, Role::Trader)?)?;
-    Ok(Setup {
-        hours: 24,
-        zones,
-        borders,
-        callers,
-    })
+    Ok(Grid::new(alloc, &zones, &borders)?)
 }
 
 // 5.0 MW are offered from the first zone to the second in hour 12, a trader enters an order of
@@ -125,35 +106,12 @@ fn request(from: u32, to: u32, first: Quarter, last: Quarter, lots: u32) -> Comm
     }
 }
 
-// Whether a command, which breaks no rule by itself, is refused as said.
-fn is_refused(
-    alloc: Global,
-    grid: &Grid,
-    setup: &Setup,
-    events: &[Event],
-    case: &(u32, Command, Option<Refusal>),
-) -> Result<bool, Fail>
-    requires grid { grid.now ≡ graph_of setup.now }
-    requires callers { length setup.now.callers ≡ 3 }
-    requires legal { IsLegalOver grid.now events.now }
-{
-    let (caller, command, refusal) = case;
-    if *caller > OTHER_TRADER {
-        return Ok(false);
-    }
-    match refuse_early(grid, setup, *caller, command) {
-        Some(_) => Ok(false),
-        None => Ok(refuse_late(alloc, grid, events, *caller, command)? == *refusal),
-    }
-}
-
 // Whether the commands are refused as said.
 fn are_refused(alloc: Global, cases: &[(u32, Command, Option<Refusal>)]) -> Result<bool, Fail> {
-    let setup = setup_of(alloc)?;
-    let grid = Grid::new(alloc, &setup.zones, &setup.borders)?;
+    let grid = grid_of(alloc)?;
     let events = events_of(alloc, &grid)?;
-    for case in cases {
-        if !is_refused(alloc, &grid, &setup, events.as_slice(), case)? {
+    for (caller, command, refusal) in cases {
+        if refuse_late(alloc, &grid, events.as_slice(), *caller, command)? != *refusal {
             return Ok(false);
         }
     }
@@ -208,6 +166,31 @@ fn offers_and_requests(rt: HostRuntime) -> Result<(), Fail> {
             TRADER,
             request(0, 1, quarter(11, 4), first, 10),
             no_room(quarter(11, 4), 0),
+        ),
+    ];
+    assert!(rt; are_refused(rt.alloc(), &table)?);
+    Ok(())
+}
+
+// A caller, a zone and quarters that are not there.
+#[test]
+fn names_that_are_not_there(rt: HostRuntime) -> Result<(), Fail> {
+    let (first, beyond) = (quarter(12, 3), quarter(12, 9));
+    let table = [
+        (
+            STRANGER,
+            Command::Cancel { name: name(1) },
+            Some(Refusal::UnknownOrder),
+        ),
+        (TRADER, request(0, 2, first, first, 51), None),
+        (TRADER, request(0, 1, beyond, beyond, 51), None),
+        (
+            TRADER,
+            request(0, 1, first, beyond, 51),
+            Some(Refusal::NoRoom {
+                quarter: first,
+                room: 50,
+            }),
         ),
     ];
     assert!(rt; are_refused(rt.alloc(), &table)?);
