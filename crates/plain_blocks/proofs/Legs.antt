@@ -1,5 +1,5 @@
 -- The next leg of a pour, over rooms that are those of the period.
-use Rattle.std.proofs.Common.{◌≡◌, ◌∙◌, ℕ, zero, suc, ◌≤◌, List, [], ◌∷◌, min, Option, Some, None, inl, inr, refl, sym, ap, arith}
+use Rattle.std.proofs.Common.{◌≡◌, ◌∙◌, ℕ, zero, suc, ◌≤◌, List, Option, Some, None, refl, sym, ap, arith}
 use Rattle.std.specs.Option.{option_map}
 use Rattle.order_kinds.specs.declared.order.BlockOrder.{BlockOrder}
 use Rattle.order_kinds.specs.Period.{block_quarters}
@@ -8,21 +8,15 @@ use Rattle.zone_graph.specs.declared.route.RouteLeg.{RouteLeg}
 use Rattle.zone_graph.specs.Graph.{Graph, HasArc, IsGraph}
 use Rattle.zone_graph.specs.Pour.{pour_leg}
 use Rattle.zone_graph.specs.Rooms.{room_of}
-use Rattle.zone_graph.specs.Route.{IsIn, best_route, carried}
+use Rattle.zone_graph.specs.Route.{best_route, carried}
 use Rattle.zone_graph.proofs.BestRoute.{best_route-rooms}
+use Rattle.route_carrying.proofs.Carrying.{carried-rooms}
 use Rattle.market_model.specs.declared.event.Event.{Event}
 use Rattle.market_model.specs.Blocks.{StandingBlock, block_buyer_zone, block_leg, block_leg_over, block_seller_zone}
 use Rattle.market_model.specs.Orders.{left}
 use Rattle.market_model.specs.Room.{room}
 use Rattle.plain_matching.proofs.SameRooms.{best_route-arcs}
 use Rattle.plain_blocks.specs.Meeting.{leg_of}
-
-carried-rooms : (graph : Graph) (rooms other : Arc → ℕ) (lots : ℕ) (route : List Arc) → ((arc : Arc) → HasArc graph arc → rooms arc ≡ other arc)
-    → ((arc : Arc) → IsIn arc route → HasArc graph arc) → carried rooms lots route ≡ carried other lots route
-carried-rooms graph rooms other lots [] same known = refl
-carried-rooms graph rooms other lots (arc ∷ arcs) same known =
-    ap (λ n. carried rooms (min lots n) arcs) (same arc (known arc (inl refl)))
-    ∙ carried-rooms graph rooms other (min lots (other arc)) arcs same (λ a i. known a (inr i))
 
 -- a pour is the same where the rooms of the graph's arcs are
 pour_leg-rooms : (graph : Graph) (rooms other : Arc → ℕ) (from to lots : ℕ) → IsGraph graph → ((arc : Arc) → HasArc graph arc → rooms arc ≡ other arc)

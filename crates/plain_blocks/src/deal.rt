@@ -1,6 +1,6 @@
 //! The deal of two blocks, wholly or not at all.
 
-ghost use Rattle.std.specs.Prelude.{◌≡◌, ◌++◌, ◌≤◌, IfOk, OnOk, OnErr, is_some, length, take};
+ghost use Rattle.std.specs.Prelude.{◌≡◌, ◌++◌, IfOk, OnOk, OnErr, is_some};
 ghost use Rattle.std.specs.Ordering.{is_lt};
 ghost use Rattle.market_model.specs.Blocks as blocks;
 ghost use Rattle.plain_blocks.specs.Meeting as meeting;
@@ -8,6 +8,7 @@ ghost use Rattle.plain_matching.specs.Grown.{Grew};
 
 use crate::pouring::pour;
 use market_model::{Events, NoMemory};
+use plain_matching::cut_back;
 use plain_orders::{StandingBlock, left};
 use std::alloc::Global;
 use std::cmp::Ordering;
@@ -110,14 +111,4 @@ fn pour_whole(
         cut_back(events, mark);
     }
     Ok(is_whole)
-}
-
-// Takes the events behind a mark away again.
-fn cut_back(events: &mut Events, mark: usize)
-    requires mark { mark ≤ length events.old }
-    ensures { events.new ≡ take mark events.old }
-{
-    while events.len() > mark {
-        events.pop();
-    }
 }

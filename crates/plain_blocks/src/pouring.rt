@@ -5,7 +5,7 @@ ghost use Rattle.zone_graph.specs.declared.route.Arc.{Arc};
 ghost use Rattle.zone_graph.specs.Graph.{HasZone};
 ghost use Rattle.zone_graph.specs.Grid.{IsGrid};
 ghost use Rattle.zone_graph.specs.Rooms.{room_of};
-ghost use Rattle.zone_graph.specs.Route.{IsIn, carried as carried_of};
+ghost use Rattle.zone_graph.specs.Route.{IsIn};
 ghost use Rattle.market_model.specs.Blocks as blocks;
 ghost use Rattle.plain_blocks.specs.Meeting as meeting;
 ghost use Rattle.plain_capacity.specs.Hour.{IsLegalOver};
@@ -15,8 +15,9 @@ use market_model::{Event, Events, Leg, NoMemory, Route, Side};
 use plain_capacity::block_rooms;
 use plain_orders::{StandingBlock, left};
 use plain_routes::best_route;
+use route_carrying::carried;
 use std::alloc::Global;
-use zone_graph::{Arc, Grid, Rooms};
+use zone_graph::{Grid, Rooms};
 
 /// Pours what is left of a block into another one of its period: the legs go to the end of the
 /// events, each over the best route of the rooms as they then are, at the maker's price, until all is
@@ -109,28 +110,16 @@ fn leg_over(
     ensures { result ≡ meeting.leg_of (room_of rooms.now) taker.now maker.now lots route }
 {
     let order = taker.order();
-    let carried = carried(rooms, lots, route.as_slice());
+    let lots = carried(rooms, lots, route.as_slice());
     Event::BlockLeg {
         first: order.first,
         last: order.last,
         leg: Leg {
             taker: taker.name(),
             maker: maker.name(),
-            lots: carried,
+            lots,
             price: maker.order().price,
             route,
         },
     }
-}
-
-// What a route can carry of some lots.
-fn carried(rooms: &Rooms, lots: u32, route: &[Arc]) -> u32
-    requires arcs { (arc : Arc) → IsIn arc route.now → arc.border < length rooms.now }
-    ensures { result ≡ carried_of (room_of rooms.now) lots route.now }
-{
-    let mut least = lots;
-    for arc in route {
-        least = least.min(rooms.at(*arc));
-    }
-    least
 }

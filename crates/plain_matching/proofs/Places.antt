@@ -1,11 +1,9 @@
 -- Lists that are gone through by place.
-use Rattle.std.proofs.Common.{◌≡◌, ◌∙◌, ℕ, zero, suc, ◌+◌, ◌<◌, ◌≤◌, ◌||◌, Bool, true, false, cond, List, [], ◌∷◌, drop, get_or, length, min, Option, Some, None, refl, sym, ap, subst, inl, inr, arith, add-one, drop-cons}
+use Rattle.std.proofs.Common.{◌≡◌, ◌∙◌, ℕ, zero, suc, ◌+◌, ◌<◌, ◌||◌, Bool, true, false, cond, List, [], ◌∷◌, drop, get_or, length, Option, Some, None, refl, sym, ap, subst, inl, inr, arith, add-one, drop-cons}
 use Rattle.std.proofs.lemmas.Bool.{true≢false}
-use Rattle.std.specs.List.{find, list_all, list_any}
-use Rattle.zone_graph.specs.declared.route.Arc.{Arc}
-use Rattle.zone_graph.specs.Route.{IsIn, carried}
+use Rattle.std.specs.List.{find, list_any}
+use Rattle.zone_graph.specs.Route.{IsIn}
 use Rattle.market_model.specs.Sweep.{first_answer, or_else}
-use Rattle.market_laws.proofs.Tests.{and-true}
 use Rattle.plain_matching.specs.Over.{is_nothing}
 
 -- an item at a place is in the list
@@ -22,12 +20,6 @@ pub from_place : {X : Type 0} (xs : List X) (k : ℕ) (x : X) → k < length xs 
 from_place xs k x within is =
     drop-cons xs k x within ∙ ap (λ y. y ∷ drop (suc k) xs) (sym is) ∙ ap (λ n. x ∷ drop n xs) (sym (add-one k))
 
-past : {X : Type 0} (xs : List X) (k : ℕ) → length xs ≤ k → drop k xs ≡ []
-past [] zero over = refl
-past [] (suc k) over = refl
-past (x ∷ xs) zero over = absurd (let no : ⊥ = omega arith in no)
-past (x ∷ xs) (suc k) over = past xs k (omega arith)
-
 -- ---- the first answer
 
 pub first_answer-next : {X Y : Type 0} (ask : X → Option Y) (xs : List X) (k : ℕ) (x : X) → k < length xs → x ≡ get_or xs k x → ask x ≡ None
@@ -39,9 +31,6 @@ pub first_answer-found : {X Y : Type 0} (ask : X → Option Y) (xs : List X) (k 
     → first_answer ask (drop k xs) ≡ Some y
 first_answer-found ask xs k x y within is found =
     ap (first_answer ask) (from_place xs k x within is) ∙ ap (λ o. or_else o (λ _. first_answer ask (drop (k + 1) xs))) found
-
-pub first_answer-past : {X Y : Type 0} (ask : X → Option Y) (xs : List X) (k : ℕ) → length xs ≤ k → first_answer ask (drop k xs) ≡ None
-first_answer-past ask xs k over = ap (first_answer ask) (past xs k over)
 
 pub first_answer-same : {X Y : Type 0} (ask other : X → Option Y) (xs : List X) → ((x : X) → IsIn x xs → ask x ≡ other x) → first_answer ask xs ≡ first_answer other xs
 first_answer-same ask other [] same = refl
@@ -56,11 +45,6 @@ first_answer-nothing ask (x ∷ xs) none =
 
 -- ---- tests
 
-pub list_all-at : {X : Type 0} (p : X → Bool) (xs : List X) (k : ℕ) (x : X) → k < length xs → x ≡ get_or xs k x → list_all p (drop k xs) ≡ true
-    → (p x ≡ true) × (list_all p (drop (k + 1) xs) ≡ true)
-list_all-at p xs k x within is all =
-    and-true (p x) (list_all p (drop (k + 1) xs)) (sym (ap (list_all p) (from_place xs k x within is)) ∙ all)
-
 -- nothing is found where no item passes a weaker test
 pub find-nothing : {X : Type 0} (p q : X → Bool) (xs : List X) → ((x : X) → q x ≡ false → p x ≡ false) → list_any q xs ≡ false → find p xs ≡ None
 find-nothing p q [] weaker none = refl
@@ -69,14 +53,6 @@ find-nothing {X} p q (x ∷ xs) weaker none = go (find-nothing p q xs weaker) (q
     go : (list_any q xs ≡ false → find p xs ≡ None) → (b : Bool) → q x ≡ b → (b || list_any q xs) ≡ false → cond (p x) (Some x) (find p xs) ≡ None
     go rest true is k = absurd (true≢false k)
     go rest false is k = ap (λ t. cond t (Some x) (find p xs)) (weaker x is) ∙ rest k
-
--- what a route can carry, arc by arc
-pub carried-next : (room : Arc → ℕ) (least : ℕ) (route : List Arc) (k : ℕ) (arc : Arc) → k < length route → arc ≡ get_or route k arc
-    → carried room (min least (room arc)) (drop (k + 1) route) ≡ carried room least (drop k route)
-carried-next room least route k arc within is = sym (ap (carried room least) (from_place route k arc within is))
-
-pub carried-past : (room : Arc → ℕ) (least : ℕ) (route : List Arc) (k : ℕ) → length route ≤ k → carried room least (drop k route) ≡ least
-carried-past room least route k over = ap (carried room least) (past route k over)
 
 -- a list with no item
 pub nothing-is : {X : Type 0} (xs : List X) → is_nothing xs ≡ true → xs ≡ []

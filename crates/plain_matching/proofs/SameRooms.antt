@@ -1,10 +1,10 @@
 -- Partners and legs are the same where the rooms of the graph's arcs are.
-use Rattle.std.proofs.Common.{◌≡◌, ◌∙◌, ℕ, ◌&&◌, List, [], ◌∷◌, min, Option, Some, None, refl, ap, inl, inr, if◌then◌else◌}
+use Rattle.std.proofs.Common.{◌≡◌, ◌∙◌, ℕ, ◌&&◌, List, min, Option, Some, None, refl, ap, if◌then◌else◌}
 use Rattle.std.specs.Option.{option_and_then, option_map, is_some}
 use Rattle.std.specs.Ordering.{is_lt}
 use Rattle.zone_graph.specs.declared.route.Arc.{Arc}
 use Rattle.zone_graph.specs.Graph.{Graph, HasArc, IsGraph}
-use Rattle.zone_graph.specs.Route.{IsIn, best_route, carried}
+use Rattle.zone_graph.specs.Route.{IsIn, best_route}
 use Rattle.zone_graph.proofs.BestRoute.{best_route-rooms}
 use Rattle.market_model.specs.declared.event.Event.{Event}
 use Rattle.market_model.specs.Lines.{buyer_zone, can_trade, seller_zone, time_cmp}
@@ -13,6 +13,7 @@ use Rattle.market_model.specs.Taking.{leg_over}
 use Rattle.market_laws.proofs.Carrying.{best_route-route}
 use Rattle.market_locality.proofs.Restrict.{find-same}
 use Rattle.cut_proof.proofs.Ways.{way_has_arc}
+use Rattle.route_carrying.proofs.Carrying.{carried-rooms}
 use Rattle.plain_matching.specs.Over.{crosses_price, leg_of_buy_over, partner_in, resting_trade_over, trade_over}
 
 -- the arcs of a best route are the graph's
@@ -20,13 +21,6 @@ pub best_route-arcs : (graph : Graph) (room : Arc → ℕ) (from to : ℕ) (rout
     → (arc : Arc) → IsIn arc route → HasArc graph arc
 best_route-arcs graph room from to route is found arc i =
     way_has_arc graph room from to route arc (best_route-route graph room from to route is found).way i
-
-carried-rooms : (graph : Graph) (room other : Arc → ℕ) (lots : ℕ) (route : List Arc) → ((arc : Arc) → HasArc graph arc → room arc ≡ other arc)
-    → ((arc : Arc) → IsIn arc route → HasArc graph arc) → carried room lots route ≡ carried other lots route
-carried-rooms graph room other lots [] same known = refl
-carried-rooms graph room other lots (arc ∷ arcs) same known =
-    ap (λ n. carried room (min lots n) arcs) (same arc (known arc (inl refl)))
-    ∙ carried-rooms graph room other (min lots (other arc)) arcs same (λ a i. known a (inr i))
 
 module _ (graph : Graph) (room other : Arc → ℕ) (is : IsGraph graph) (same : (arc : Arc) → HasArc graph arc → room arc ≡ other arc) where
   pub can_trade-rooms : (own another : Standing) → can_trade graph room own another ≡ can_trade graph other own another

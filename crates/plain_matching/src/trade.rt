@@ -5,7 +5,7 @@ ghost use Rattle.std.specs.Ordering.{is_lt};
 ghost use Rattle.zone_graph.specs.declared.route.Arc.{Arc};
 ghost use Rattle.zone_graph.specs.Graph.{HasZone, border_count};
 ghost use Rattle.zone_graph.specs.Rooms.{room_of};
-ghost use Rattle.zone_graph.specs.Route.{IsIn, carried as carried_of};
+ghost use Rattle.zone_graph.specs.Route.{IsIn};
 ghost use Rattle.market_model.specs.Lines as lines;
 ghost use Rattle.market_model.specs.Taking as taking;
 ghost use Rattle.plain_matching.specs.Over as over;
@@ -13,9 +13,10 @@ ghost use Rattle.plain_matching.specs.Over as over;
 use market_model::{Event, Leg, NoMemory, Route, Side};
 use plain_orders::StandingOrder;
 use plain_routes::best_route;
+use route_carrying::carried;
 use std::alloc::Global;
 use std::cmp::Ordering;
-use zone_graph::{Arc, Grid, Rooms};
+use zone_graph::{Grid, Rooms};
 
 /// The leg of two resting orders of a contract that can trade: the one that was there earlier is the
 /// maker. The rooms are those of the contract.
@@ -123,16 +124,4 @@ fn leg_over(rooms: &Rooms, taker: &StandingOrder, maker: &StandingOrder, route: 
             route,
         },
     }
-}
-
-// What a route can carry of some lots.
-fn carried(rooms: &Rooms, lots: u32, route: &[Arc]) -> u32
-    requires arcs { (arc : Arc) → IsIn arc route.now → arc.border < length rooms.now }
-    ensures { result ≡ carried_of (room_of rooms.now) lots route.now }
-{
-    let mut least = lots;
-    for arc in route {
-        least = least.min(rooms.at(*arc));
-    }
-    least
 }

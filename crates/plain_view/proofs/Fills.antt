@@ -22,6 +22,7 @@ use Rattle.market_laws.proofs.Carrying.{best_route-route, carried-le, carried-ro
 use Rattle.market_laws.proofs.Members.{from_find}
 use Rattle.market_laws.proofs.Repeats.{bind-some, map-some}
 use Rattle.market_laws.proofs.Tests.{and-true}
+use Rattle.route_carrying.proofs.Carrying.{after_leg}
 use Rattle.plain_view.specs.declared.filling.Fill.{Fill}
 use Rattle.plain_view.specs.declared.maker.Maker.{Maker}
 use Rattle.plain_view.specs.declared.rows.MakerRow.{MakerRow}
@@ -154,8 +155,7 @@ pub depth-after : (makers makers_after : List Maker) (rooms rooms_after : List (
     → ((arc : Arc) → room_of rooms_after arc ≡ room_after (room_of rooms) (record { route = route; lots = fill.lots }) arc) → left_after ≡ left - fill.lots
     → after_fill (depth_of makers rooms left) fill ≡ depth_of makers_after rooms_after left_after
 depth-after makers makers_after rooms rooms_after left left_after fill route are_makers is_route are_rooms is_left =
-    let over : room_after (room_of rooms) (carried_by fill) ≡ room_of rooms_after =
-    ap (λ r. room_after (room_of rooms) (record { route = r; lots = fill.lots })) (sym is_route) ∙ (λ i. λ arc. sym (are_rooms arc) i) in
+    let over = after_leg (room_of rooms) (room_of rooms_after) (carried_by fill) route is_route are_rooms in
     λ i. record { makers = sym are_makers i; room = over i; left = sym is_left i }
 
 -- rows that are those after some trades, whatever the depth is written as

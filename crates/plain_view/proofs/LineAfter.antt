@@ -17,18 +17,9 @@ use Rattle.market_model.specs.Orders.{Placed, Standing, is_open, left, placed, s
 use Rattle.market_laws.proofs.Members.{IsIn-in_order}
 use Rattle.market_laws.proofs.Tests.{and-intro, and-true}
 use Rattle.market_locality.proofs.Restrict.{filter-filter, filter-same}
-use Rattle.plain_orders.proofs.LineLaws.{priority_weak}
+use Rattle.plain_orders.proofs.LineLaws.{filter-map, priority_weak}
 use Rattle.plain_view.proofs.Kept.{IsAfter, line-of_kind, now, now-price}
 use Rattle.plain_view.proofs.Ordered.{filter-in_order, map-in_order}
-
-filter-map : {X Y : Type 0} (p : Y → Bool) (f : X → Y) (xs : List X) → filter p (map f xs) ≡ map f (filter (λ x. p (f x)) xs)
-filter-map p f [] = refl
-filter-map {X} {Y} p f (x ∷ xs) = go (p (f x)) (filter-map p f xs)
-  where
-    go : (b : Bool) → filter p (map f xs) ≡ map f (filter (λ y. p (f y)) xs)
-        → cond b (f x ∷ filter p (map f xs)) (filter p (map f xs)) ≡ map f (cond b (x ∷ filter (λ y. p (f y)) xs) (filter (λ y. p (f y)) xs))
-    go true rest = ap (λ ys. f x ∷ ys) rest
-    go false rest = rest
 
 opposed : (side : Side) → same_side (opposite side) side ≡ false
 opposed Buy = refl

@@ -27,6 +27,7 @@ use Rattle.market_laws.proofs.Legs.{opposite-opposite}
 use Rattle.market_laws.proofs.Members.{from_find}
 use Rattle.market_laws.proofs.Tests.{and-true, same_name-refl}
 use Rattle.market_locality.proofs.Restrict.{find-same}
+use Rattle.route_carrying.proofs.Carrying.{carried-rooms}
 use Rattle.plain_view.specs.declared.filling.Fill.{Fill}
 use Rattle.plain_view.specs.declared.maker.Maker.{Maker}
 use Rattle.plain_view.specs.Depth.{Depth, buyer_zone, can_fill, crosses_any, fill_over, fill_with, leg_of, next_fill, route_with, seller_zone}
@@ -57,13 +58,6 @@ find-filtered {X} p q (x ∷ xs) = go (q x) (p x) refl (find-filtered p q xs)
 find-last : {X : Type 0} (p : X → Bool) (xs : List X) (y : X) → ((x : X) → IsIn x xs → p x ≡ false) → find p (xs ++ y ∷ []) ≡ cond (p y) (Some y) None
 find-last p [] y none = refl
 find-last p (x ∷ xs) y none = ap (λ b. cond b (Some x) (find p (xs ++ y ∷ []))) (none x (inl refl)) ∙ find-last p xs y (λ z i. none z (inr i))
-
-carried-rooms : (graph : Graph) (here there : Arc → ℕ) (lots : ℕ) (route : List Arc) → ((arc : Arc) → HasArc graph arc → here arc ≡ there arc)
-    → ((arc : Arc) → IsIn arc route → HasArc graph arc) → carried here lots route ≡ carried there lots route
-carried-rooms graph here there lots [] same known = refl
-carried-rooms graph here there lots (arc ∷ arcs) same known =
-    ap (λ n. carried here (min lots n) arcs) (same arc (known arc (inl refl)))
-    ∙ carried-rooms graph here there (min lots (there arc)) arcs same (λ a i. known a (inr i))
 
 -- ---- zones
 

@@ -1,6 +1,5 @@
 -- What a list in order keeps where items are left out, or changed without a change of their order.
 use Rattle.std.proofs.Common.{◌≡◌, ◌∙◌, inl, inr, Bool, true, false, cond, List, [], ◌∷◌, filter, fold, map, refl, sym, ap, if◌then◌else◌}
-use Rattle.std.proofs.lemmas.Bool.{true≢false}
 use Rattle.std.specs.Cmp.{IsStrictWeakOrder}
 use Rattle.std.specs.Ordering.{is_lt}
 use Rattle.std.specs.declared.cmp.Ordering.{Ordering}
@@ -8,47 +7,25 @@ use Rattle.zone_graph.specs.Route.{IsIn}
 use Rattle.zone_graph.proofs.Membership.{from_filter}
 use Rattle.market_model.specs.Lines.{in_order, put_in_order}
 use Rattle.market_laws.proofs.Members.{from_put_in_order}
+use Rattle.plain_orders.proofs.Stable.{Ascends, ascends-put, before_too}
 
 module _ {X : Type 0} (cmp : X → X → Ordering) (o : IsStrictWeakOrder (λ (x y : X). is_lt (cmp x y))) where
-  abbrev lt : X → X → Bool
-  lt x y = is_lt (cmp x y)
-
-  -- no item comes before one that stands in front of it
-  abbrev Ascends : List X → Type 0
-  Ascends [] = Unit {0}
-  Ascends (y ∷ ys) = ((z : X) → IsIn z ys → lt z y ≡ false) × Ascends ys
-
-  before_too : (x y z : X) → lt x y ≡ true → lt z y ≡ false → lt x z ≡ true
-  before_too x y z before not_before = go (lt x z) refl
-    where
-      go : (b : Bool) → lt x z ≡ b → b ≡ true
-      go true e = refl
-      go false e = absurd (true≢false (sym before ∙ o.chain x z y e not_before))
-
-  ascends-put : (ys : List X) (x : X) → Ascends ys → Ascends (put_in_order cmp ys x)
-  ascends-put [] x up = (λ z i. absurd i, tt)
-  ascends-put (y ∷ ys) x up = go (ascends-put ys x up.1) (lt x y) refl
-    where
-      go : Ascends (put_in_order cmp ys x) → (b : Bool) → lt x y ≡ b → Ascends (if b then (x ∷ y ∷ ys) else (y ∷ put_in_order cmp ys x))
-      go rest true e = (λ z i. elim i [ inl s ↦ rw s (o.one_way x y e) | inr j ↦ o.chain z y x (up.0 z j) (o.one_way x y e) ], up)
-      go rest false e = (λ z i. elim (from_put_in_order cmp z ys x i) [ inl s ↦ rw s e | inr j ↦ up.0 z j ], rest)
-
   -- an item that comes before all others stands in front
-  put-front : (ys : List X) (x : X) → ((z : X) → IsIn z ys → lt x z ≡ true) → put_in_order cmp ys x ≡ x ∷ ys
+  put-front : (ys : List X) (x : X) → ((z : X) → IsIn z ys → is_lt (cmp x z) ≡ true) → put_in_order cmp ys x ≡ x ∷ ys
   put-front [] x first = refl
   put-front (y ∷ ys) x first = rw (first y (inl refl)) refl
 
-  filter-put : (p : X → Bool) (ys : List X) (x : X) → Ascends ys
+  filter-put : (p : X → Bool) (ys : List X) (x : X) → Ascends cmp o ys
       → filter p (put_in_order cmp ys x) ≡ (if p x then put_in_order cmp (filter p ys) x else filter p ys)
   filter-put p [] x up = refl
-  filter-put p (y ∷ ys) x up = go (filter-put p ys x up.1) (lt x y) refl
+  filter-put p (y ∷ ys) x up = go (filter-put p ys x up.1) (is_lt (cmp x y)) refl
     where
-      go : filter p (put_in_order cmp ys x) ≡ (if p x then put_in_order cmp (filter p ys) x else filter p ys) → (b : Bool) → lt x y ≡ b
+      go : filter p (put_in_order cmp ys x) ≡ (if p x then put_in_order cmp (filter p ys) x else filter p ys) → (b : Bool) → is_lt (cmp x y) ≡ b
           → filter p (if b then (x ∷ y ∷ ys) else (y ∷ put_in_order cmp ys x))
           ≡ (if p x then put_in_order cmp (filter p (y ∷ ys)) x else filter p (y ∷ ys))
       go rest true e =
           ap (λ zs. if p x then zs else filter p (y ∷ ys)) (sym (put-front (filter p (y ∷ ys)) x (λ z i.
-          elim (from_filter p z (y ∷ ys) i).0 [ inl s ↦ rw s e | inr j ↦ before_too x y z e (up.0 z j) ])))
+          elim (from_filter p z (y ∷ ys) i).0 [ inl s ↦ rw s e | inr j ↦ before_too cmp o x y z e (up.0 z j) ])))
       go rest false e = kept (p y) (p x) rest
         where
           kept : (own other : Bool) → filter p (put_in_order cmp ys x) ≡ (if other then put_in_order cmp (filter p ys) x else filter p ys)
@@ -59,10 +36,10 @@ module _ {X : Type 0} (cmp : X → X → Ordering) (o : IsStrictWeakOrder (λ (x
           kept false true same = same
           kept false false same = same
 
-  filter-fold : (p : X → Bool) (ys xs : List X) → Ascends ys → filter p (fold (put_in_order cmp) ys xs) ≡ fold (put_in_order cmp) (filter p ys) (filter p xs)
+  filter-fold : (p : X → Bool) (ys xs : List X) → Ascends cmp o ys → filter p (fold (put_in_order cmp) ys xs) ≡ fold (put_in_order cmp) (filter p ys) (filter p xs)
   filter-fold p ys [] up = refl
   filter-fold p ys (x ∷ xs) up =
-      filter-fold p (put_in_order cmp ys x) xs (ascends-put ys x up)
+      filter-fold p (put_in_order cmp ys x) xs (ascends-put cmp o ys x up)
       ∙ ap (λ zs. fold (put_in_order cmp) zs (filter p xs)) (filter-put p ys x up)
       ∙ by (p x)
     where

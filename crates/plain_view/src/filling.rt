@@ -2,11 +2,9 @@
 
 ghost use Rattle.std.specs.Prelude.{◌≡◌, ◌<◌, ℕ, IfOk, length};
 ghost use Rattle.std.specs.List.{find};
-ghost use Rattle.zone_graph.specs.declared.route.Arc.{Arc};
 ghost use Rattle.zone_graph.specs.Graph.{HasZone, border_count};
 ghost use Rattle.zone_graph.specs.Grid.{IsGrid};
 ghost use Rattle.zone_graph.specs.Rooms.{room_of};
-ghost use Rattle.zone_graph.specs.Route.{IsIn, carried as carried_of};
 ghost use Rattle.market_model.specs.View as market;
 ghost use Rattle.order_kinds.specs.Same.{same_side};
 ghost use Rattle.order_kinds.specs.declared.side.Side.TheVariants.{Sell};
@@ -15,8 +13,9 @@ ghost use Rattle.plain_view.specs.Depth as depth;
 use crate::maker::Maker;
 use market_model::{NoMemory, OrderName, Price, Route, Side};
 use plain_routes::{ZoneSet, best_route, reached};
+use route_carrying::carried;
 use std::alloc::Global;
-use zone_graph::{Arc, Grid, Rooms};
+use zone_graph::{Grid, Rooms};
 
 /// A trade of the taker.
 #[derive(Drop)]
@@ -151,16 +150,4 @@ fn buyer_zone(side: Side, zone: u32, maker: &Maker) -> u32
         Side::Buy => maker.zone,
         Side::Sell => zone,
     }
-}
-
-// What a route can carry of some lots.
-fn carried(rooms: &Rooms, lots: u32, route: &[Arc]) -> u32
-    requires arcs { (arc : Arc) → IsIn arc route.now → arc.border < length rooms.now }
-    ensures { result ≡ carried_of (room_of rooms.now) lots route.now }
-{
-    let mut least = lots;
-    for arc in route {
-        least = least.min(rooms.at(*arc));
-    }
-    least
 }

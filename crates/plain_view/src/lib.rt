@@ -5,7 +5,6 @@
 //! Quantities are lots, tenths of a MW; prices are cents per MWh.
 #![tactic(auto)]
 
-mod carrying;
 mod filling;
 mod local_view;
 mod maker;

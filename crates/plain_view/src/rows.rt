@@ -4,14 +4,14 @@ ghost use Rattle.std.specs.Prelude.{◌≡◌, ◌+◌, ◌^◌, ◌<◌, ℕ, I
 ghost use Rattle.std.specs.List.{list_any};
 ghost use Rattle.zone_graph.specs.Graph.{HasZone, border_count};
 ghost use Rattle.zone_graph.specs.Rooms.{room_of};
-ghost use Rattle.route_choice.specs.Poured.{FitTogether};
+ghost use Rattle.route_carrying.specs.Carrying.{FitTogether};
 ghost use Rattle.plain_view.specs.Depth as depth;
 ghost use Rattle.plain_view.specs.Filled as filled;
 
-use crate::carrying::carry;
 use crate::filling::{Fill, next_fill};
 use crate::maker::{Maker, take_of};
 use market_model::{NoMemory, OrderName, Rows, Side, ViewRow};
+use route_carrying::carry;
 use std::alloc::Global;
 use zone_graph::{Grid, Rooms};
 

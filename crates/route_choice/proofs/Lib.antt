@@ -1,4 +1,3 @@
-pub mod Carrying
 pub mod Flows
 pub mod Nearer
 pub mod Pours

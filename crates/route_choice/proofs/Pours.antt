@@ -15,8 +15,8 @@ use Rattle.zone_graph.proofs.Runs.{run-measured, run-unique}
 use Rattle.cut_proof.specs.Cut.{HasRoomFor}
 use Rattle.cut_proof.proofs.Crossing.{legs_in}
 use Rattle.cut_proof.proofs.ReachLaws.{has-towards, no_room_enters, towards-has}
+use Rattle.route_carrying.proofs.Carrying.{after_leg, carried-le, carried-room, carried-some, way-room}
 use Rattle.route_choice.specs.Poured.{AreRoomsAfterSome, CarryTheMost, lots_of, rooms_after}
-use Rattle.route_choice.proofs.Carrying.{carried-le, carried-room, carried-some, way-room}
 
 -- ---- one leg
 
@@ -69,12 +69,6 @@ none_left_or_no_route graph room from to (suc more) e = by (best_route graph roo
         → (suc more ≡ 0) ⊎ (best_route graph room from to ≡ None)
     by None found f = inr found
     by (Some route) found f = cc
-
--- the rooms after a route has carried the leg's lots are those after the leg
-pub after_leg : (before after : Arc → ℕ) (leg : RouteLeg) (route : List Arc) → route ≡ leg.route
-    → ((x : Arc) → after x ≡ room_after before (record { route = route; lots = leg.lots }) x) → room_after before leg ≡ after
-after_leg before after leg route e over =
-    sym (ap (λ r. room_after before (record { route = r; lots = leg.lots })) e) ∙ (λ i. λ x. sym (over x) i)
 
 -- ---- the legs of a pour
 

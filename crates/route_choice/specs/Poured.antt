@@ -1,11 +1,11 @@
 -- What a pour leaves of the rooms, and that it carries as much as they allow.
-use Rattle.std.specs.Prelude.{◌≡◌, ◌≢◌, ℕ, ◌+◌, ◌<◌, ◌≤◌, ◌^◌, ◌⊎◌, false, List, [], ◌∷◌, fold, sum_by, take}
+use Rattle.std.specs.Prelude.{◌≡◌, ℕ, ◌⊎◌, false, List, fold, sum_by, take}
 use Rattle.zone_graph.specs.declared.route.Arc.{Arc}
 use Rattle.zone_graph.specs.declared.route.RouteLeg.{RouteLeg}
-use Rattle.zone_graph.specs.Graph.{Graph, HasArc}
-use Rattle.zone_graph.specs.Pour.{opposite_arc, room_after}
+use Rattle.zone_graph.specs.Graph.{Graph}
+use Rattle.zone_graph.specs.Pour.{room_after}
 use Rattle.zone_graph.specs.Reach.{entering_room, zones_towards}
-use Rattle.zone_graph.specs.Route.{IsIn, has}
+use Rattle.zone_graph.specs.Route.{has}
 
 -- the rooms after legs, in their order
 abbrev pub rooms_after : (Arc → ℕ) → List RouteLeg → Arc → ℕ
@@ -14,10 +14,6 @@ rooms_after room legs = fold room_after room legs
 -- the lots of legs together
 abbrev pub lots_of : List RouteLeg → ℕ
 lots_of legs = sum_by (λ leg. leg.lots) legs
-
--- the rooms of the two arcs of each border are less than 2^32 together
-abbrev pub FitTogether : Graph → (Arc → ℕ) → Type 0
-FitTogether graph room = (arc : Arc) → HasArc graph arc → room arc + room (opposite_arc arc) < 2 ^ 32
 
 -- the rooms are those after legs
 abbrev pub AreRoomsAfter : (before after : Arc → ℕ) → List RouteLeg → Type 0
@@ -34,11 +30,3 @@ abbrev pub CarryTheMost : Graph → (before after : Arc → ℕ) → (from to mo
 CarryTheMost graph before after from to most legs =
     let zones = zones_towards graph after to in
     (lots_of legs ≡ most) ⊎ ((lots_of legs ≡ entering_room graph before zones) × (has from zones ≡ false))
-
--- lots can be carried over a route, arc by arc: over each arc there is room for them, the opposite
--- room stays below 2^32, and no border stands twice
-abbrev pub CanCarry : (borders : ℕ) → (Arc → ℕ) → (lots : ℕ) → List Arc → Type 0
-CanCarry borders room lots [] = Unit {0}
-CanCarry borders room lots (arc ∷ arcs) =
-    (arc.border < borders) × (lots ≤ room arc) × (room (opposite_arc arc) + lots < 2 ^ 32)
-    × ((other : Arc) → IsIn other arcs → other.border ≢ arc.border) × CanCarry borders room lots arcs

@@ -1,17 +1,17 @@
 //! Pouring lots from zone to zone over one best route after another.
 
-ghost use Rattle.std.specs.Prelude.{◌≡◌, ◌<◌, ◌≤◌, ◌+◌, ◌^◌, ◌∷◌, [], ℕ, IfOk, OnErr, length, slice_index_or};
-ghost use Rattle.zone_graph.specs.declared.route.Arc.{Arc};
-ghost use Rattle.zone_graph.specs.Graph.{HasArc, HasZone, border_count};
+ghost use Rattle.std.specs.Prelude.{◌≡◌, ◌<◌, IfOk, OnErr, length};
+ghost use Rattle.zone_graph.specs.Graph.{HasZone, border_count};
 ghost use Rattle.zone_graph.specs.Grid.{IsGrid};
-ghost use Rattle.zone_graph.specs.Pour.{opposite_arc, pour as legs_poured, pour_leg, room_after};
+ghost use Rattle.zone_graph.specs.Pour.{pour as legs_poured, pour_leg};
 ghost use Rattle.zone_graph.specs.Rooms.{room_of};
-ghost use Rattle.zone_graph.specs.Route.{carried};
-ghost use Rattle.route_choice.specs.Poured.{AreRoomsAfter, AreRoomsAfterSome, CanCarry, CarryTheMost, FitTogether};
+ghost use Rattle.route_carrying.specs.Carrying.{FitTogether};
+ghost use Rattle.route_choice.specs.Poured.{AreRoomsAfter, AreRoomsAfterSome, CarryTheMost};
 
 use crate::choice::best_route;
+use route_carrying::{carried, carry};
 use std::alloc::Global;
-use zone_graph::{Arc, Grid, Legs, NoMemory, Rooms, RouteLeg};
+use zone_graph::{Grid, Legs, NoMemory, Rooms, RouteLeg};
 
 /// Pours lots from a zone to a zone: while some are left and a route has room, the best route
 /// carries the least of them and of its own room, which lowers the rooms along it and raises the
@@ -76,43 +76,6 @@ fn next_leg(
     let Some(route) = best_route(alloc, grid, rooms, from, to)? else {
         return Ok(None);
     };
-    let lots = least_room(rooms, route.as_slice(), left);
+    let lots = carried(rooms, left, route.as_slice());
     Ok(Some(RouteLeg { route, lots }))
-}
-
-// The least of a number of lots and of the rooms of arcs.
-fn least_room(rooms: &Rooms, route: &[Arc], lots: u32) -> u32
-    requires { (index : ℕ) (other : Arc) → index < length route.now → (slice_index_or route.now index other).border < length rooms.now }
-    ensures { result ≡ carried (room_of rooms.now) lots route.now }
-{
-    let mut least = lots;
-    for arc in route {
-        least = least.min(rooms.at(*arc));
-    }
-    least
-}
-
-// Carries lots over a route.
-fn carry(rooms: &mut Rooms, route: &[Arc], lots: u32)
-    requires { CanCarry (length rooms.old) (room_of rooms.old) lots route.now }
-    ensures size { length rooms.new ≡ length rooms.old }
-    ensures rooms { (arc : Arc) → room_of rooms.new arc ≡ room_after (room_of rooms.old) (record { route = route.now; lots = lots }) arc }
-{
-    for arc in route {
-        carry_over(rooms, *arc, lots);
-    }
-}
-
-// Carries lots over one arc: lowers its room and raises that of the opposite one.
-fn carry_over(rooms: &mut Rooms, arc: Arc, lots: u32)
-    requires border { arc.border < length rooms.old }
-    requires room { lots ≤ room_of rooms.old arc }
-    requires back { room_of rooms.old (opposite_arc arc) + lots < 2 ^ 32 }
-    ensures size { length rooms.new ≡ length rooms.old }
-    ensures rooms { (other : Arc) → room_of rooms.new other ≡ room_after (room_of rooms.old) (record { route = arc ∷ []; lots = lots }) other }
-{
-    let room = rooms.at(arc);
-    let back = rooms.at(arc.opposite());
-    rooms.set(arc, room - lots);
-    rooms.set(arc.opposite(), back + lots);
 }

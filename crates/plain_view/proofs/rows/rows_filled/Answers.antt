@@ -1,8 +1,8 @@
 use Rattle.std.proofs.Common.{◌≡◌, ◌∙◌, Some, length, refl, sym, subst, arith}
 use Rattle.zone_graph.specs.Pour.{room_after}
 use Rattle.zone_graph.specs.Rooms.{room_of}
-use Rattle.route_choice.specs.Poured.{CanCarry, FitTogether}
-use Rattle.route_choice.proofs.Carrying.{fit-kept, route_can_carry}
+use Rattle.route_carrying.specs.Carrying.{CanCarry, FitTogether}
+use Rattle.route_carrying.proofs.Carrying.{after_leg, fit-kept, route_can_carry}
 use Rattle.plain_view.specs.Depth.{AreInZones, buyer_zone, depth_of, next_fill, seller_zone}
 use Rattle.plain_view.proofs.Fills.{all-so_far, can_add, carried_by, depth-after, next_fill-is, so_far-at, taken-in_zones}
 use Rattle.plain_view.proofs.rows.rows_filled.Goals as goal
@@ -38,7 +38,7 @@ loop-rows-preserved c =
     sym c.in_ok-fill.ensures.fill ∙ c.in-Some.is in
     let f = next_fill-is c.args.grid.now c.args.side c.args.zone (depth_of c.loop-rows.makers c.loop-rows.rooms c.loop-rows.left) c.in-Some.fill c.next_fill.ensures.grid.is_graph next in
     let over : room_after (room_of c.loop-rows.rooms) (carried_by c.in-Some.fill) ≡ room_of c.carry.new.rooms =
-    Rattle.route_choice.proofs.Pours.after_leg (room_of c.loop-rows.rooms) (room_of c.carry.new.rooms) (carried_by c.in-Some.fill) c.as_slice.result.now c.as_slice.ensures c.carry.ensures.rooms in
+    after_leg (room_of c.loop-rows.rooms) (room_of c.carry.new.rooms) (carried_by c.in-Some.fill) c.as_slice.result.now c.as_slice.ensures c.carry.ensures.rooms in
     record {
       size = c.carry.ensures.size ∙ c.loop-rows.invariant.size;
       fit = subst (FitTogether c.args.grid.now) over (fit-kept c.args.grid.now (room_of c.loop-rows.rooms) (carried_by c.in-Some.fill) c.loop-rows.invariant.fit f.fits.has_room);

@@ -11,7 +11,7 @@ use Rattle.cut_proof.specs.Cut.{HasRoomFor}
 use Rattle.cut_proof.proofs.Arcs.{IsIn-uses, same_arc-is}
 use Rattle.cut_proof.proofs.Ways.{borders_once, way_has_arc}
 use Rattle.zone_search.proofs.Arcs.{opposite-twice}
-use Rattle.route_choice.specs.Poured.{CanCarry, FitTogether}
+use Rattle.route_carrying.specs.Carrying.{CanCarry, FitTogether}
 
 -- ---- what a route carries
 
@@ -35,6 +35,14 @@ carried-some room lots [] has some = some
 carried-some room lots (arc ∷ arcs) has some =
     let here : 0 < room arc = has arc (inl refl) in
     carried-some room (min lots (room arc)) arcs (λ a i. has a (inr i)) (omega arith)
+
+-- as much under other rooms that agree on the graph's arcs
+pub carried-rooms : (graph : Graph) (room other : Arc → ℕ) (lots : ℕ) (route : List Arc) → ((arc : Arc) → HasArc graph arc → room arc ≡ other arc)
+    → ((arc : Arc) → IsIn arc route → HasArc graph arc) → carried room lots route ≡ carried other lots route
+carried-rooms graph room other lots [] same known = refl
+carried-rooms graph room other lots (arc ∷ arcs) same known =
+    ap (λ n. carried room (min lots n) arcs) (same arc (known arc (inl refl)))
+    ∙ carried-rooms graph room other (min lots (other arc)) arcs same (λ a i. known a (inr i))
 
 -- each arc of a way has room
 pub way-room : (graph : Graph) (room : Arc → ℕ) (from to : ℕ) (arcs : List Arc) → IsWay graph room from arcs to → (arc : Arc) → IsIn arc arcs → 0 < room arc
@@ -169,3 +177,11 @@ others_carry before room room' borders lots route rest arc over can on x =
 
 pub none_left : (before room : Arc → ℕ) (lots : ℕ) (route : List Arc) → AreCarriedOn before room lots route [] → (x : Arc) → room x ≡ room_after before (over_all route lots) x
 none_left before room lots route on x = let plain : room_after room (over_all [] lots) x ≡ room x = omega arith in sym plain ∙ on x
+
+-- ---- a leg
+
+-- the rooms after a route has carried the leg's lots are those after the leg
+pub after_leg : (before after : Arc → ℕ) (leg : RouteLeg) (route : List Arc) → route ≡ leg.route
+    → ((x : Arc) → after x ≡ room_after before (record { route = route; lots = leg.lots }) x) → room_after before leg ≡ after
+after_leg before after leg route e over =
+    sym (ap (λ r. room_after before (record { route = r; lots = leg.lots })) e) ∙ (λ i. λ x. sym (over x) i)

@@ -2,9 +2,9 @@ use Rattle.std.proofs.Common.{◌≡◌, ◌∙◌, ◌+◌, ◌∷◌, false, d
 use Rattle.std.proofs.lemmas.List.{drop_more}
 use Rattle.zone_graph.specs.declared.route.Arc.{Arc}
 use Rattle.zone_graph.specs.Rooms.{room_of}
-use Rattle.route_choice.specs.Poured.{CanCarry}
-use Rattle.route_choice.proofs.Carrying.{AreCarriedOn, others_can, others_carry}
-use Rattle.plain_view.proofs.carrying.carry.Goals as goal
+use Rattle.route_carrying.specs.Carrying.{CanCarry}
+use Rattle.route_carrying.proofs.Carrying.{AreCarriedOn, others_can, others_carry}
+use Rattle.route_carrying.proofs.over_routes.carry.Goals as goal
 
 abbrev no_arc : Arc
 no_arc = record { border = 0; forward = false }

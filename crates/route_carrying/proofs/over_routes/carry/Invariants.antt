@@ -1,8 +1,8 @@
 use Rattle.std.proofs.Common.{◌≡◌, drop, length}
 use Rattle.zone_graph.specs.Rooms.{room_of}
-use Rattle.route_choice.specs.Poured.{CanCarry}
-use Rattle.route_choice.proofs.Carrying.{AreCarriedOn}
-use Rattle.plain_view.proofs.carrying.carry.Given as goal
+use Rattle.route_carrying.specs.Carrying.{CanCarry}
+use Rattle.route_carrying.proofs.Carrying.{AreCarriedOn}
+use Rattle.route_carrying.proofs.over_routes.carry.Given as goal
 
 -- the arcs that are left can carry the lots, and then the rooms are those after all arcs have
 abbrev pub invariant-loop-arc : goal.invariant-loop-arc
