@@ -1,5 +1,6 @@
 pub mod Journal
+pub mod Laws
+pub mod Outcomes
 pub mod Reading
 pub mod Status
-pub mod Words
 pub mod Writing

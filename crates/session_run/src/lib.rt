@@ -1,15 +1,17 @@
-//! A run of the program: the words of the command line, a session read from a source, the market
-//! that it plays, and the journal written to a sink.
+//! A run of the program: the words of the command line, a session that is read from a source or
+//! generated, the market that it plays, and the journal or its summary written to a sink.
 #![tactic(auto)]
 
 mod counts;
+mod generating;
 mod journal;
+mod laws;
 mod reading;
 mod running;
 mod status;
-mod words;
 mod writing;
 
+pub use laws::each_command_once;
 pub use running::{run, run_alone};
 pub use status::{Status, message};
 

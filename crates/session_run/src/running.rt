@@ -2,18 +2,20 @@
 
 ghost use Rattle.std.specs.Prelude.{◌≡◌, ◌≢◌, ◌≤◌, ◌↔◌, ◌⊎◌, ℕ, List, IsTrue, Ok, Some, None, false, length};
 ghost use Rattle.outside.specs.Faults.{Rose};
-ghost use Rattle.session_run.specs.Journal.{Outcome};
+ghost use Rattle.session_run.specs.Outcomes.{Generated, Replayed};
 ghost use Rattle.market_text.specs.Text.{session_of_text};
 ghost use Rattle.market_text.specs.declared.session.Session.{Session};
 ghost use Rattle.session_run.specs.Reading.{Reads, longest_session};
 ghost use Rattle.session_run.specs.Status.{writes_nothing};
-ghost use Rattle.session_run.specs.Words.{task_of as task_named, is_trade as trades};
+ghost use Rattle.command_words.specs.Words.{task_of as task_named, is_trade as trades};
+ghost use Rattle.command_words.specs.declared.words.Task.TheVariants as task;
 
+use crate::generating::generate;
 use crate::journal::journal_of;
 use crate::reading::{ReadError, read_all};
 use crate::status::Status;
-use crate::words::{Task, is_trade, task_of};
 use crate::writing::{WriteError, write_journal};
+use command_words::{Task, is_trade, task_of};
 use market_text::{TextFault, read_session};
 use outside::{Gate, Sink, Source};
 use std::alloc::Global;
@@ -24,8 +26,9 @@ use zone_graph::Word;
 /// Does what the words of a command line ask for.
 ///
 /// `replay` reads a session from the source, to its end, plays it in the order of its lines, and
-/// writes the journal to the sink, a line for each entry. Every other list of words is
-/// [`Status::Usage`].
+/// writes the journal to the sink, a line for each entry. `generate N` reads nothing, plays the
+/// session that is generated for N commands in the same way, and writes the summary of its journal.
+/// Every other list of words is [`Status::Usage`].
 pub fn run<R: Threads + Wait + Sync, S: Source, K: Sink, G: Gate>(
     _rt: &R,
     alloc: Global,
@@ -35,11 +38,13 @@ pub fn run<R: Threads + Wait + Sync, S: Source, K: Sink, G: Gate>(
     _gate: &G,
 ) -> Status
     ensures usage { (result ≡ Status.Usage) ↔ (task_named words.now ≡ None) }
-    ensures unread { result ≡ Status.Usage → source.new ≡ source.old }
+    ensures unread { task_named words.now ≢ Some task.Replay → source.new ≡ source.old }
     ensures unwritten { IsTrue (writes_nothing result) → sink.new ≡ sink.old }
-    ensures outcome { (bytes : List ℕ) → S.left source.old ≡ Some bytes → Outcome bytes result (K.written sink.old) (K.written sink.new) }
-    ensures complete { (bytes : List ℕ) (session : Session) → task_named words.now ≢ None → S.left source.old ≡ Some bytes → session_of_text bytes ≡ Ok session → length bytes ≤ longest_session → ¬ Rose (S.faults source.old) (S.faults source.new) → ¬ Rose (K.faults sink.old) (K.faults sink.new) → (result ≡ Status.Done) ⊎ (result ≡ Status.NoMemory) }
-    ensures reads { task_named words.now ≢ None → result ≢ Status.NoMemory → Reads (S.left source.old) (S.left source.new) result }
+    ensures replayed { (bytes : List ℕ) → task_named words.now ≡ Some task.Replay → S.left source.old ≡ Some bytes → Replayed bytes result (K.written sink.old) (K.written sink.new) }
+    ensures generated { (commands : ℕ) → task_named words.now ≡ Some (task.Generate commands) → Generated commands result (K.written sink.old) (K.written sink.new) }
+    ensures complete { (bytes : List ℕ) (session : Session) → task_named words.now ≡ Some task.Replay → S.left source.old ≡ Some bytes → session_of_text bytes ≡ Ok session → length bytes ≤ longest_session → ¬ Rose (S.faults source.old) (S.faults source.new) → ¬ Rose (K.faults sink.old) (K.faults sink.new) → (result ≡ Status.Done) ⊎ (result ≡ Status.NoMemory) }
+    ensures complete_generated { (commands : ℕ) → task_named words.now ≡ Some (task.Generate commands) → ¬ Rose (K.faults sink.old) (K.faults sink.new) → (result ≡ Status.Done) ⊎ (result ≡ Status.NoMemory) }
+    ensures reads { task_named words.now ≡ Some task.Replay → result ≢ Status.NoMemory → Reads (S.left source.old) (S.left source.new) result }
     ensures read_count { S.faults source.old ≤ S.faults source.new }
     ensures read_fault { result ≡ Status.ReadFault → Rose (S.faults source.old) (S.faults source.new) }
     ensures write_count { K.faults sink.old ≤ K.faults sink.new }
@@ -60,19 +65,23 @@ pub fn run_alone<S: Source, K: Sink>(
 ) -> Status
     requires { trades words.now ≡ false }
     ensures usage { (result ≡ Status.Usage) ↔ (task_named words.now ≡ None) }
-    ensures unread { result ≡ Status.Usage → source.new ≡ source.old }
+    ensures unread { task_named words.now ≢ Some task.Replay → source.new ≡ source.old }
     ensures unwritten { IsTrue (writes_nothing result) → sink.new ≡ sink.old }
-    ensures outcome { (bytes : List ℕ) → S.left source.old ≡ Some bytes → Outcome bytes result (K.written sink.old) (K.written sink.new) }
-    ensures complete { (bytes : List ℕ) (session : Session) → task_named words.now ≢ None → S.left source.old ≡ Some bytes → session_of_text bytes ≡ Ok session → length bytes ≤ longest_session → ¬ Rose (S.faults source.old) (S.faults source.new) → ¬ Rose (K.faults sink.old) (K.faults sink.new) → (result ≡ Status.Done) ⊎ (result ≡ Status.NoMemory) }
-    ensures reads { task_named words.now ≢ None → result ≢ Status.NoMemory → Reads (S.left source.old) (S.left source.new) result }
+    ensures replayed { (bytes : List ℕ) → task_named words.now ≡ Some task.Replay → S.left source.old ≡ Some bytes → Replayed bytes result (K.written sink.old) (K.written sink.new) }
+    ensures generated { (commands : ℕ) → task_named words.now ≡ Some (task.Generate commands) → Generated commands result (K.written sink.old) (K.written sink.new) }
+    ensures complete { (bytes : List ℕ) (session : Session) → task_named words.now ≡ Some task.Replay → S.left source.old ≡ Some bytes → session_of_text bytes ≡ Ok session → length bytes ≤ longest_session → ¬ Rose (S.faults source.old) (S.faults source.new) → ¬ Rose (K.faults sink.old) (K.faults sink.new) → (result ≡ Status.Done) ⊎ (result ≡ Status.NoMemory) }
+    ensures complete_generated { (commands : ℕ) → task_named words.now ≡ Some (task.Generate commands) → ¬ Rose (K.faults sink.old) (K.faults sink.new) → (result ≡ Status.Done) ⊎ (result ≡ Status.NoMemory) }
+    ensures reads { task_named words.now ≡ Some task.Replay → result ≢ Status.NoMemory → Reads (S.left source.old) (S.left source.new) result }
     ensures read_count { S.faults source.old ≤ S.faults source.new }
     ensures read_fault { result ≡ Status.ReadFault → Rose (S.faults source.old) (S.faults source.new) }
     ensures write_count { K.faults sink.old ≤ K.faults sink.new }
     ensures write_fault { result ≡ Status.WriteFault → Rose (K.faults sink.old) (K.faults sink.new) }
 {
-    match task_of(words) {
-        None => Status::Usage,
-        Some(Task::Replay) => replay(alloc, source, sink),
+    match task_of(alloc, words) {
+        Ok(Some(Task::Replay)) => replay(alloc, source, sink),
+        Ok(Some(Task::Generate { commands })) => generate(alloc, commands, sink),
+        Ok(None) => Status::Usage,
+        Err(_) => Status::NoMemory,
     }
 }
 
@@ -80,7 +89,7 @@ pub fn run_alone<S: Source, K: Sink>(
 fn replay<S: Source, K: Sink>(alloc: Global, source: &mut S, sink: &mut K) -> Status
     ensures usage { result ≢ Status.Usage }
     ensures unwritten { IsTrue (writes_nothing result) → sink.new ≡ sink.old }
-    ensures outcome { (bytes : List ℕ) → S.left source.old ≡ Some bytes → Outcome bytes result (K.written sink.old) (K.written sink.new) }
+    ensures replayed { (bytes : List ℕ) → S.left source.old ≡ Some bytes → Replayed bytes result (K.written sink.old) (K.written sink.new) }
     ensures reads { result ≢ Status.NoMemory → Reads (S.left source.old) (S.left source.new) result }
     ensures read_count { S.faults source.old ≤ S.faults source.new }
     ensures read_fault { result ≡ Status.ReadFault → Rose (S.faults source.old) (S.faults source.new) }

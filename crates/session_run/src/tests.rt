@@ -1,7 +1,11 @@
 //! Whole runs, where no clause says what comes.
 
-ghost use Rattle.std.specs.Prelude.{◌≡◌, false, IfOk};
-ghost use Rattle.session_run.specs.Words.{is_trade};
+ghost use Rattle.std.specs.Prelude.{◌≡◌, ◌≤◌, ◌⊎◌, Ok, Some, false, length, IfOk};
+ghost use Rattle.command_words.specs.Words.{is_trade, task_of};
+ghost use Rattle.command_words.specs.declared.words.Task.TheVariants as task;
+ghost use Rattle.market_text.specs.Text.{session_of_text};
+ghost use Rattle.market_text.specs.declared.session.Session.{Session};
+ghost use Rattle.session_run.specs.Reading.{longest_session};
 
 use super::*;
 use outside::{BytesSink, BytesSource, Failed, NullSink, OpenGate, Sink, Source, SteadySource};
@@ -33,7 +37,8 @@ const BEFORE_EACH_WRITE: [usize; 32] = [
 
 // The one word `replay`.
 fn replay_word(alloc: Global) -> Result<Sequence<Word>, NoMemory>
-    ensures { IfOk result (λ words. is_trade words ≡ false) }
+    ensures alone { IfOk result (λ words. is_trade words ≡ false) }
+    ensures task { IfOk result (λ words. task_of words ≡ Some task.Replay) }
 {
     let mut words = Sequence::new(alloc);
     words.push(Word::new(alloc, b"replay")?)?;
@@ -65,14 +70,19 @@ fn replay_writes_the_journal_of_a_sale(rt: HostRuntime) -> Result<(), Fail> {
     assert_eq!(rt; sink.bytes(), JOURNAL);
 
     let mut source = SteadySource::new(rt.alloc(), SALE)?;
-    let status = run_alone(
-        rt.alloc(),
-        words.as_slice(),
-        &mut source,
-        &mut NullSink::new(),
-    );
+    let status = replay_steadily(rt.alloc(), words.as_slice(), &mut source);
     assert_eq!(rt; status, Status::Done);
     Ok(())
+}
+
+// From a source and to a sink that never fail, each session that is not too long is played, unless
+// memory is wanting.
+fn replay_steadily(alloc: Global, words: &[Word], source: &mut SteadySource) -> Status
+    requires alone { is_trade words.now ≡ false }
+    requires task { task_of words.now ≡ Some task.Replay }
+    ensures { (session : Session) → session_of_text source.old ≡ Ok session → length source.old ≤ longest_session → (result ≡ Status.Done) ⊎ (result ≡ Status.NoMemory) }
+{
+    run_alone(alloc, words, source, &mut NullSink::new())
 }
 
 #[test]
@@ -85,6 +95,9 @@ fn other_words_mean_nothing(rt: HostRuntime) -> Result<(), Fail> {
         &["replay "],
         &["--help"],
         &["trade"],
+        &["generate"],
+        &["generate", "0"],
+        &["generate", "100001"],
     ] {
         let words = words_of(rt.alloc(), texts)?;
         let mut source = SteadySource::new(rt.alloc(), SALE)?;
@@ -153,6 +166,76 @@ fn each_failed_write_leaves_the_pieces_before_it(rt: HostRuntime) -> Result<(), 
     Ok(())
 }
 
+#[test]
+fn generate_sums_up_the_session_of_so_many_commands(rt: HostRuntime) -> Result<(), Fail> {
+    for (commands, summary) in [
+        (
+            "1",
+            b"entries 1\nrefused 0\nlegs 0\nblocklegs 0\nlots 0\n".as_slice(),
+        ),
+        (
+            "40",
+            b"entries 40\nrefused 0\nlegs 0\nblocklegs 0\nlots 0\n",
+        ),
+        (
+            "41",
+            b"entries 41\nrefused 0\nlegs 0\nblocklegs 0\nlots 0\n",
+        ),
+        (
+            "100",
+            b"entries 100\nrefused 2\nlegs 2\nblocklegs 1\nlots 115\n",
+        ),
+        (
+            "2000",
+            b"entries 2000\nrefused 127\nlegs 1523\nblocklegs 47\nlots 27358\n",
+        ),
+        // The same at each run.
+        (
+            "2000",
+            b"entries 2000\nrefused 127\nlegs 1523\nblocklegs 47\nlots 27358\n",
+        ),
+    ] {
+        let words = words_of(rt.alloc(), &["generate", commands])?;
+        // Its first read would fail: nothing is read.
+        let mut source = BytesSource::new(rt.alloc(), b"", 64, &[1])?;
+        let mut sink = BytesSink::new(rt.alloc(), 16, &[])?;
+        let status = run(
+            &rt,
+            rt.alloc(),
+            words.as_slice(),
+            &mut source,
+            &mut sink,
+            &OpenGate,
+        );
+        assert_eq!(rt; status, Status::Done);
+        assert_eq!(rt; sink.bytes(), summary);
+    }
+    Ok(())
+}
+
+#[test]
+fn each_failed_write_leaves_a_first_part_of_the_summary(rt: HostRuntime) -> Result<(), Fail> {
+    let summary = b"entries 40\nrefused 0\nlegs 0\nblocklegs 0\nlots 0\n";
+    // What is written before each write of at most 8 bytes of what is left of a line.
+    let before_each_write = [0, 8, 11, 19, 21, 28, 36, 40];
+    let words = words_of(rt.alloc(), &["generate", "40"])?;
+    for (place, end) in before_each_write.iter().enumerate() {
+        let mut source = SteadySource::new(rt.alloc(), b"")?;
+        let mut sink = BytesSink::new(rt.alloc(), 8, &[place as u64 + 1])?;
+        let status = run(
+            &rt,
+            rt.alloc(),
+            words.as_slice(),
+            &mut source,
+            &mut sink,
+            &OpenGate,
+        );
+        assert_eq!(rt; status, Status::WriteFault, "write {place}");
+        assert_eq!(rt; Some(sink.bytes()), summary.get(..*end));
+    }
+    Ok(())
+}
+
 // A sink that takes at most 10 bytes of a piece, and notes how long each piece was.
 #[derive(Drop)]
 struct Noting {
@@ -184,6 +267,22 @@ fn each_write_is_handed_what_is_left_of_one_line(rt: HostRuntime) -> Result<(), 
     let lengths = [
         74, 64, 54, 44, 34, 24, 14, 4, 115, 105, 95, 85, 75, 65, 55, 45, 35, 25, 15, 5,
     ];
+    assert_eq!(rt; sink.lengths.as_slice(), lengths.as_slice());
+
+    let words = words_of(rt.alloc(), &["generate", "40"])?;
+    let mut sink = Noting {
+        lengths: Vec::new(rt.alloc()),
+    };
+    let status = run(
+        &rt,
+        rt.alloc(),
+        words.as_slice(),
+        &mut source,
+        &mut sink,
+        &OpenGate,
+    );
+    assert_eq!(rt; status, Status::Done);
+    let lengths = [11, 1, 10, 7, 12, 2, 7];
     assert_eq!(rt; sink.lengths.as_slice(), lengths.as_slice());
     Ok(())
 }

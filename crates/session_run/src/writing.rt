@@ -1,6 +1,6 @@
 //! The journal is written line by line.
 
-ghost use Rattle.std.specs.Prelude.{◌≡◌, ◌≤◌, ℕ, List, All, OnOk, OnErr};
+ghost use Rattle.std.specs.Prelude.{◌≡◌, ◌<◌, ◌≤◌, ℕ, List, All, OnOk, OnErr, length};
 ghost use Rattle.std.specs.Io.KnownBytes.{Appends};
 ghost use Rattle.outside.specs.Faults.{Rose};
 ghost use Rattle.market_model.specs.Naming.{IsEntryIn, IsNamed};
@@ -63,6 +63,34 @@ pub fn write_journal<K: Sink>(
         write_line(sink, line.bytes())?;
     }
     Ok(())
+}
+
+/// Writes a text, line by line. Each write is handed all that is left of one line.
+pub fn write_lines<K: Sink>(sink: &mut K, text: &[u8]) -> Result<(), Failed>
+    ensures count { K.faults sink.old ≤ K.faults sink.new }
+    ensures ok { OnOk result (Appends (K.written sink.old) (K.written sink.new) text.now) }
+    ensures front { OnErr result ((rest : List ℕ) × Wrote (K.written sink.old) (K.written sink.new) text.now rest) }
+    ensures fault { OnErr result (Rose (K.faults sink.old) (K.faults sink.new)) }
+{
+    let mut rest = text;
+    while !rest.is_empty() {
+        let (line, after) = rest.split_at(line_length(rest));
+        write_line(sink, line)?;
+        rest = after;
+    }
+    Ok(())
+}
+
+// The length of the first line of a text, with its line feed where it has one.
+fn line_length(text: &[u8]) -> usize
+    requires { 0 < length text.now }
+    ensures some { 0 < result }
+    ensures within { result ≤ length text.now }
+{
+    match text.iter().position(|byte| *byte == b'\n') {
+        Some(place) => place + 1,
+        None => text.len(),
+    }
 }
 
 // Writes one line, whatever part of it each write takes.

@@ -1,0 +1,31 @@
+-- What the parser of command lines makes of the words.
+use Rattle.std.specs.Prelude.{true, List, codes, Option, Some, None, if◌then◌else◌}
+use Rattle.std.specs.Option.{option_and_then, option_map}
+use Rattle.std.specs.Str.{bytes_eq}
+use Rattle.clap.specs.Words.{App, Row, Text, first_of, new_app, new_rule, with_rule, with_subcommand}
+use Rattle.clap.specs.Simple.{on_top}
+use Rattle.command_words.specs.Words.{count_of}
+use Rattle.command_words.specs.declared.words.Task.{Task}
+use Rattle.command_words.specs.declared.words.Task.TheVariants as task
+
+-- the word `replay`, with nothing behind it
+abbrev pub replay : App
+replay = new_app (codes "replay")
+
+-- the word `generate`, with a number of commands behind it
+abbrev pub generate : App
+generate = with_rule (new_app (codes "generate")) (record (new_rule (codes "N")) { required = true })
+
+-- the command line of the program: one of these words, and no options
+abbrev pub program : App
+program = with_subcommand (with_subcommand top replay.top) generate.top
+  where
+    top : App
+    top = on_top (λ shape. record shape { no_binary_name = true; disable_help_flag = true; disable_help_subcommand = true }) (new_app (codes "sidc"))
+
+-- what the matches ask for, if they ask for anything
+abbrev pub task_matched : Option (Text × List Row) → Option Task
+task_matched None = None
+task_matched (Some (name, rows)) =
+    if bytes_eq name (codes "replay") then Some task.Replay
+    else option_map task.Generate (option_and_then count_of (first_of (codes "N") rows))
