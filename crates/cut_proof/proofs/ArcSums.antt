@@ -8,7 +8,7 @@ use Rattle.zone_graph.specs.Graph.{Graph, HasArc, arcs_of, arcs_over, border_cou
 use Rattle.zone_graph.specs.Pour.{lots_if, opposite_arc, same_arc, same_bool, uses}
 use Rattle.zone_graph.specs.Route.{AreDifferent, IsIn}
 use Rattle.zone_graph.proofs.Membership.{IsIn-map}
-use Rattle.cut_proof.proofs.Arcs.{IsIn-uses, over, over-is, same_arc-is}
+use Rattle.zone_graph.proofs.Arcs.{IsIn-uses, one_or_other, over, over-is, same_arc-is}
 
 -- one number more
 pub range_more : (first count : ℕ) → range_with_len first (suc count) ≡ range_with_len first count ++ (first + count) ∷ []
@@ -110,12 +110,6 @@ sum_at graph f arc known = at_one_border f arc 0 (border_count graph) (omega ari
 -- what counts at the arcs of a route alone
 abbrev pub at_route : (Arc → ℕ) → List Arc → Arc → ℕ
 at_route f route arc = lots_if (uses route arc) (f arc)
-
--- where two tests do not both hold, what counts where one does is what counts where each does
-one_or_other : (a b : Bool) (n : ℕ) → (a ≡ true → b ≡ true → ⊥) → lots_if (a || b) n ≡ lots_if a n + lots_if b n
-one_or_other true true n apart = absurd (apart refl refl)
-one_or_other true false n apart = omega arith
-one_or_other false b n apart = omega arith
 
 -- over all arcs, what counts at the arcs of a route is the sum over the route
 pub sum_route : (graph : Graph) (f : Arc → ℕ) (route : List Arc) → ((arc : Arc) → IsIn arc route → HasArc graph arc)

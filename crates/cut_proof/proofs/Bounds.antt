@@ -11,10 +11,10 @@ use Rattle.zone_graph.specs.Grid.{IsGrid}
 use Rattle.zone_graph.specs.Pour.{lots_if}
 use Rattle.zone_graph.specs.Reach.{enters, leaves}
 use Rattle.zone_graph.specs.Route.{has}
+use Rattle.zone_graph.proofs.Arcs.{over}
 use Rattle.cut_proof.specs.Cut.{crossing_room}
 use Rattle.cut_proof.specs.ZoneSet.{HoldsZones, holds}
 use Rattle.cut_proof.proofs.ArcSums.{range_more, sum_passing}
-use Rattle.cut_proof.proofs.Arcs.{over}
 
 -- an arc leads into a set of zones, or out of it, by which of its ends are inside
 abbrev pub crosses_by : (towards start end : Bool) → Bool

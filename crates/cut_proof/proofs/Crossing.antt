@@ -8,10 +8,9 @@ use Rattle.zone_graph.specs.Graph.{Graph, HasArc, arcs_of, end_of, start_of}
 use Rattle.zone_graph.specs.Pour.{lots_if, opposite_arc, room_after, uses}
 use Rattle.zone_graph.specs.Reach.{entering_room, enters, leaves, leaving_room}
 use Rattle.zone_graph.specs.Route.{AreDifferent, IsIn, IsWay, has}
-use Rattle.zone_search.proofs.Arcs.{opposite-end, opposite-start}
+use Rattle.zone_graph.proofs.Arcs.{IsIn-uses, opposite-start, opposite-end}
 use Rattle.cut_proof.specs.Cut.{HasRoomFor, InnerLegsKeepTheCut, LegsInTakeEnteringRoom, LegsOutTakeLeavingRoom}
 use Rattle.cut_proof.proofs.ArcSums.{at_route, sum_balance, sum_opposite, sum_passing, sum_route}
-use Rattle.cut_proof.proofs.Arcs.{IsIn-uses}
 use Rattle.cut_proof.proofs.Ways.{borders_once, way_has_arc}
 
 -- lots that count at the arcs that pass a test

@@ -1,5 +1,4 @@
 pub mod ArcSums
-pub mod Arcs
 pub mod Bounds
 pub mod Crossing
 pub mod ReachLaws

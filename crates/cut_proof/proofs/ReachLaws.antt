@@ -12,10 +12,10 @@ use Rattle.zone_graph.specs.Route.{IsIn, IsWay, has}
 use Rattle.zone_graph.proofs.BestRoute.{reaches-route, route-reaches}
 use Rattle.zone_graph.proofs.Membership.{IsIn-filter, IsIn-has, IsIn-range, from_filter, has-IsIn}
 use Rattle.zone_graph.proofs.Routes.{end_within, from_arcs_of}
-use Rattle.zone_search.proofs.Arcs.{opposite-end, opposite-start}
+use Rattle.zone_graph.proofs.Arcs.{IsIn-uses, opposite-start, opposite-end}
+use Rattle.zone_graph.proofs.GridLemmas.{start_within}
 use Rattle.cut_proof.specs.Cut.{NoRoomEntersTheZonesTowards, NoRoomLeavesTheZonesBeyond, ReachFromAStartDoesNotGrow, ReachToAnEndDoesNotGrow}
 use Rattle.cut_proof.proofs.ArcSums.{sum_nothing}
-use Rattle.cut_proof.proofs.Arcs.{IsIn-uses}
 use Rattle.cut_proof.proofs.Ways.{way_has_route, way_longer, way_onward, way_until}
 
 -- a zone reaches the end of each way from it
@@ -115,10 +115,6 @@ has-beyond graph room zone other known there =
 pub beyond-has : (graph : Graph) (room : Arc → ℕ) (zone other : ℕ) → has other (zones_beyond graph room zone) ≡ true → reaches graph room zone other ≡ true
 beyond-has graph room zone other there =
     (from_filter (λ z. reaches graph room zone z) other (range_with_len 0 (zone_count graph)) (IsIn-has other (zones_beyond graph room zone) there)).1
-
--- an arc of a graph leads from a zone of it
-pub start_within : (graph : Graph) (arc : Arc) → IsGraph graph → HasArc graph arc → HasZone graph (start_of graph arc)
-start_within graph arc is known = subst (HasZone graph) (opposite-end graph arc) (end_within graph (opposite_arc arc) is known)
 
 -- of an arc that enters or leaves
 outside_inside : (a b : Bool) → (not a && b) ≡ true → (a ≡ false) × (b ≡ true)

@@ -10,8 +10,9 @@ use Rattle.zone_graph.specs.Pour.{opposite_arc}
 use Rattle.zone_graph.specs.Reach.{reaches}
 use Rattle.zone_graph.specs.Route.{IsWay}
 use Rattle.zone_graph.proofs.Membership.{from_filter, from_range}
+use Rattle.zone_graph.proofs.Arcs.{opposite-start, opposite-end, opposite-twice}
+use Rattle.zone_graph.proofs.Places.{at_place}
 use Rattle.zone_search.specs.Distance.{AreDistances, arcs_of_distance, directed_room, distance_at}
-use Rattle.zone_search.proofs.Arcs.{at_place, opposite-twice, opposite-end, opposite-start}
 use Rattle.zone_search.proofs.Nearest.{way_reached}
 use Rattle.cut_proof.specs.Cut.{reached_zones}
 use Rattle.cut_proof.proofs.ArcSums.{range_more}

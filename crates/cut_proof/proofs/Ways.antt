@@ -6,8 +6,7 @@ use Rattle.zone_graph.specs.declared.route.Arc.{Arc}
 use Rattle.zone_graph.specs.Graph.{Graph, HasArc, end_of, start_of}
 use Rattle.zone_graph.specs.Route.{AreDifferent, IsIn, IsRoute, IsWay, has, zones_on}
 use Rattle.zone_graph.proofs.Membership.{IsIn-has, IsIn-map, from_map, has-IsIn}
-use Rattle.zone_search.proofs.Arcs.{opposite-start}
-use Rattle.cut_proof.proofs.Arcs.{same_border}
+use Rattle.zone_graph.proofs.Arcs.{same_border, opposite-start}
 
 -- an arc of a way is one of the graph's
 pub way_has_arc : (graph : Graph) (room : Arc → ℕ) (from to : ℕ) (arcs : List Arc) (arc : Arc)

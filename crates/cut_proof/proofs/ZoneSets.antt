@@ -6,19 +6,12 @@ use Rattle.std.proofs.lemmas.Nat.Bits.{bit_at-zero, bit_at_set_other, bit_at_set
 use Rattle.std.specs.Int.{w64}
 use Rattle.std.specs.Int.RustNames.{bit_or}
 use Rattle.zone_graph.specs.Route.{has}
+use Rattle.zone_graph.proofs.Again.{or-false, or-true}
 use Rattle.cut_proof.specs.ZoneSet.{HoldsZones, holds}
 
 or_assoc : (a b c : Bool) → (a || (b || c)) ≡ ((a || b) || c)
 or_assoc true b c = refl
 or_assoc false b c = refl
-
-or-false : (b : Bool) → (b || false) ≡ b
-or-false true = refl
-or-false false = refl
-
-or-true : (b : Bool) → (b || true) ≡ true
-or-true true = refl
-or-true false = refl
 
 has_push : (zone other : ℕ) (zones : List ℕ) → has zone (zones ++ other ∷ []) ≡ (has zone zones || nat_eq other zone)
 has_push zone other [] = or-false (nat_eq other zone)

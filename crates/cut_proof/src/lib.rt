@@ -14,6 +14,3 @@ pub use laws::{
     reach_from_a_start_does_not_grow, reach_to_an_end_does_not_grow, routes_use_borders_once,
 };
 pub use reached::reach;
-
-#[cfg(test)]
-mod tests;

@@ -1,1 +1,2 @@
+pub mod Hours
 pub mod PriceOrder

@@ -14,6 +14,16 @@ use Rattle.order_kinds.specs.declared.order.OrderFault.TheVariants.{PriceOutOfRa
 use Rattle.order_kinds.specs.Price.{price_in_range, lots_in_range}
 use Rattle.order_kinds.specs.Contract.{hour_text}
 
+-- a plain limit order: what is not traded rests, and all of it shows
+abbrev pub is_limit : Kind → Bool
+is_limit kind.Limit = true
+is_limit _ = false
+
+-- an order that is traded wholly or not at all
+abbrev pub is_fill_or_kill : Kind → Bool
+is_fill_or_kill kind.Fok = true
+is_fill_or_kill _ = false
+
 -- the number, counted from 0, of the peak that shows after so many filled lots
 abbrev pub peak_number : (peak filled : ℕ) → ℕ
 peak_number peak filled = filled / peak

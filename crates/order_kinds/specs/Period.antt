@@ -1,6 +1,6 @@
 -- Periods: which quarters a contract, a block and a range of quarters have. The hours of a delivery
 -- day are numbered from 1, and the quarters of an hour from 1 to 4.
-use Rattle.std.specs.Prelude.{ℕ, ◌+◌, ◌-◌, Bool, ◌==◌, ◌&&◌, ◌||◌, List, [], ◌∷◌, map, filter, flat_map, nat_le, nat_lt}
+use Rattle.std.specs.Prelude.{ℕ, ◌+◌, ◌-◌, ◌≤◌, Bool, ◌==◌, ◌&&◌, ◌||◌, List, [], ◌∷◌, map, filter, flat_map, nat_le, nat_lt}
 use Rattle.std.specs.List.{range_with_len}
 use Rattle.order_kinds.specs.declared.contract.Contract.{Contract}
 use Rattle.order_kinds.specs.declared.contract.Quarter.{Quarter}
@@ -42,6 +42,10 @@ range_quarters first last =
 -- a quarter is one of its hour's four
 abbrev pub is_quarter : Quarter → Bool
 is_quarter quarter = nat_le 1 quarter.number && nat_le quarter.number 4
+
+-- something is true of the number of each quarter of an hour
+abbrev pub EachQuarter : ((number : ℕ) → Type 0) → Type 0
+EachQuarter P = (number : ℕ) → 1 ≤ number → number ≤ 4 → P number
 
 -- a contract delivers in a quarter
 abbrev pub contract_has : Contract → Quarter → Bool

@@ -2,6 +2,7 @@
 
 ghost use Rattle.std.specs.Prelude.{◌≡◌, Some};
 ghost use Rattle.order_kinds.specs.Contract as contracts;
+ghost use Rattle.order_kinds.specs.Period as periods;
 
 use std::fmt;
 
@@ -56,6 +57,15 @@ pub struct Contract {
     pub part: Part,
 }
 
+impl Contract {
+    /// Whether the contract delivers in a quarter.
+    pub fn has(self, quarter: Quarter) -> bool
+        ensures { result ≡ periods.contract_has self quarter }
+    {
+        self.hour == quarter.hour && self.part.covers(quarter.number)
+    }
+}
+
 impl fmt::Display for Contract {
     ghost output = { λ contract. Some (contracts.contract_text contract) };
 
@@ -79,6 +89,37 @@ pub struct Quarter {
 
     /// The number of the quarter in its hour, 1 to 4.
     pub number: u32,
+}
+
+impl Quarter {
+    /// Whether its hour has this quarter: the quarters of an hour are 1 to 4.
+    pub fn is_known(self) -> bool
+        ensures { result ≡ periods.is_quarter self }
+    {
+        1 <= self.number && self.number <= 4
+    }
+
+    /// Whether this quarter is another one or comes before it: quarters stand by hour, then by
+    /// number.
+    pub fn is_not_after(self, other: Quarter) -> bool
+        ensures { result ≡ periods.is_not_after self other }
+    {
+        self.hour < other.hour || (self.hour == other.hour && self.number <= other.number)
+    }
+
+    /// Whether this quarter is one of those from the first to the last.
+    pub fn is_in_range(self, first: Quarter, last: Quarter) -> bool
+        ensures { result ≡ periods.range_has first last self }
+    {
+        self.is_known() && first.is_not_after(self) && self.is_not_after(last)
+    }
+
+    /// Whether this quarter is one of the hours from the first to the last, as a block has them.
+    pub fn is_in_hours(self, first: u32, last: u32) -> bool
+        ensures { result ≡ periods.block_has first last self }
+    {
+        first <= self.hour && self.hour <= last && self.is_known()
+    }
 }
 
 impl fmt::Display for Quarter {

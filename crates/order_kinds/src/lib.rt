@@ -12,11 +12,11 @@ mod order;
 mod phase;
 mod price;
 mod side;
-#[cfg(test)]
-mod tests;
 
 pub use contract::{Contract, Part, Quarter};
-pub use order::{BlockOrder, Kind, Order, OrderFault, OrderName, check_block, check_order};
+pub use order::{
+    BlockOrder, Kind, Order, OrderFault, OrderName, check_block, check_order, peak_cents,
+};
 pub use phase::Phase;
 pub use price::{Lots, Price};
 pub use side::Side;

@@ -1,6 +1,6 @@
 //! Orders and blocks, as they are entered.
 
-ghost use Rattle.std.specs.Prelude.{◌≡◌, ◌<◌, Some};
+ghost use Rattle.std.specs.Prelude.{◌≡◌, ◌*◌, ◌^◌, ◌<◌, Some};
 ghost use Rattle.order_kinds.specs.Order as orders;
 ghost use Rattle.order_kinds.specs.Price.{price_in_range};
 
@@ -30,6 +30,23 @@ pub enum Kind {
         /// cheaper, of a buy.
         delta: u32,
     },
+}
+
+impl Kind {
+    /// Whether an order of this kind is a plain limit order: what is not traded rests, and all of
+    /// it shows.
+    pub fn is_limit(self) -> bool
+        ensures { result ≡ orders.is_limit self }
+    {
+        matches!(self, Kind::Limit)
+    }
+
+    /// Whether an order of this kind is traded wholly or not at all.
+    pub fn is_fill_or_kill(self) -> bool
+        ensures { result ≡ orders.is_fill_or_kill self }
+    {
+        matches!(self, Kind::Fok)
+    }
 }
 
 /// An order for one contract.
@@ -83,9 +100,11 @@ impl Order {
     }
 }
 
-// The cents of the price of the peak of this number, counted from 0.
-fn peak_cents(side: Side, price: Price, delta: u32, number: u32) -> i64
-    requires { number < 100 }
+/// The cents per MWh of the peak of this number, counted from 0, of an iceberg whose first peak has
+/// the price: each peak is dearer by `delta` than the one before if it sells, and cheaper if it
+/// buys. They may be no allowed price.
+pub fn peak_cents(side: Side, price: Price, delta: u32, number: u32) -> i64
+    requires { delta * number < 2 ^ 62 }
     ensures { result ≡ (orders.peak_price side price delta number).0 }
 {
     let change = i64::from(delta) * i64::from(number);

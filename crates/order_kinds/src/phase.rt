@@ -1,7 +1,7 @@
 //! The phases through which an hour's trading goes.
 
-ghost use Rattle.std.specs.Prelude.{Some};
-ghost use Rattle.order_kinds.specs.Phase.{phase_text};
+ghost use Rattle.std.specs.Prelude.{◌≡◌, Some};
+ghost use Rattle.order_kinds.specs.Phase as phases;
 
 use std::fmt;
 
@@ -20,8 +20,21 @@ pub enum Phase {
     Closed,
 }
 
+impl Phase {
+    /// Whether this phase comes after another one.
+    pub fn is_later(self, other: Phase) -> bool
+        ensures { result ≡ phases.is_later self other }
+    {
+        match self {
+            Phase::Open => false,
+            Phase::Local => matches!(other, Phase::Open),
+            Phase::Closed => !matches!(other, Phase::Closed),
+        }
+    }
+}
+
 impl fmt::Display for Phase {
-    ghost output = { λ phase. Some (phase_text phase) };
+    ghost output = { λ phase. Some (phases.phase_text phase) };
 
     fn fmt<W: fmt::Write>(&self, f: &mut fmt::Formatter<W>) -> fmt::Result {
         f.write_str(match self {

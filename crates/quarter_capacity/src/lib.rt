@@ -11,10 +11,8 @@
 
 mod laws;
 mod row;
-#[cfg(test)]
-mod tests;
 
 pub use laws::{
     flows_are_opposite, offers_keep_the_flow, opposite_flows_net, taking_moves_the_flow,
 };
-pub use row::{BelowFlow, QuarterRow};
+pub use row::{BelowFlow, MOST_OFFERED, MOST_REMAINING, QuarterRow};

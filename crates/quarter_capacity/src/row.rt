@@ -1,9 +1,17 @@
 //! What is offered on the two arcs of a border in a quarter, and what flows over them.
 
 ghost use Rattle.std.specs.Prelude.{◌≡◌, ◌≤◌, ◌↔◌, pos, neg_ℤ, ◌≤ℤ◌, ◌<ℤ◌, IsErr, IfErr, OnOk, OnErr};
+ghost use Rattle.quarter_capacity.specs.Capacity.{most_offered, most_remaining};
 ghost use Rattle.quarter_capacity.specs.Row as rows;
 
 use std::marker::Model;
+
+/// The most lots that are offered on an arc in a quarter: 100000.0 MW.
+pub const MOST_OFFERED: u32 = 1_000_000;
+
+/// The most lots that remain on an arc in a quarter: all that is offered on it, and as much as may
+/// be offered and flow on the opposite one.
+pub const MOST_REMAINING: u32 = 2_000_000;
 
 /// An offer was below what flows over the arc.
 #[derive(Clone, Copy, Debug, PartialEq, Eq)]
@@ -16,8 +24,8 @@ pub struct BelowFlow {
 ///
 /// Contracts see what is offered on the two arcs and what flows over the forward arc, which leads
 /// from the border's first zone to its second. Over the opposite arc as much flows with the other
-/// sign. On each arc at most 1000000 lots are offered and at most what is offered flows, so from 0
-/// to 2000000 lots remain.
+/// sign. On each arc at most [`MOST_OFFERED`] lots are offered and at most what is offered flows, so
+/// from 0 to [`MOST_REMAINING`] lots remain.
 #[derive(Clone, Copy, Debug, PartialEq, Eq)]
 pub struct QuarterRow {
     forward_offered: u32,
@@ -28,6 +36,7 @@ pub struct QuarterRow {
 impl Model for QuarterRow {
     ghost use Rattle.std.specs.Prelude.{◌≤◌, pos, neg_ℤ, ◌≤ℤ◌};
     ghost use Rattle.quarter_capacity.specs.Row.{Row};
+    ghost use Rattle.quarter_capacity.specs.Capacity.{most_offered};
 
     ghost Value = { Row };
 
@@ -45,7 +54,7 @@ impl Model for QuarterRow {
 
     ghost invariant = { λ row. (row.forward_flow ≤ℤ pos row.forward_offered)
         × (neg_ℤ row.forward_flow ≤ℤ pos row.opposite_offered)
-        × (row.forward_offered ≤ 1000000) × (row.opposite_offered ≤ 1000000) };
+        × (row.forward_offered ≤ most_offered) × (row.opposite_offered ≤ most_offered) };
 }
 
 impl QuarterRow {
@@ -63,7 +72,7 @@ impl QuarterRow {
     /// The lots that are offered on the forward arc, or else on the opposite one.
     pub fn offered(&self, forward: bool) -> u32
         ensures value { result ≡ rows.offered self.now forward }
-        ensures most { result ≤ 1000000 }
+        ensures most { result ≤ most_offered }
     {
         if forward {
             self.forward_offered
@@ -77,8 +86,8 @@ impl QuarterRow {
     pub fn flow(&self, forward: bool) -> i64
         ensures value { result ≡ rows.flow self.now forward }
         ensures most { result ≤ℤ pos (rows.offered self.now forward) }
-        ensures greatest { result ≤ℤ pos 1000000 }
-        ensures least { neg_ℤ (pos 1000000) ≤ℤ result }
+        ensures greatest { result ≤ℤ pos most_offered }
+        ensures least { neg_ℤ (pos most_offered) ≤ℤ result }
     {
         if forward {
             self.forward_flow
@@ -91,7 +100,7 @@ impl QuarterRow {
     /// less what flows there, so a flow the other way adds to them.
     pub fn remaining(&self, forward: bool) -> u32
         ensures value { pos result ≡ rows.remaining self.now forward }
-        ensures most { result ≤ 2000000 }
+        ensures most { result ≤ most_remaining }
     {
         (i64::from(self.offered(forward)) - self.flow(forward)) as u32
     }
@@ -104,7 +113,7 @@ impl QuarterRow {
     /// [`BelowFlow`] exactly where more than `lots` flow over the arc, with what flows. The row
     /// then stays as it was.
     pub fn offer(&mut self, forward: bool, lots: u32) -> Result<(), BelowFlow>
-        requires { lots ≤ 1000000 }
+        requires { lots ≤ most_offered }
         ensures ok { OnOk result (self.new ≡ rows.with_offered self.old forward lots) }
 
         // There is no error where what flows is offered, and after one nothing has changed.

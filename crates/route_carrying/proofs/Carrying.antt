@@ -7,34 +7,13 @@ use Rattle.zone_graph.specs.Graph.{Graph, HasArc, border_count, end_of}
 use Rattle.zone_graph.specs.Pour.{lots_if, opposite_arc, room_after, same_arc, same_bool, uses}
 use Rattle.zone_graph.specs.Route.{AreDifferent, IsIn, IsWay, carried}
 use Rattle.zone_graph.proofs.Membership.{IsIn-map}
+use Rattle.zone_graph.proofs.Arcs.{same_arc-is, IsIn-uses, opposite-twice}
+use Rattle.zone_graph.proofs.Carrying.{carried-le}
 use Rattle.cut_proof.specs.Cut.{HasRoomFor}
-use Rattle.cut_proof.proofs.Arcs.{IsIn-uses, same_arc-is}
 use Rattle.cut_proof.proofs.Ways.{borders_once, way_has_arc}
-use Rattle.zone_search.proofs.Arcs.{opposite-twice}
 use Rattle.route_carrying.specs.Carrying.{CanCarry, FitTogether}
 
 -- ---- what a route carries
-
--- no more than the lots
-pub carried-le : (room : Arc → ℕ) (lots : ℕ) (route : List Arc) → carried room lots route ≤ lots
-carried-le room lots [] = omega arith
-carried-le room lots (arc ∷ arcs) = let rest = carried-le room (min lots (room arc)) arcs in omega arith
-
--- no more than the room of any of its arcs
-pub carried-room : (room : Arc → ℕ) (lots : ℕ) (route : List Arc) (arc : Arc) → IsIn arc route → carried room lots route ≤ room arc
-carried-room room lots [] arc h = absurd h
-carried-room room lots (first ∷ arcs) arc h = elim h [
-  | inl e ↦ let rest = carried-le room (min lots (room first)) arcs in
-      subst (λ a. carried room (min lots (room first)) arcs ≤ room a) (sym e) (omega arith)
-  | inr i ↦ carried-room room (min lots (room first)) arcs arc i
-]
-
--- something of something, where each arc has room
-pub carried-some : (room : Arc → ℕ) (lots : ℕ) (route : List Arc) → ((arc : Arc) → IsIn arc route → 0 < room arc) → 1 ≤ lots → 1 ≤ carried room lots route
-carried-some room lots [] has some = some
-carried-some room lots (arc ∷ arcs) has some =
-    let here : 0 < room arc = has arc (inl refl) in
-    carried-some room (min lots (room arc)) arcs (λ a i. has a (inr i)) (omega arith)
 
 -- as much under other rooms that agree on the graph's arcs
 pub carried-rooms : (graph : Graph) (room other : Arc → ℕ) (lots : ℕ) (route : List Arc) → ((arc : Arc) → HasArc graph arc → room arc ≡ other arc)
@@ -43,14 +22,6 @@ carried-rooms graph room other lots [] same known = refl
 carried-rooms graph room other lots (arc ∷ arcs) same known =
     ap (λ n. carried room (min lots n) arcs) (same arc (known arc (inl refl)))
     ∙ carried-rooms graph room other (min lots (other arc)) arcs same (λ a i. known a (inr i))
-
--- each arc of a way has room
-pub way-room : (graph : Graph) (room : Arc → ℕ) (from to : ℕ) (arcs : List Arc) → IsWay graph room from arcs to → (arc : Arc) → IsIn arc arcs → 0 < room arc
-way-room graph room from to [] way arc h = absurd h
-way-room graph room from to (first ∷ arcs) way arc h = elim h [
-  | inl e ↦ subst (λ a. 0 < room a) (sym e) way.2
-  | inr i ↦ way-room graph room (end_of graph first) to arcs way.3 arc i
-]
 
 -- ---- over one arc after another
 

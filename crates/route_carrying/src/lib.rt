@@ -4,6 +4,3 @@
 mod over_routes;
 
 pub use over_routes::{carried, carry};
-
-#[cfg(test)]
-mod tests;

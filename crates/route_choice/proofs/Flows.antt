@@ -11,6 +11,7 @@ use Rattle.zone_graph.specs.Reach.{enters, entering_room, leaves, reaches, zones
 use Rattle.zone_graph.specs.Route.{AreDifferent, IsIn, has}
 use Rattle.zone_graph.proofs.Membership.{IsIn-has, from_filter, from_range, has-IsIn}
 use Rattle.zone_graph.proofs.Routes.{from_arcs_of}
+use Rattle.zone_graph.proofs.Arcs.{one_or_other}
 use Rattle.cut_proof.proofs.ArcSums.{sum_balance, sum_opposite, sum_parts, sum_passing}
 use Rattle.cut_proof.proofs.Crossing.{enters-opposite}
 use Rattle.route_choice.specs.Flow.{IsFlow, NoFlowCarriesMore, sent_out, taken_in}
@@ -19,32 +20,26 @@ use Rattle.route_choice.proofs.Pours.{end_inside, most_of_run, pour-run}
 
 -- ---- sums
 
-sum_same : {X : Type 0} (f g : X → ℕ) (xs : List X) → ((x : X) → f x ≡ g x) → sum_by f xs ≡ sum_by g xs
+pub sum_same : {X : Type 0} (f g : X → ℕ) (xs : List X) → ((x : X) → f x ≡ g x) → sum_by f xs ≡ sum_by g xs
 sum_same {X} f g xs each = let same : f ≡ g = λ i. λ x. each x i in ap (λ (h : X → ℕ). sum_by h xs) same
 
-sum_least : {X : Type 0} (f g : X → ℕ) (xs : List X) → ((x : X) → IsIn x xs → f x ≤ g x) → sum_by f xs ≤ sum_by g xs
+pub sum_least : {X : Type 0} (f g : X → ℕ) (xs : List X) → ((x : X) → IsIn x xs → f x ≤ g x) → sum_by f xs ≤ sum_by g xs
 sum_least f g [] each = omega arith
 sum_least f g (x ∷ xs) each =
     omega (arith, sum_by-cons f x xs, sum_by-cons g x xs, sum_least f g xs (λ y i. each y (inr i)), each x (inl refl))
 
--- where two tests do not both hold, what counts where one does is what counts where each does
-one_or_other : (a b : Bool) (n : ℕ) → (a ≡ true → b ≡ true → ⊥) → lots_if (a || b) n ≡ lots_if a n + lots_if b n
-one_or_other true true n apart = absurd (apart refl refl)
-one_or_other true false n apart = omega arith
-one_or_other false b n apart = omega arith
-
 -- the sum over the zones of a set of what counts at each of them
-abbrev pub at_zones : (Arc → ℕ) → (Arc → ℕ) → List ℕ → Arc → ℕ
+abbrev pub at_zones : {X : Type 0} → (X → ℕ) → (X → ℕ) → List ℕ → X → ℕ
 at_zones end flow zones arc = lots_if (has (end arc) zones) (flow arc)
 
-sum_zones : (end flow : Arc → ℕ) (arcs : List Arc) (zones : List ℕ) → AreDifferent zones
+pub sum_zones : {X : Type 0} (end flow : X → ℕ) (arcs : List X) (zones : List ℕ) → AreDifferent zones
     → sum_by (λ zone. sum_by flow (filter (λ arc. end arc == zone) arcs)) zones ≡ sum_by (at_zones end flow zones) arcs
-sum_zones end flow arcs [] once = sym (nothing arcs)
+sum_zones {X} end flow arcs [] once = sym (nothing arcs)
   where
-    nothing : (xs : List Arc) → sum_by (at_zones end flow []) xs ≡ 0
+    nothing : (xs : List X) → sum_by (at_zones end flow []) xs ≡ 0
     nothing [] = refl
     nothing (x ∷ xs) = omega (arith, sum_by-cons (at_zones end flow []) x xs, nothing xs)
-sum_zones end flow arcs (zone ∷ zones) once =
+sum_zones {X} end flow arcs (zone ∷ zones) once =
     omega (
       arith,
       sum_by-cons (λ z. sum_by flow (filter (λ arc. end arc == z) arcs)) zone zones,
@@ -60,7 +55,7 @@ sum_zones end flow arcs (zone ∷ zones) once =
         by (inl e) = eq-eqb a b e ∙ sym (eq-eqb b a (sym e))
         by (inr apart) = ne_eqb a b apart ∙ sym (ne_eqb b a (λ e. apart (sym e)))
 
-    parts : (arc : Arc) → at_zones end flow (zone ∷ zones) arc ≡ lots_if (end arc == zone) (flow arc) + at_zones end flow zones arc
+    parts : (arc : X) → at_zones end flow (zone ∷ zones) arc ≡ lots_if (end arc == zone) (flow arc) + at_zones end flow zones arc
     parts arc =
         ap (λ b. lots_if (b || has (end arc) zones) (flow arc)) (turned zone (end arc))
         ∙ one_or_other (end arc == zone) (has (end arc) zones) (flow arc)
@@ -100,11 +95,11 @@ crossing true false n = omega arith
 crossing false true n = omega arith
 crossing false false n = omega arith
 
-split_if : (b : Bool) (m n : ℕ) → lots_if b (m + n) ≡ lots_if b m + lots_if b n
+pub split_if : (b : Bool) (m n : ℕ) → lots_if b (m + n) ≡ lots_if b m + lots_if b n
 split_if true m n = refl
 split_if false m n = refl
 
-if_least : (b : Bool) (m n : ℕ) → m ≤ n → lots_if b m ≤ lots_if b n
+pub if_least : (b : Bool) (m n : ℕ) → m ≤ n → lots_if b m ≤ lots_if b n
 if_least true m n least = least
 if_least false m n least = omega arith
 
@@ -135,11 +130,11 @@ flow_bound graph room from to lots flow zones is_flow once known outside inside 
 
 -- ---- against a pour
 
-different-range : (first count : ℕ) → AreDifferent (range_with_len first count)
+pub different-range : (first count : ℕ) → AreDifferent (range_with_len first count)
 different-range first zero = tt
 different-range first (suc count) = (λ i. omega (arith, (from_range first (first + 1) count i).0), different-range (first + 1) count)
 
-different-filter : {X : Type 0} (p : X → Bool) (xs : List X) → AreDifferent xs → AreDifferent (filter p xs)
+pub different-filter : {X : Type 0} (p : X → Bool) (xs : List X) → AreDifferent xs → AreDifferent (filter p xs)
 different-filter p [] once = tt
 different-filter {X} p (x ∷ xs) once = by (p x) (different-filter p xs once.1)
   where

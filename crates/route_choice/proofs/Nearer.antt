@@ -1,15 +1,16 @@
 -- The first neighbour that leads nearer is over the arc of the least border.
 use Rattle.std.proofs.Common.{◌≡◌, ◌∙◌, ◌+◌, ◌<◌, ◌≤◌, ◌==◌, ◌⊎◌, ◌&&◌, inl, inr, ℕ, zero, suc, Bool, true, false, cond, List, [], ◌∷◌, length, map, filter, find, flat_map, Option, Some, None, nat_lt, refl, sym, ap, subst, arith, ltb-true, lt-ltb, true≢false}
 use Rattle.std.specs.List.{range_with_len}
-use Rattle.std.proofs.lemmas.Bool.{cases_lt}
+use Rattle.std.proofs.lemmas.Bool.{cases_lt, and_parts, and_from}
 use Rattle.zone_graph.specs.declared.route.Arc.{Arc}
 use Rattle.zone_graph.specs.declared.grid.Neighbour.{Neighbour}
 use Rattle.zone_graph.specs.Graph.{Graph, HasZone, IsGraph, arcs_from, arcs_of, arcs_over, border_count, end_of, start_of}
 use Rattle.zone_graph.specs.Grid.{IsGrid, neighbour_over, neighbours_of}
 use Rattle.zone_graph.specs.Route.{IsIn}
 use Rattle.zone_graph.proofs.Membership.{from_filter, from_flat_map, from_map, from_range}
+use Rattle.zone_graph.proofs.Finding.{find-none}
 use Rattle.zone_search.specs.Distance.{AreDistances, IsLeastStep, distance_at}
-use Rattle.zone_search.proofs.Arcs.{neighbour_at, neighbour_by, neighbour_in, neighbour_within}
+use Rattle.zone_search.proofs.Neighbours.{neighbour_at, neighbour_by, neighbour_in, neighbour_within}
 use Rattle.route_choice.specs.Neighbours.{AreKnown, leads_nearer}
 
 -- the keys of a list do not fall
@@ -80,26 +81,10 @@ first_found {X} key p (z ∷ xs) x h e = by (p z) refl e (λ f. first_found key 
           least = λ y i q. elim i [ inl s ↦ absurd (true≢false (sym q ∙ ap p s ∙ t)) | inr j ↦ r.least y j q ];
         }
 
-none_found : {X : Type 0} (p : X → Bool) (xs : List X) → find p xs ≡ None → (y : X) → IsIn y xs → p y ≡ false
-none_found p [] e y i = absurd i
-none_found {X} p (z ∷ xs) e y i = by (p z) refl e (λ f j. none_found p xs f y j)
-  where
-    by : (b : Bool) → p z ≡ b → cond b (Some z) (find p xs) ≡ None → (find p xs ≡ None → IsIn y xs → p y ≡ false) → p y ≡ false
-    by true t f rest = cc
-    by false t f rest = elim i [ inl s ↦ ap p s ∙ t | inr j ↦ rest f j ]
-
-and_parts : (a b : Bool) → (a && b) ≡ true → (a ≡ true) × (b ≡ true)
-and_parts true b h = (refl, h)
-and_parts false b h = absurd (true≢false (sym h))
-
-and_both : (a b : Bool) → a ≡ true → b ≡ true → (a && b) ≡ true
-and_both true b e f = f
-and_both false b e f = absurd (true≢false (sym e))
-
 passes_by : (room : Arc → ℕ) (distances : List (Option ℕ)) (distance : ℕ) (n : Neighbour) → 0 < room n.arc → distance_at distances n.zone < distance
     → leads_nearer room distances distance n ≡ true
 passes_by room distances distance n some less =
-    and_both (nat_lt 0 (room n.arc)) (nat_lt (distance_at distances n.zone) distance) (lt-ltb 0 (room n.arc) some) (lt-ltb (distance_at distances n.zone) distance less)
+    and_from (nat_lt 0 (room n.arc)) (nat_lt (distance_at distances n.zone) distance) (lt-ltb 0 (room n.arc) some) (lt-ltb (distance_at distances n.zone) distance less)
 
 -- the first neighbour that leads nearer
 pub record IsNext (graph : Graph) (room : Arc → ℕ) (distances : List (Option ℕ)) (zone : ℕ) (neighbour : Neighbour) : Type 0 where
@@ -141,7 +126,7 @@ none_next graph room to distances zone distance a here near none = by (cases_lt 
         let step = a.nearer zone some (omega (arith, here, near)) in
         let n = neighbour_over graph step.0 in
         let yes = passes_by room distances distance n step.3 (omega (arith, step.4, here)) in
-        absurd (true≢false (sym yes ∙ none_found (leads_nearer room distances distance) (neighbours_of graph zone) none n (neighbour_by graph zone step.0 step.1 step.2)))
+        absurd (true≢false (sym yes ∙ find-none (leads_nearer room distances distance) (neighbours_of graph zone) none n (neighbour_by graph zone step.0 step.1 step.2)))
     by (inr zeroth) = omega (arith, zeroth)
 
 -- the neighbours of a zone are over borders with rooms, to zones with places

@@ -12,10 +12,11 @@ use Rattle.zone_graph.specs.Route.{best_route, carried, has}
 use Rattle.zone_graph.specs.Steps.{IsRun}
 use Rattle.zone_graph.proofs.BestRoute.{best_route-is, reaches-route}
 use Rattle.zone_graph.proofs.Runs.{run-measured, run-unique}
+use Rattle.zone_graph.proofs.Carrying.{carried-le, carried-room, carried-some, way-room}
 use Rattle.cut_proof.specs.Cut.{HasRoomFor}
 use Rattle.cut_proof.proofs.Crossing.{legs_in}
 use Rattle.cut_proof.proofs.ReachLaws.{has-towards, no_room_enters, towards-has}
-use Rattle.route_carrying.proofs.Carrying.{after_leg, carried-le, carried-room, carried-some, way-room}
+use Rattle.route_carrying.proofs.Carrying.{after_leg}
 use Rattle.route_choice.specs.Poured.{AreRoomsAfterSome, CarryTheMost, lots_of, rooms_after}
 
 -- ---- one leg

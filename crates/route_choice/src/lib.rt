@@ -8,6 +8,3 @@ mod pouring;
 pub use choice::best_route;
 pub use laws::no_flow_carries_more;
 pub use pouring::pour;
-
-#[cfg(test)]
-mod tests;

@@ -3,6 +3,7 @@ use Rattle.std.proofs.Common.{◌≡◌, ◌∙◌, ◌+◌, ◌<◌, ◌||◌, 
 use Rattle.std.specs.List.{list_any, position_or_len}
 use Rattle.std.proofs.lemmas.Bool.Decides.{nat_tests}
 use Rattle.std.proofs.lemmas.List.Folds.{list_any-append}
+use Rattle.std.proofs.lemmas.Bool.{or_cases}
 use Rattle.zone_graph.specs.GridFault.{has_again}
 
 swap_inner : (a b c d : Bool) → ((a || c) || (b || d)) ≡ ((a || b) || (c || d))
@@ -12,18 +13,13 @@ swap_inner false true false d = refl
 swap_inner false false true d = refl
 swap_inner false false false d = refl
 
-or-false : (b : Bool) → (b || false) ≡ b
+pub or-false : (b : Bool) → (b || false) ≡ b
 or-false true = refl
 or-false false = refl
 
 pub or-true : (b : Bool) → (b || true) ≡ true
 or-true true = refl
 or-true false = refl
-
--- a test that is true of an item with an equal one behind it
-or_true_from : (a b : Bool) → (a || b) ≡ true → (a ≡ true) ⊎ (b ≡ true)
-or_true_from true b h = inl refl
-or_true_from false b h = inr h
 
 -- one more item at the end
 pub has_again-push : {X : Type 0} (same : X → X → Bool) → ((a b : X) → same a b ≡ same b a) → (xs : List X) (x : X)
@@ -40,7 +36,7 @@ pub has_again-front : {X : Type 0} (same : X → X → Bool) (xs ys : List X) �
 has_again-front same [] ys h = absurd (true≢false (sym h))
 has_again-front same (x ∷ xs) ys h =
     ap (λ b. b || has_again same (xs ++ ys)) (list_any-append (same x) xs ys)
-    ∙ either (or_true_from (list_any (same x) xs) (has_again same xs) h) (has_again-front same xs ys)
+    ∙ either (or_cases (list_any (same x) xs) (has_again same xs) h) (has_again-front same xs ys)
   where
     either : (list_any (same x) xs ≡ true) ⊎ (has_again same xs ≡ true) → (has_again same xs ≡ true → has_again same (xs ++ ys) ≡ true)
         → ((list_any (same x) xs || list_any (same x) ys) || has_again same (xs ++ ys)) ≡ true

@@ -1,65 +1,20 @@
 -- What a grid keeps, and what is found in it.
-use Rattle.std.proofs.Common.{◌≡◌, ◌∙◌, ◌<◌, ◌≤◌, ◌==◌, ◌&&◌, ◌||◌, inl, inr, ℕ, Bool, true, false, cond, List, [], ◌∷◌, length, map, filter, find, get_or, Option, Some, None, option_map, IfSome, refl, sym, ap, ap₂, subst, arith, true≢false, eq-eqb, eqb-true}
+use Rattle.std.proofs.Common.{◌≡◌, ◌∙◌, ◌<◌, ◌≤◌, ◌==◌, ◌&&◌, ◌||◌, inl, inr, ℕ, Bool, true, false, List, [], length, find, get_or, Option, Some, None, option_map, IfSome, refl, sym, ap, ap₂, subst, arith, true≢false, eq-eqb, eqb-true}
 use Rattle.std.specs.Cmp.Lexicographic.{nat_list_eq_equiv, same_text}
-use Rattle.std.proofs.lemmas.Bool.{cases_lt, eqb-false}
-use Rattle.std.proofs.lemmas.Bool.Decides.{nat_tests}
+use Rattle.std.proofs.lemmas.Bool.{cases_lt, eqb-false, and_parts}
 use Rattle.std.proofs.lemmas.List.Quantifiers.{position-Some}
 use Rattle.zone_graph.specs.declared.route.Arc.{Arc}
 use Rattle.zone_graph.specs.declared.grid.Neighbour.{Neighbour}
 use Rattle.zone_graph.specs.Graph.{Graph, HasArc, HasZone, IsGraph, arc_ends, arcs_from, arcs_of, border_count, end_of, ends_of, start_of, zone_count}
 use Rattle.zone_graph.specs.Grid.{IsGrid, JoinsZones, arc_between, leads, name_of, neighbour_over, neighbours_of, number_of_zone, same_ends, same_name}
 use Rattle.zone_graph.specs.GridFault.{has_again, has_self_border}
-use Rattle.zone_graph.specs.Route.{IsIn}
 use Rattle.zone_graph.proofs.Again.{behind_differs, list_any-no_position, none_at, or-true}
 use Rattle.zone_graph.proofs.BestRoute.{same_arc}
 use Rattle.zone_graph.proofs.Routes.{IsIn-arcs_of, from_arcs_of}
+use Rattle.zone_graph.proofs.Finding.{option_map-same, option_map-find-map, find-filter, from_find, find-IsIn}
+use Rattle.zone_graph.proofs.Arcs.{eqb-symm}
 
 -- ---- finding
-
-find-filter : {X : Type 0} (p q : X → Bool) (xs : List X) → find p (filter q xs) ≡ find (λ x. q x && p x) xs
-find-filter p q [] = refl
-find-filter p q (x ∷ xs) = by (q x) (find-filter p q xs)
-  where
-    by : (b : Bool) → find p (filter q xs) ≡ find (λ y. q y && p y) xs
-        → find p (cond b (x ∷ filter q xs) (filter q xs)) ≡ cond (b && p x) (Some x) (find (λ y. q y && p y) xs)
-    by true rest = ap (cond (p x) (Some x)) rest
-    by false rest = rest
-
-option_map-find-map : {X Y Z : Type 0} (p : Y → Bool) (f : X → Y) (g : Y → Z) (xs : List X)
-    → option_map g (find p (map f xs)) ≡ option_map (λ x. g (f x)) (find (λ x. p (f x)) xs)
-option_map-find-map p f g [] = refl
-option_map-find-map p f g (x ∷ xs) = by (p (f x)) (option_map-find-map p f g xs)
-  where
-    by : (b : Bool) → option_map g (find p (map f xs)) ≡ option_map (λ y. g (f y)) (find (λ y. p (f y)) xs)
-        → option_map g (cond b (Some (f x)) (find p (map f xs))) ≡ option_map (λ y. g (f y)) (cond b (Some x) (find (λ y. p (f y)) xs))
-    by true rest = refl
-    by false rest = rest
-
-option_map-same : {X : Type 0} (o : Option X) → option_map (λ x. x) o ≡ o
-option_map-same None = refl
-option_map-same (Some x) = refl
-
--- what is found is in the list and passes
-from_find : {X : Type 0} (p : X → Bool) (xs : List X) (x : X) → find p xs ≡ Some x → IsIn x xs × (p x ≡ true)
-from_find p [] x h = cc
-from_find p (y ∷ xs) x h = by (p y) refl h (from_find p xs x)
-  where
-    by : (b : Bool) → p y ≡ b → cond b (Some y) (find p xs) ≡ Some x → (find p xs ≡ Some x → IsIn x xs × (p x ≡ true)) → IsIn x (y ∷ xs) × (p x ≡ true)
-    by true e k rest = let same : y ≡ x = cc in (inl (sym same), ap p (sym same) ∙ e)
-    by false e k rest = let r = rest k in (inr r.0, r.1)
-
--- an item that passes is found, or another one before it
-find-IsIn : {X : Type 0} (p : X → Bool) (xs : List X) (x : X) → IsIn x xs → p x ≡ true → (y : X) × (find p xs ≡ Some y)
-find-IsIn p [] x i e = absurd i
-find-IsIn {X} p (z ∷ xs) x i e = by (p z) refl (λ j. find-IsIn p xs x j e)
-  where
-    by : (b : Bool) → p z ≡ b → (IsIn x xs → (y : X) × (find p xs ≡ Some y)) → (y : X) × (cond b (Some z) (find p xs) ≡ Some y)
-    by true t rest = (z, refl)
-    by false t rest = elim i [ inl s ↦ absurd (true≢false (sym e ∙ ap p s ∙ t)) | inr j ↦ rest j ]
-
-and_true : (a b : Bool) → (a && b) ≡ true → (a ≡ true) × (b ≡ true)
-and_true true b h = (refl, h)
-and_true false b h = absurd (true≢false (sym h))
 
 -- ---- arcs
 
@@ -74,8 +29,8 @@ arc_of_neighbour graph from to =
 -- the arc between two zones is an arc of the graph with these ends
 pub arc_between-ends : (graph : Graph) (from to : ℕ) (arc : Arc) → arc_between graph from to ≡ Some arc → HasArc graph arc × (arc_ends graph arc ≡ (from, to))
 arc_between-ends graph from to arc h =
-    let found = from_find (leads graph from to) (arcs_of graph) arc h in
-    let ends = and_true (start_of graph arc == from) (end_of graph arc == to) found.1 in
+    let found = from_find (leads graph from to) arc (arcs_of graph) h in
+    let ends = and_parts (start_of graph arc == from) (end_of graph arc == to) found.1 in
     let start : start_of graph arc ≡ from = eqb-true (start_of graph arc) from ends.0 in
     let end : end_of graph arc ≡ to = eqb-true (end_of graph arc) to ends.1 in
     (from_arcs_of graph arc found.0, λ i. (start i, end i))
@@ -167,9 +122,6 @@ number_of_zone-every graph name zone grid known named = by (number_of_zone graph
 
 -- ---- what makes a grid
 
-eqb_symm : (a b : ℕ) → (a == b) ≡ (b == a)
-eqb_symm a b = grind (arith, nat_tests)
-
 and_comm : (a b : Bool) → (a && b) ≡ (b && a)
 and_comm true true = refl
 and_comm true false = refl
@@ -178,8 +130,8 @@ and_comm false false = refl
 
 pub same_ends-symm : (a b : ℕ × ℕ) → same_ends a b ≡ same_ends b a
 same_ends-symm a b =
-    ap₂ (λ s t. (s && t) || ((a.0 == b.1) && (a.1 == b.0))) (eqb_symm a.0 b.0) (eqb_symm a.1 b.1)
-    ∙ ap₂ (λ s t. ((b.0 == a.0) && (b.1 == a.1)) || (s && t)) (eqb_symm a.0 b.1) (eqb_symm a.1 b.0)
+    ap₂ (λ s t. (s && t) || ((a.0 == b.1) && (a.1 == b.0))) (eqb-symm a.0 b.0) (eqb-symm a.1 b.1)
+    ∙ ap₂ (λ s t. ((b.0 == a.0) && (b.1 == a.1)) || (s && t)) (eqb-symm a.0 b.1) (eqb-symm a.1 b.0)
     ∙ ap (λ t. ((b.0 == a.0) && (b.1 == a.1)) || t) (and_comm (b.1 == a.0) (b.0 == a.1))
 
 pub same_name-symm : (a b : List ℕ) → same_name a b ≡ same_name b a

@@ -8,15 +8,12 @@ use Rattle.zone_graph.specs.Grid.{same_name}
 use Rattle.zone_graph.specs.GridFault.{has_again}
 use Rattle.zone_graph.proofs.Again.{has_again-front, has_again-push, list_any-no_position, list_any-position, or-true, position-push_first, position-push_other}
 use Rattle.zone_graph.proofs.GridLemmas.{same_name-symm}
+use Rattle.zone_graph.proofs.Finding.{none_from}
 
 -- whether a reference was found says whether a value was
 pub is_some-copied : (found : Option (Bor ℕ)) (value : Option ℕ) (b : Bool) → is_some found ≡ b → option_copied found ≡ value → is_some value ≡ b
 is_some-copied None value b e f = sym (ap is_some f) ∙ e
 is_some-copied (Some x) value b e f = sym (ap is_some f) ∙ e
-
-none_from : (o : Option ℕ) → is_some o ≡ false → o ≡ None
-none_from None e = refl
-none_from (Some x) e = absurd (true≢false e)
 
 module _ (names : List (List ℕ)) (zone : ℕ) (name : List ℕ) (within : zone < length names) (named : name ≡ get_or names zone name) where
   one_more : take (zone + 1) names ≡ take zone names ++ name ∷ []

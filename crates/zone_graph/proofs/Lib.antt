@@ -1,9 +1,14 @@
 pub mod Again
+pub mod Arcs
 pub mod BestRoute
+pub mod Carrying
+pub mod Finding
 pub mod GridLemmas
 pub mod GridNames
 pub mod GridRows
+pub mod InOrder
 pub mod Least
 pub mod Membership
+pub mod Places
 pub mod Routes
 pub mod Runs

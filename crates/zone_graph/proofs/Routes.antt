@@ -1,6 +1,6 @@
 -- The routes that are listed are the routes there are.
-use Rattle.std.proofs.Common.{◌≡◌, ◌<◌, ◌≤◌, ◌⊎◌, inl, inr, ℕ, zero, suc, Bool, true, false, ◌&&◌, ◌==◌, List, [], ◌∷◌, length, map, flat_map, nat_eq, refl, sym, ap, subst, arith, eq-eqb, eqb-true, ltb-true, lt-ltb}
-use Rattle.std.proofs.lemmas.Bool.{true≢false}
+use Rattle.std.proofs.Common.{◌≡◌, ◌<◌, ◌≤◌, ◌⊎◌, inl, inr, ℕ, zero, suc, Bool, true, false, ◌==◌, List, [], ◌∷◌, length, map, flat_map, nat_eq, refl, sym, ap, subst, arith, eq-eqb, eqb-true, ltb-true, lt-ltb}
+use Rattle.std.proofs.lemmas.Bool.{and_from, and_parts}
 use Rattle.std.proofs.lemmas.List.{length-map}
 use Rattle.std.specs.List.{range_with_len}
 use Rattle.zone_graph.specs.declared.route.Arc.{Arc}
@@ -58,18 +58,6 @@ pub from_begun_with : (arcs : List Arc) (b : Bool) (arc : Arc) (onward : Unit {0
 from_begun_with arcs true arc onward h = let r = from_map (λ rest. arc ∷ rest) arcs (onward tt) h in (r.0, refl, r.1, r.2)
 from_begun_with arcs false arc onward h = absurd h
 
-and_left : (a b : Bool) → (a && b) ≡ true → a ≡ true
-and_left true b e = refl
-and_left false b e = e
-
-and_right : (a b : Bool) → (a && b) ≡ true → b ≡ true
-and_right true b e = e
-and_right false b e = absurd (true≢false (sym e))
-
-both : (a b : Bool) → a ≡ true → b ≡ true → (a && b) ≡ true
-both true b e f = f
-both false b e f = absurd (true≢false (sym e))
-
 -- the empty way
 arrived : (graph : Graph) (room : Arc → ℕ) (free : List ℕ) (from to : ℕ) (arcs : List Arc) → nat_eq from to ≡ true → arcs ≡ []
     → IsFreeWay graph room free from to arcs
@@ -94,8 +82,8 @@ listed_is_way (suc most) graph room free from to arcs h =
           let leaving = from_filter (λ (a : Arc). nat_eq (start_of graph a) from) arc (arcs_of graph) t.1 in
           let u = from_begun_with arcs (can_take graph room free arc) arc _ t.2 in
           let rest = listed_is_way most graph room (without (end_of graph arc) free) (end_of graph arc) to u.0 u.2 in
-          let has_room : 0 < room arc = ltb-true 0 (room arc) (and_left _ _ u.1) in
-          let is_free : IsIn (end_of graph arc) free = IsIn-has (end_of graph arc) free (and_right _ _ u.1) in
+          let has_room : 0 < room arc = ltb-true 0 (room arc) (and_parts _ _ u.1).0 in
+          let is_free : IsIn (end_of graph arc) free = IsIn-has (end_of graph arc) free (and_parts _ _ u.1).1 in
           subst (IsFreeWay graph room free from to) (sym u.3) (record {
             way = (from_arcs_of graph arc leaving.0, eqb-true (start_of graph arc) from leaving.1, has_room, rest.way);
             within = λ zone i. elim i [
@@ -136,7 +124,7 @@ way_is_listed (suc most) graph room free from to (arc ∷ arcs) way simple withi
     way_is_listed most graph room (without end free) end to arcs way.3 simple.1
     (λ zone i. IsIn-without end zone free (within zone (inr i)) (λ same. simple.1.0 (subst (λ z. IsIn z (zones_after graph arcs)) same i)))
     (omega arith) in
-    let taken : can_take graph room free arc ≡ true = both _ _ (lt-ltb 0 (room arc) way.2) (has-IsIn end free (within end (inl refl))) in
+    let taken : can_take graph room free arc ≡ true = and_from _ _ (lt-ltb 0 (room arc) way.2) (has-IsIn end free (within end (inl refl))) in
     let begun : IsIn (arc ∷ arcs) (begun_with (can_take graph room free arc) arc (λ _. routes_through most graph room (without end free) end to)) =
     subst (λ b. IsIn (arc ∷ arcs) (begun_with b arc (λ _. routes_through most graph room (without end free) end to))) (sym taken) (IsIn-map (λ l. arc ∷ l) arcs _ rest) in
     let leaving : IsIn arc (arcs_from graph from) =

@@ -11,6 +11,13 @@ pub record Graph : Type 0 where
   pub zones : List (List ℕ)
   pub borders : List (ℕ × ℕ)
 
+-- the most zones and the most borders that a grid has
+abbrev pub most_zones : ℕ
+most_zones = 64
+
+abbrev pub most_borders : ℕ
+most_borders = 128
+
 abbrev pub zone_count : Graph → ℕ
 zone_count graph = length graph.zones
 

@@ -3,7 +3,7 @@ use Rattle.std.specs.Prelude.{◌≡◌, ℕ, ◌<◌, ◌≤◌, Bool, true, �
 use Rattle.std.specs.Cmp.Lexicographic.{pointwise}
 use Rattle.zone_graph.specs.declared.route.Arc.{Arc}
 use Rattle.zone_graph.specs.declared.grid.Neighbour.{Neighbour}
-use Rattle.zone_graph.specs.Graph.{Graph, HasZone, IsGraph, arcs_from, arcs_of, border_count, end_of, ends_of, start_of, zone_count}
+use Rattle.zone_graph.specs.Graph.{Graph, HasZone, IsGraph, arcs_from, arcs_of, border_count, end_of, ends_of, start_of, zone_count, most_zones, most_borders}
 
 -- the name of a zone
 abbrev pub name_of : Graph → ℕ → List ℕ
@@ -25,8 +25,8 @@ JoinsZones graph = (border : ℕ) → border < border_count graph → HasZone gr
 -- two zones that no other one joins
 pub record IsGrid (graph : Graph) : Type 0 where
   pub is_graph : IsGraph graph
-  pub few_zones : zone_count graph ≤ 64
-  pub few_borders : border_count graph ≤ 128
+  pub few_zones : zone_count graph ≤ most_zones
+  pub few_borders : border_count graph ≤ most_borders
   pub names_differ : (zone other : ℕ) → HasZone graph zone → HasZone graph other → name_of graph zone ≡ name_of graph other → zone ≡ other
   pub ends_differ : (border other : ℕ) → border < border_count graph → other < border_count graph → same_ends (ends_of graph border) (ends_of graph other) ≡ true → border ≡ other
 

@@ -3,7 +3,7 @@ use Rattle.std.specs.Prelude.{ℕ, Bool, false, ◌==◌, ◌||◌, List, [], �
 use Rattle.std.specs.List.{list_any}
 use Rattle.zone_graph.specs.declared.grid.GridFault.{GridFault}
 use Rattle.zone_graph.specs.declared.grid.GridFault.TheVariants as fault
-use Rattle.zone_graph.specs.Graph.{Graph, border_count, zone_count}
+use Rattle.zone_graph.specs.Graph.{Graph, border_count, zone_count, most_zones, most_borders}
 use Rattle.zone_graph.specs.Grid.{same_ends, same_name}
 
 -- an item stands in a list again, by a test of which are the same
@@ -19,9 +19,9 @@ has_self_border borders = list_any (λ ends. ends.0 == ends.1) borders
 -- over 128 borders, a border of a zone with itself, the same two zones joined again
 abbrev pub grid_fault : Graph → Option GridFault
 grid_fault graph =
-    if nat_lt 64 (zone_count graph) then Some fault.TooManyZones
+    if nat_lt most_zones (zone_count graph) then Some fault.TooManyZones
     else (if has_again same_name graph.zones then Some fault.ZoneTwice
-    else (if nat_lt 128 (border_count graph) then Some fault.TooManyBorders
+    else (if nat_lt most_borders (border_count graph) then Some fault.TooManyBorders
     else (if has_self_border graph.borders then Some fault.SelfBorder
     else (if has_again same_ends graph.borders then Some fault.BorderTwice
     else None))))

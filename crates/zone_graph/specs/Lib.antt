@@ -1,8 +1,8 @@
-pub mod Examples
 pub mod Graph
 pub mod Grid
 pub mod GridFault
 pub mod GridIndex
+pub mod InOrder
 pub mod Name
 pub mod Pour
 pub mod Reach

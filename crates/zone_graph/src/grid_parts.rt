@@ -5,6 +5,7 @@ ghost use Rattle.std.specs.List.{list_any, range_with_len};
 ghost use Rattle.zone_graph.specs.Grid.{neighbours_of, same_ends, same_name};
 ghost use Rattle.zone_graph.specs.GridFault.{has_again, has_self_border};
 ghost use Rattle.zone_graph.specs.GridIndex.{NumbersZones, borders_alone, neighbours_over, zones_alone};
+ghost use Rattle.zone_graph.specs.Graph.{most_zones, most_borders};
 
 use crate::grid::{GridFault, Neighbour};
 use crate::memory::{Duplicate, NoMemory};
@@ -16,7 +17,7 @@ use std::collections::HashMap;
 
 // The number of each zone by its name; a fault where a name stands again.
 pub fn zone_numbers(alloc: Global, names: &[Word]) -> Result<HashMap<Word, u32>, GridFault>
-    requires { length names.now ≤ 64 }
+    requires { length names.now ≤ most_zones }
     ensures numbers { IfOk result (λ numbers. NumbersZones (zones_alone names.now) numbers.entries) }
     ensures different { OnOk result (has_again same_name names.now ≡ false) }
     ensures twice { IfErr result (λ fault. fault ≢ GridFault.NoMemory → (fault ≡ GridFault.ZoneTwice) × (has_again same_name names.now ≡ true)) }
@@ -68,8 +69,8 @@ pub fn neighbour_rows(
     zones: usize,
     borders: &[(u32, u32)],
 ) -> Result<Vec<Sequence<Neighbour>>, NoMemory>
-    requires few { length borders.now ≤ 128 }
-    requires zones { zones ≤ 64 }
+    requires few { length borders.now ≤ most_borders }
+    requires zones { zones ≤ most_zones }
     ensures { IfOk result (λ rows. rows.items ≡ map (neighbours_of (borders_alone borders.now)) (range_with_len 0 zones)) }
 {
     let mut rows = Vec::with_capacity(alloc, zones)?;
@@ -85,7 +86,7 @@ fn neighbour_row(
     zone: u32,
     borders: &[(u32, u32)],
 ) -> Result<Sequence<Neighbour>, NoMemory>
-    requires { length borders.now ≤ 128 }
+    requires { length borders.now ≤ most_borders }
     ensures { IfOk result (λ row. row ≡ neighbours_of (borders_alone borders.now) zone) }
 {
     let mut row = Sequence::new(alloc);
@@ -119,7 +120,7 @@ fn neighbour(border: u32, forward: bool, zone: u32) -> Neighbour
     ensures { result ≡ record { arc = record { border = border; forward = forward }; zone = zone } }
 {
     Neighbour {
-        arc: Arc { border, forward },
+        arc: Arc::over(border, forward),
         zone,
     }
 }

@@ -22,6 +22,3 @@ pub use rooms::Rooms;
 pub use route::{Arc, Legs, Pairs, Route, RouteLeg, Zones};
 pub use sequence::Sequence;
 pub use word::{Names, Text, Word, is_name};
-
-#[cfg(test)]
-mod tests;

@@ -23,14 +23,18 @@ pub struct Arc {
 }
 
 impl Arc {
+    /// The arc over a border in one of its directions.
+    pub fn over(border: u32, forward: bool) -> Arc
+        ensures { result ≡ record { border = border; forward = forward } }
+    {
+        Arc { border, forward }
+    }
+
     /// The arc over the same border in the other direction.
     pub fn opposite(self) -> Arc
         ensures { result ≡ opposite_arc self }
     {
-        Arc {
-            border: self.border,
-            forward: !self.forward,
-        }
+        Arc::over(self.border, !self.forward)
     }
 }
 

@@ -1,4 +1,4 @@
-pub mod Arcs
 pub mod Nearest
+pub mod Neighbours
 pub mod Reached
 pub mod Searches

@@ -7,8 +7,8 @@ use Rattle.zone_graph.specs.Pour.{opposite_arc}
 use Rattle.zone_graph.specs.Reach.{reaches}
 use Rattle.zone_graph.specs.Route.{AreDifferent, IsIn, IsRoute, IsWay, zones_on}
 use Rattle.zone_graph.proofs.BestRoute.{reaches-route, route-reaches}
+use Rattle.zone_graph.proofs.Arcs.{opposite-start, opposite-end, opposite-twice}
 use Rattle.zone_search.specs.Distance.{AreDistances, arcs_of_distance, directed_room, distance_at}
-use Rattle.zone_search.proofs.Arcs.{opposite-end, opposite-start, opposite-twice}
 use Rattle.zone_search.proofs.Nearest.{no_route}
 
 -- ---- distances towards a zone
@@ -102,7 +102,7 @@ turned_twice room = λ i. λ arc. room (opposite-twice arc i)
 
 -- ---- distances from a zone
 
-both_or_neither : (a b : Bool) → (a ≡ true → b ≡ true) → (b ≡ true → a ≡ true) → a ≡ b
+pub both_or_neither : (a b : Bool) → (a ≡ true → b ≡ true) → (b ≡ true → a ≡ true) → a ≡ b
 both_or_neither true b there back = sym (there refl)
 both_or_neither false true there back = back refl
 both_or_neither false false there back = refl

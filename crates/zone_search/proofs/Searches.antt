@@ -12,8 +12,10 @@ use Rattle.zone_graph.specs.Graph.{Graph, HasArc, HasZone, end_of, start_of}
 use Rattle.zone_graph.specs.Grid.{IsGrid, neighbour_over, neighbours_of}
 use Rattle.zone_graph.specs.Pour.{opposite_arc}
 use Rattle.zone_graph.specs.Route.{IsIn}
+use Rattle.zone_graph.proofs.Arcs.{opposite-start, opposite-end, opposite-twice}
+use Rattle.zone_graph.proofs.Places.{place_of, at_place, at_any}
 use Rattle.zone_search.specs.Distance.{AreDistances, arcs_of_distance, distance_at}
-use Rattle.zone_search.proofs.Arcs.{IsNeighbour, at_any, at_place, neighbour_by, neighbour_in, opposite-end, opposite-start, opposite-twice, place_of}
+use Rattle.zone_search.proofs.Neighbours.{IsNeighbour, neighbour_by, neighbour_in}
 
 -- ---- one more distance
 

@@ -5,6 +5,3 @@
 mod search;
 
 pub use search::{Distances, distances};
-
-#[cfg(test)]
-mod tests;

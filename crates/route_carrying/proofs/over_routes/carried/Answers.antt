@@ -1,6 +1,6 @@
 use Rattle.std.proofs.Common.{get_or, false}
 use Rattle.zone_graph.specs.declared.route.Arc.{Arc}
-use Rattle.zone_search.proofs.Arcs.{at_place}
+use Rattle.zone_graph.proofs.Places.{at_place}
 use Rattle.route_carrying.proofs.over_routes.carried.Goals as goal
 
 pub at-requires : goal.at-requires

@@ -3,8 +3,9 @@ use Rattle.zone_graph.specs.declared.grid.Neighbour.{Neighbour}
 use Rattle.zone_graph.specs.Pour.{opposite_arc}
 use Rattle.zone_search.specs.declared.search.Search.{Search}
 use Rattle.zone_graph.specs.Rooms.{room_of}
+use Rattle.zone_graph.proofs.Places.{at_any}
 use Rattle.zone_search.specs.Distance.{arcs_of_distance, directed_room}
-use Rattle.zone_search.proofs.Arcs.{at_any, neighbour_at, neighbour_within}
+use Rattle.zone_search.proofs.Neighbours.{neighbour_at, neighbour_within}
 use Rattle.zone_search.proofs.Searches.{ended, IsReady, IsVisiting, spaces_in, started, visit_begins, visit_ends, visit_goes_on, visit_skips}
 use Rattle.zone_search.proofs.search.distances.Goals as goal
 use Rattle.zone_search.proofs.search.distances.Goals.{then-room-gt0+then-is_none, else-room-gt0, else-room-gt0-via-then-room-gt0+else-is_none, else-room-gt0-via-else-room-gt0}
