@@ -2,8 +2,9 @@
 //!
 //! A [`Pool`] holds items of a type that can be copied, each at a place of its own, and keeps its
 //! live places in lines, whose order the caller makes: a place joins a line before another place
-//! or at its end. All memory is taken when the pool is made or copied, and no other call depends
-//! on how many places are live.
+//! or at its end. [`Rings`] are lines of such places alone, without items, for a second order of
+//! the places of a pool. All memory is taken when a pool or its rings are made or copied, and no
+//! other call depends on how many places are live.
 #![tactic(auto)]
 
 mod faults;
@@ -15,4 +16,4 @@ mod tests;
 
 pub use faults::{Full, NoMemory};
 pub use pool::{MOST_LINES, Pool};
-pub use rings::PLACES;
+pub use rings::{PLACES, Rings};

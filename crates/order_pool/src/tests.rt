@@ -1,7 +1,7 @@
 // Each call once with ample memory, a full pool, and a copy of a pool with holes.
 ghost use Rattle.std.specs.Prelude.{◌≡◌, ◌<◌, length};
 
-use crate::{Full, Pool};
+use crate::{Full, PLACES, Pool};
 use std::process::Abort;
 use std::test::Fail;
 
@@ -32,58 +32,39 @@ fn take_live(rt: &impl Abort, pool: &mut Pool<u32>, place: u32) -> u32
 }
 
 #[test]
-fn insertions_come_before_a_place_or_at_the_end(rt: HostRuntime) -> Result<(), Fail> {
+fn lines_are_made_and_a_copy_shares_nothing(rt: HostRuntime) -> Result<(), Fail> {
     let mut pool = Pool::with_lines(rt.alloc(), 2)?;
     let third = pool.put(30)?;
     let second = pool.insert(0, Some(third), 20)?;
-    let _first = pool.insert(0, Some(second), 10)?;
+    let first = pool.insert(0, Some(second), 10)?;
     let _fourth = pool.put(40)?;
     expect_line(&rt, &pool, 0, &[10, 20, 30, 40]);
     expect_line(&rt, &pool, 1, &[]);
-    Ok(())
-}
 
-#[test]
-fn items_change_and_move(rt: HostRuntime) -> Result<(), Fail> {
-    let mut pool = Pool::with_lines(rt.alloc(), 2)?;
-    let place = pool.put(20)?;
-    *pool.get_mut(place) = 25;
-    let other = pool.insert(1, None, 50)?;
-    assert!(rt; pool.is_live(place));
-    assert_ne!(rt; other, place);
-    pool.shift(place, 1, Some(other));
-    expect_line(&rt, &pool, 0, &[]);
-    expect_line(&rt, &pool, 1, &[25, 50]);
-    Ok(())
-}
-
-#[test]
-fn copies_share_nothing(rt: HostRuntime) -> Result<(), Fail> {
-    let mut pool = Pool::new(rt.alloc())?;
-    let one = pool.put(1)?;
-    let two = pool.put(2)?;
-    let _three = pool.put(3)?;
-    assert_eq!(rt; take_live(&rt, &mut pool, two), 2);
-
+    assert_eq!(rt; take_live(&rt, &mut pool, second), 20);
     let mut copy = pool.copy()?;
-    assert!(rt; !copy.is_live(two));
-    assert_eq!(rt; take_live(&rt, &mut copy, one), 1);
-    let _four = copy.put(4)?;
-    expect_line(&rt, &copy, 0, &[3, 4]);
-    expect_line(&rt, &pool, 0, &[1, 3]);
+    assert!(rt; copy.is_live(first));
+    *copy.get_mut(first) = 15;
+    let other = copy.insert(1, None, 50)?;
+    assert!(rt; copy.is_live(first));
+    assert_ne!(rt; other, first);
+    copy.shift(first, 1, Some(other));
+    expect_line(&rt, &copy, 0, &[30, 40]);
+    expect_line(&rt, &copy, 1, &[15, 50]);
+    expect_line(&rt, &pool, 0, &[10, 30, 40]);
+    expect_line(&rt, &pool, 1, &[]);
     Ok(())
 }
 
 #[test]
 fn full_at_4096_items(rt: HostRuntime) -> Result<(), Fail> {
     let mut pool = Pool::new(rt.alloc())?;
-    for item in 0..4096u32 {
+    for item in 0..PLACES {
         let _place = pool.put(item)?;
     }
     assert_eq!(rt; pool.put(4096), Err(Full));
     let _item = take_live(&rt, &mut pool, 77);
-    let again = pool.put(4097)?;
-    assert_eq!(rt; again, 77);
+    assert_eq!(rt; pool.put(4097)?, 77);
     assert_eq!(rt; pool.put(4098), Err(Full));
     Ok(())
 }

@@ -1,0 +1,4 @@
+pub mod Resting
+pub mod Book
+pub mod Inside
+pub mod Priority

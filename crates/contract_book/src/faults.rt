@@ -1,0 +1,9 @@
+//! Why a call of a book is refused.
+
+/// 4096 orders rest already.
+#[derive(Clone, Copy, Debug, PartialEq, Eq)]
+pub struct Full;
+
+/// Memory ran out.
+#[derive(Clone, Copy, Debug, PartialEq, Eq)]
+pub struct NoMemory;

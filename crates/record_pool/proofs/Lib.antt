@@ -1,0 +1,5 @@
+pub mod Counts
+pub mod KeyedLemmas
+pub mod LineLemmas
+pub mod SpotLemmas
+pub mod Walks

@@ -1,0 +1,4 @@
+pub mod Keyed
+pub mod KeyedInside
+pub mod Lines
+pub mod Ranked
