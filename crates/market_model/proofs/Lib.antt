@@ -1,2 +1,3 @@
+pub mod Concerned
 pub mod EarlyRules
 pub mod HourSets

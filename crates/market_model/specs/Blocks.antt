@@ -20,10 +20,10 @@ use Rattle.zone_graph.specs.Steps.{IsRun, steps}
 use Rattle.market_model.specs.declared.event.Event.{Event}
 use Rattle.market_model.specs.declared.event.Event.TheVariants as event
 use Rattle.market_model.specs.History.{and_then}
-use Rattle.market_model.specs.Lines.{in_order}
 use Rattle.market_model.specs.Orders.{PlacedBlock, block_moment, blocks_placed, is_open, left, next_name}
 use Rattle.market_model.specs.Room.{room}
 use Rattle.market_model.specs.Sweep.{first_answer, sweeps}
+use Rattle.zone_graph.specs.InOrder.{in_order}
 
 -- a block as it stands: what was entered, what is left of it, and its moment
 pub record StandingBlock : Type 0 where

@@ -22,6 +22,7 @@ use Rattle.market_model.specs.Orders.{Placed, is_open, placed, standing}
 use Rattle.market_model.specs.Rules.{parts_named, touched_hours}
 use Rattle.market_model.specs.Sweep.{all_parts, parts_without_halves}
 use Rattle.market_model.specs.WellFormed.{IsMarketSetup}
+use Rattle.quarter_capacity.specs.Capacity.{most_remaining}
 
 -- the history of the journal of some turns
 abbrev pub history_of : Setup → List Turn → List Event
@@ -45,7 +46,7 @@ EventsStayInTheirHours = (setup : Setup) (turns : List Turn) (caller : ℕ) (giv
 abbrev pub CapacityRemains : Type 0
 CapacityRemains = (setup : Setup) (turns : List Turn) (quarter : Quarter) (arc : Arc) → IsMarketSetup setup
     → HasArc (graph_of setup) arc → is_quarter quarter ≡ true
-    → (pos 0 ≤ℤ remaining (history_of setup turns) quarter arc) × (remaining (history_of setup turns) quarter arc ≤ℤ pos 2000000)
+    → (pos 0 ≤ℤ remaining (history_of setup turns) quarter arc) × (remaining (history_of setup turns) quarter arc ≤ℤ pos most_remaining)
 
 -- and each leg, leg of blocks and grant uses no more than remained just before it
 abbrev pub NothingIsOversold : Type 0

@@ -2,6 +2,7 @@ pub mod Blocks
 pub mod Capacity
 pub mod Certificate
 pub mod Command
+pub mod Concerned
 pub mod DeepLaws
 pub mod Entering
 pub mod Grid

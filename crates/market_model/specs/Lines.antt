@@ -13,18 +13,10 @@ use Rattle.order_kinds.specs.Side.{crosses, opposite, price_cmp}
 use Rattle.zone_graph.specs.declared.route.Arc.{Arc}
 use Rattle.zone_graph.specs.Graph.{Graph}
 use Rattle.zone_graph.specs.Reach.{reaches}
+use Rattle.zone_graph.specs.InOrder.{in_order}
 use Rattle.market_model.specs.declared.event.Event.{Event}
 use Rattle.market_model.specs.Orders.{Placed, Standing, is_open, placed, standing}
 use Rattle.market_model.specs.Room.{room}
-
--- an item put into a list that is in order: before the first one that comes after it
-abbrev pub put_in_order : {X : Type 0} → (X → X → Ordering) → List X → X → List X
-put_in_order cmp [] x = x ∷ []
-put_in_order cmp (y ∷ ys) x = if is_lt (cmp x y) then (x ∷ y ∷ ys) else (y ∷ put_in_order cmp ys x)
-
--- items in order
-abbrev pub in_order : {X : Type 0} → (X → X → Ordering) → List X → List X
-in_order cmp items = fold (put_in_order cmp) [] items
 
 -- priority by time: the earlier moment, and of equal ones the smaller number
 abbrev pub time_cmp : (a b : Standing) → Ordering

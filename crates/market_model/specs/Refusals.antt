@@ -28,13 +28,9 @@ use Rattle.market_model.specs.Grid.{graph_of}
 use Rattle.zone_graph.specs.Grid.{arc_between}
 use Rattle.market_model.specs.Orders.{Placed, PlacedBlock, left, next_name, open_block, open_names, open_order}
 use Rattle.market_model.specs.Room.{is_closed_phase, lots_of, phase_of, quarter_room}
-use Rattle.market_model.specs.Rules.{first_broken, hours_concerned, is_fill_or_kill, naming_refusal, numbers_refusal, unless}
+use Rattle.market_model.specs.Rules.{first_broken, hours_concerned, naming_refusal, numbers_refusal, unless}
 use Rattle.market_model.specs.Sweep.{first_answer}
-
--- a plain limit order
-abbrev pub is_limit : Kind → Bool
-is_limit kind.Limit = true
-is_limit _ = false
+use Rattle.order_kinds.specs.Order.{is_fill_or_kill, is_limit}
 
 -- the order, and the block, if it is the caller's
 abbrev pub if_own : (caller : ℕ) → Option Placed → Option Placed

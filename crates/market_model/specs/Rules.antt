@@ -5,12 +5,10 @@ use Rattle.std.specs.List.{list_all}
 use Rattle.std.specs.Option.{option_map, option_map_or}
 use Rattle.order_kinds.specs.declared.contract.Part.{Part}
 use Rattle.order_kinds.specs.declared.contract.Part.TheVariants as part
-use Rattle.order_kinds.specs.declared.order.Kind.{Kind}
-use Rattle.order_kinds.specs.declared.order.Kind.TheVariants as kind
 use Rattle.order_kinds.specs.declared.price.Lots.{Lots}
 use Rattle.order_kinds.specs.declared.price.Price.{Price}
 use Rattle.order_kinds.specs.Contract.{is_known}
-use Rattle.order_kinds.specs.Order.{has_allowed_peaks}
+use Rattle.order_kinds.specs.Order.{has_allowed_peaks, is_fill_or_kill}
 use Rattle.order_kinds.specs.Period.{hours_from, is_not_after, is_within}
 use Rattle.order_kinds.specs.Price.{lots_in_range, price_in_range}
 use Rattle.zone_graph.specs.Graph.{Graph, zone_count}
@@ -24,6 +22,7 @@ use Rattle.market_model.specs.declared.setup.Setup.{Setup}
 use Rattle.market_model.specs.Grid.{graph_of}
 use Rattle.zone_graph.specs.Grid.{arc_between}
 use Rattle.market_model.specs.Sweep.{first_answer}
+use Rattle.quarter_capacity.specs.Capacity.{most_offered}
 
 -- who may give a command: traders enter and change orders, operators decide on capacity and gates,
 -- and either may ask for capacity or a view and have blocks matched
@@ -113,11 +112,6 @@ ascends [] = true
 ascends (a ∷ []) = true
 ascends (a ∷ b ∷ ns) = nat_lt a b && ascends (b ∷ ns)
 
--- an order is filled wholly or not at all
-abbrev pub is_fill_or_kill : Kind → Bool
-is_fill_or_kill kind.Fok = true
-is_fill_or_kill _ = false
-
 -- a basket is 2 to 8 fill-or-kill orders of ascending hours
 abbrev pub basket_is_good : Command → Bool
 basket_is_good (command.EnterBasket orders) =
@@ -143,7 +137,7 @@ quantities_named _ = []
 
 -- an offer is at most 100000.0 MW
 abbrev pub offer_in_range : Command → Bool
-offer_in_range (command.Offer from to first last lots) = nat_le lots 1000000
+offer_in_range (command.Offer from to first last lots) = nat_le lots most_offered
 offer_in_range _ = true
 
 -- an order that a command enters by itself has allowed peaks

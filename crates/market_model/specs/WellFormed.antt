@@ -28,6 +28,7 @@ use Rattle.market_model.specs.Lines.{buyer_zone, seller_zone}
 use Rattle.market_model.specs.Orders.{Placed, PlacedBlock, blocks_placed, is_open, left, next_name, placed, standing}
 use Rattle.market_model.specs.Room.{phase_of, quarter_room, room}
 use Rattle.market_model.specs.Rules.{is_block_period}
+use Rattle.quarter_capacity.specs.Capacity.{most_offered}
 
 -- the setup of a market: each border joins two different zones
 abbrev pub IsMarketSetup : Setup → Type 0
@@ -127,7 +128,7 @@ pub record GrantFits (setup : Setup) (before : List Event) (arc : Arc) (first la
 -- capacity is offered: no more than the greatest offer, and in no quarter less than what flows
 pub record OfferFits (setup : Setup) (before : List Event) (arc : Arc) (first last : Quarter) (lots : ℕ) : Type 0 where
   pub range : IsRange setup arc first last
-  pub most : lots ≤ 1000000
+  pub most : lots ≤ most_offered
   pub covers_flow : (quarter : Quarter) → IsIn quarter (range_quarters first last) → flow before quarter arc ≤ℤ pos lots
 
 -- a border is halted or resumed in hours of the day

@@ -1,5 +1,6 @@
 //! What callers ask of the market.
 
+use crate::copying::copy_variants;
 use order_kinds::{BlockOrder, Contract, Order, OrderName, Phase, Quarter, Side};
 use zone_graph::{Duplicate, NoMemory, Sequence};
 
@@ -125,82 +126,22 @@ pub type Commands = Sequence<Command>;
 
 impl Duplicate for Command {
     fn copy(&self) -> Result<Command, NoMemory> {
-        Ok(match self {
-            Command::Enter { order } => Command::Enter { order: *order },
-            Command::EnterBlock { order } => Command::EnterBlock { order: *order },
-            Command::EnterBasket { orders } => Command::EnterBasket {
-                orders: orders.copy()?,
-            },
-            Command::Cancel { name } => Command::Cancel { name: *name },
-            Command::Reduce { name, to } => Command::Reduce {
-                name: *name,
-                to: *to,
-            },
-            Command::Blocks { first, last } => Command::Blocks {
-                first: *first,
-                last: *last,
-            },
-            Command::Offer {
-                from,
-                to,
-                first,
-                last,
-                lots,
-            } => Command::Offer {
-                from: *from,
-                to: *to,
-                first: *first,
-                last: *last,
-                lots: *lots,
-            },
-            Command::Request {
-                from,
-                to,
-                first,
-                last,
-                lots,
-            } => Command::Request {
-                from: *from,
-                to: *to,
-                first: *first,
-                last: *last,
-                lots: *lots,
-            },
-            Command::Halt {
-                from,
-                to,
-                first,
-                last,
-            } => Command::Halt {
-                from: *from,
-                to: *to,
-                first: *first,
-                last: *last,
-            },
-            Command::Resume {
-                from,
-                to,
-                first,
-                last,
-            } => Command::Resume {
-                from: *from,
-                to: *to,
-                first: *first,
-                last: *last,
-            },
-            Command::Gate { hour, phase } => Command::Gate {
-                hour: *hour,
-                phase: *phase,
-            },
-            Command::View {
-                contract,
-                side,
-                zone,
-            } => Command::View {
-                contract: *contract,
-                side: *side,
-                zone: *zone,
-            },
-        })
+        Ok(copy_variants!(
+            self, Command;
+            plain
+                Enter { order },
+                EnterBlock { order },
+                Cancel { name },
+                Reduce { name, to },
+                Blocks { first, last },
+                Offer { from, to, first, last, lots },
+                Request { from, to, first, last, lots },
+                Halt { from, to, first, last },
+                Resume { from, to, first, last },
+                Gate { hour, phase },
+                View { contract, side, zone };
+            deep
+                EnterBasket { orders }
+        ))
     }
 }

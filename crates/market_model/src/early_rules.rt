@@ -3,7 +3,8 @@
 ghost use Rattle.std.specs.Prelude.{◌≡◌, ◌<◌, ◌&&◌, true, length, map, nat_lt, IfNone};
 ghost use Rattle.std.specs.List.{list_all};
 ghost use Rattle.order_kinds.specs.Contract.{is_known};
-ghost use Rattle.order_kinds.specs.Period.{is_not_after, is_within};
+ghost use Rattle.order_kinds.specs.Order.{is_fill_or_kill};
+ghost use Rattle.order_kinds.specs.Period.{is_within};
 ghost use Rattle.order_kinds.specs.Price.{lots_in_range, price_in_range};
 ghost use Rattle.zone_graph.specs.Graph.{zone_count};
 ghost use Rattle.market_model.specs.Grid.{graph_of};
@@ -12,7 +13,8 @@ ghost use Rattle.market_model.specs.Rules as rules;
 use crate::command::Command;
 use crate::refusal::Refusal;
 use crate::setup::{Role, Setup};
-use order_kinds::{Kind, Lots, Order, Part, Quarter, check_block, check_order};
+use order_kinds::{Lots, Order, check_block, check_order};
+use quarter_capacity::MOST_OFFERED;
 use zone_graph::Grid;
 
 // The fewest orders of a basket.
@@ -23,9 +25,6 @@ const MOST_IN_BASKET: usize = 8;
 
 // The most hours of a block.
 const MOST_BLOCK_HOURS: u32 = 24;
-
-// The most that is offered, in lots: 100000.0 MW.
-const MOST_OFFERED: u32 = 1_000_000;
 
 /// The first rule that a command breaks by itself, whatever happened before: `None` exactly where
 /// it breaks none. It takes no memory.
@@ -145,7 +144,7 @@ fn parts_are_known(command: &Command) -> bool
         Command::Enter { order } => order.contract.part.is_known(),
         Command::EnterBasket { orders } => are_known_parts(orders.as_slice()),
         Command::Offer { first, last, .. } | Command::Request { first, last, .. } => {
-            is_known_quarter(first) && is_known_quarter(last)
+            first.is_known() && last.is_known()
         }
         Command::View { contract, .. } => contract.part.is_known(),
         _ => true,
@@ -160,13 +159,6 @@ fn are_known_parts(orders: &[Order]) -> bool
         .iter()
         .map(|order| order.contract.part)
         .all(|part| part.is_known())
-}
-
-// Whether an hour has this quarter.
-fn is_known_quarter(quarter: &Quarter) -> bool
-    ensures { result ≡ is_known (Part.Quarter quarter.now.number) }
-{
-    Part::Quarter(quarter.number).is_known()
 }
 
 // Whether the grid has each zone that the command names.
@@ -218,7 +210,7 @@ fn period_is_good(command: &Command) -> bool
         Command::EnterBlock { order } => is_block_period(order.first, order.last),
         Command::Blocks { first, last } => is_block_period(*first, *last),
         Command::Offer { first, last, .. } | Command::Request { first, last, .. } => {
-            is_not_after(first, last)
+            first.is_not_after(*last)
         }
         Command::Halt { first, last, .. } | Command::Resume { first, last, .. } => first <= last,
         _ => true,
@@ -230,13 +222,6 @@ fn is_block_period(first: u32, last: u32) -> bool
     ensures { result ≡ rules.is_block_period first last }
 {
     first < last && last - first < MOST_BLOCK_HOURS
-}
-
-// Whether a quarter is not after another.
-fn is_not_after(quarter: &Quarter, other: &Quarter) -> bool
-    ensures { result ≡ is_not_after quarter.now other.now }
-{
-    quarter.hour < other.hour || quarter.hour == other.hour && quarter.number <= other.number
 }
 
 // Whether the command enters no basket, or one of 2 to 8 fill-or-kill orders of ascending hours.
@@ -253,7 +238,7 @@ fn basket_is_good(command: &Command) -> bool
 fn is_basket(orders: &[Order]) -> bool
     ensures { result ≡ (is_within 2 8 (length orders.now)
         && rules.ascends (map (λ order. order.contract.hour) orders.now)
-        && list_all (λ order. rules.is_fill_or_kill order.kind) orders.now) }
+        && list_all (λ order. is_fill_or_kill order.kind) orders.now) }
 {
     FEWEST_IN_BASKET <= orders.len()
         && orders.len() <= MOST_IN_BASKET
@@ -263,9 +248,9 @@ fn is_basket(orders: &[Order]) -> bool
 
 // Whether each order is filled wholly or not at all.
 fn are_fill_or_kill(orders: &[Order]) -> bool
-    ensures { result ≡ list_all (λ order. rules.is_fill_or_kill order.kind) orders.now }
+    ensures { result ≡ list_all (λ order. is_fill_or_kill order.kind) orders.now }
 {
-    orders.iter().all(|order| order.kind == Kind::Fok)
+    orders.iter().all(|order| order.kind.is_fill_or_kill())
 }
 
 // Whether each order is of a later hour than the one before it.

@@ -1,5 +1,6 @@
 //! What happens in the market.
 
+use crate::copying::copy_variants;
 use order_kinds::{BlockOrder, Contract, Order, OrderName, Phase, Price, Quarter};
 use zone_graph::{Arc, Duplicate, NoMemory, Route, Sequence};
 
@@ -145,86 +146,21 @@ pub type Events = Sequence<Event>;
 
 impl Duplicate for Event {
     fn copy(&self) -> Result<Event, NoMemory> {
-        Ok(match self {
-            Event::Entered {
-                name,
-                caller,
-                order,
-            } => Event::Entered {
-                name: *name,
-                caller: *caller,
-                order: *order,
-            },
-            Event::EnteredBlock {
-                name,
-                caller,
-                order,
-            } => Event::EnteredBlock {
-                name: *name,
-                caller: *caller,
-                order: *order,
-            },
-            Event::Leg { contract, leg } => Event::Leg {
-                contract: *contract,
-                leg: leg.copy()?,
-            },
-            Event::BlockLeg { first, last, leg } => Event::BlockLeg {
-                first: *first,
-                last: *last,
-                leg: leg.copy()?,
-            },
-            Event::Granted {
-                arc,
-                first,
-                last,
-                lots,
-            } => Event::Granted {
-                arc: *arc,
-                first: *first,
-                last: *last,
-                lots: *lots,
-            },
-            Event::Offered {
-                arc,
-                first,
-                last,
-                lots,
-            } => Event::Offered {
-                arc: *arc,
-                first: *first,
-                last: *last,
-                lots: *lots,
-            },
-            Event::Halted {
-                border,
-                first,
-                last,
-            } => Event::Halted {
-                border: *border,
-                first: *first,
-                last: *last,
-            },
-            Event::Resumed {
-                border,
-                first,
-                last,
-            } => Event::Resumed {
-                border: *border,
-                first: *first,
-                last: *last,
-            },
-            Event::Gated { hour, phase } => Event::Gated {
-                hour: *hour,
-                phase: *phase,
-            },
-            Event::Withdrawn { name, lots } => Event::Withdrawn {
-                name: *name,
-                lots: *lots,
-            },
-            Event::Reduced { name, by } => Event::Reduced {
-                name: *name,
-                by: *by,
-            },
-        })
+        Ok(copy_variants!(
+            self, Event;
+            plain
+                Entered { name, caller, order },
+                EnteredBlock { name, caller, order },
+                Granted { arc, first, last, lots },
+                Offered { arc, first, last, lots },
+                Halted { border, first, last },
+                Resumed { border, first, last },
+                Gated { hour, phase },
+                Withdrawn { name, lots },
+                Reduced { name, by };
+            deep
+                Leg { contract, leg },
+                BlockLeg { first, last, leg }
+        ))
     }
 }

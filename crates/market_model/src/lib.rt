@@ -6,6 +6,7 @@
 #![tactic(auto)]
 
 mod command;
+mod copying;
 mod early_rules;
 mod entry;
 mod event;
@@ -14,6 +15,7 @@ mod refusal;
 mod reply;
 mod setup;
 mod touched_hours;
+mod who;
 
 pub use command::{Command, Commands, Orders};
 pub use early_rules::refuse_early;
@@ -28,11 +30,7 @@ pub use refusal::Refusal;
 pub use reply::{Reply, Rows, ViewRow};
 pub use setup::{Caller, Callers, Role, Setup};
 pub use touched_hours::touches;
+pub use who::{Who, current_lists_miss_nothing};
 pub use zone_graph::{
     Arc, Duplicate, Legs, Names, NoMemory, Pairs, Route, RouteLeg, Sequence, Text, Word, Zones,
 };
-
-#[cfg(test)]
-mod early_tests;
-#[cfg(test)]
-mod tests;
