@@ -1,0 +1,7 @@
+-- Lemmas.
+pub mod Commits
+pub mod Firsts
+pub mod Lists
+pub mod Seated
+pub mod Sums
+pub mod Turns
