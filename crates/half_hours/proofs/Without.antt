@@ -41,6 +41,7 @@ use Rattle.market_laws.proofs.Trades.{from_line}
 use Rattle.history_bounds.proofs.Quiet.{deals_of-quiet, gate_before_sweep, gate_before_sweep-quiet, sweep-quiet}
 use Rattle.half_hours.specs.Halves.{AreHalfless, IsHalfless}
 use Rattle.half_hours.proofs.Halfless.{before_sweep, before_sweep-halfless, block_before_sweeps, block_before_sweeps-halfless, enter-halfless, halfless-append, halfless-one, orders-halfless, reply-halfless, quiet-halfless}
+use Rattle.market_locality.proofs.Replies.{at_arc}
 
 -- an order that entered is of no half hour
 placed-halfless : (events : List Event) → AreHalfless events → (order : Placed) → IsIn order (placed events) → is_half order.order.contract.part ≡ false
@@ -151,10 +152,6 @@ then-same : (graph : Graph) (hours : List ℕ) (events : List Event) (done : Eve
 then-same graph hours events done are own =
     ap (λ rest. done ∷ rest) (sweeps-same graph hours (events ++ done ∷ []) (halfless-append events (done ∷ []) are (halfless-one done own)))
 
-at_arc-same : (o : Option Arc) (f g : Arc → List Event) → ((arc : Arc) → f arc ≡ g arc) → on_arc o f ≡ on_arc o g
-at_arc-same None f g same = refl
-at_arc-same (Some arc) f g same = same arc
-
 gate-same : (graph : Graph) (hour : ℕ) (asked : Phase) (events : List Event) → AreHalfless events → gate all_parts graph hour asked events ≡ gate parts_without_halves graph hour asked events
 gate-same graph hour asked events are =
     let done : List Event = gate_before_sweep hour asked events in
@@ -170,13 +167,13 @@ done-same setup events caller (command.EnterBasket orders) are none = enter_all-
 done-same setup events caller (command.Cancel name) are none = refl
 done-same setup events caller (command.Reduce name to) are none = refl
 done-same setup events caller (command.Blocks first last) are none = match_blocks-same (graph_of setup) first last events are
-done-same setup events caller (command.Offer from to first last lots) are none = at_arc-same (arc_between (graph_of setup) from to) _ _
+done-same setup events caller (command.Offer from to first last lots) are none = at_arc (arc_between (graph_of setup) from to) _ _
     (λ arc. then-same (graph_of setup) (hours_from first.hour last.hour) events (event.Offered arc first last lots) are tt)
-done-same setup events caller (command.Request from to first last lots) are none = at_arc-same (arc_between (graph_of setup) from to) _ _
+done-same setup events caller (command.Request from to first last lots) are none = at_arc (arc_between (graph_of setup) from to) _ _
     (λ arc. then-same (graph_of setup) (hours_from first.hour last.hour) events (event.Granted arc first last lots) are tt)
-done-same setup events caller (command.Halt from to first last) are none = at_arc-same (arc_between (graph_of setup) from to) _ _
+done-same setup events caller (command.Halt from to first last) are none = at_arc (arc_between (graph_of setup) from to) _ _
     (λ arc. then-same (graph_of setup) (hours_from first last) events (event.Halted arc.border first last) are tt)
-done-same setup events caller (command.Resume from to first last) are none = at_arc-same (arc_between (graph_of setup) from to) _ _
+done-same setup events caller (command.Resume from to first last) are none = at_arc (arc_between (graph_of setup) from to) _ _
     (λ arc. then-same (graph_of setup) (hours_from first last) events (event.Resumed arc.border first last) are tt)
 done-same setup events caller (command.Gate hour asked) are none = gate-same (graph_of setup) hour asked events are
 done-same setup events caller (command.View contract side zone) are none = refl

@@ -1,6 +1,6 @@
 -- At most so many orders and blocks of an hour are open as there is room for on the desk.
 use Rattle.std.proofs.Common.{◌≡◌, ◌∙◌, ◌≢◌, inl, inr, ℕ, zero, suc, ◌+◌, ◌-◌, ◌<◌, ◌≤◌, ◌&&◌, Bool, true, false, List, [], ◌∷◌, ◌++◌, length, map, Option, Some, None, nat_lt, append_assoc, eqb-true, refl, sym, ap, subst, if◌then◌else◌, arith}
-use Rattle.std.proofs.lemmas.Bool.{lt-ltb, ltb-true}
+use Rattle.std.proofs.lemmas.Bool.{lt-ltb, ltb-true, and_parts}
 use Rattle.std.proofs.lemmas.List.{append-nil}
 use Rattle.std.proofs.lemmas.List.Elements.{filter-append}
 use Rattle.std.specs.List.{list_all}
@@ -30,7 +30,7 @@ use Rattle.market_model.specs.Market.{Turn, answer, events_done, refused_or, rep
 use Rattle.market_model.specs.Orders.{PlacedBlock, block_placed_by, is_open, left, next_name, open_names}
 use Rattle.market_model.specs.Refusals.{basket_order_refusal, block_desk_refusal, can_rest, desk_room, has_desk_room, is_filled, order_desk_refusal, refusal_of_command}
 use Rattle.market_model.specs.Certificate.{bound_of, unfilled_zones}
-use Rattle.market_model.specs.Rules.{ascends, is_fill_or_kill, unless}
+use Rattle.market_model.specs.Rules.{ascends, unless}
 use Rattle.market_model.specs.Sweep.{sweep, sweeps}
 use Rattle.market_model.specs.WellFormed.{BlockEnters, FitAfter, IsHistory, IsMarketSetup}
 use Rattle.market_laws.proofs.Admitted.{IsAdmitted, refusal-none, unless-none}
@@ -42,7 +42,7 @@ use Rattle.market_laws.proofs.Members.{first_answer-none, IsIn-filter_map}
 use Rattle.market_laws.proofs.Replies.{reply-history}
 use Rattle.market_laws.proofs.Soundness.{block_fault-none, lots_in_range-bounds}
 use Rattle.market_laws.proofs.States.{left-more}
-use Rattle.market_laws.proofs.Tests.{and-true, same_name-refl}
+use Rattle.market_laws.proofs.Tests.{same_name-refl}
 use Rattle.market_laws.proofs.Wholes.{history-more, new_block-whole}
 use Rattle.market_locality.proofs.Entries.{rest_of-agree}
 use Rattle.market_locality.proofs.Named.{AreNamedByHour, history-named}
@@ -50,6 +50,7 @@ use Rattle.market_locality.proofs.States.{Agree}
 use Rattle.market_locality.proofs.Within.{AreWithinHours, enter-within}
 use Rattle.history_bounds.proofs.OpenNames.{IsEntry, block-entry, closed-after, few-rests, fewer-closed, fewer-quiet, order-entry}
 use Rattle.history_bounds.proofs.Quiet.{AreQuiet, at_arc-quiet, gate-quiet, legs_with-quiet, match_blocks-quiet, quiet-append, quiet-one, rest-quiet, sweep-quiet, sweeps-quiet, take-quiet, then-quiet}
+use Rattle.order_kinds.specs.Order.{is_fill_or_kill}
 
 -- no hour has more open than there is room for
 abbrev pub AreFew : List Event → Type 0
@@ -64,6 +65,21 @@ few-closed : (events : List Event) (name : OrderName) (e : Event) (more : List E
     → is_open ((and_then events e) ++ more) name ≡ false → AreFew events → AreFew ((and_then events e) ++ more)
 few-closed events name e more entry quiet closed few hour =
     let own = few hour in let less = fewer-closed events name e entry hour more quiet closed in omega (arith, own, less)
+
+-- each later hour of ascending ones is above the first
+pub ascends-later : (first : ℕ) (hours : List ℕ) → ascends (first ∷ hours) ≡ true → (hour : ℕ) → IsIn hour hours → first < hour
+ascends-later first [] up hour i = absurd i
+ascends-later first (next ∷ hours) up hour i =
+    let both = and_parts (nat_lt first next) (ascends (next ∷ hours)) up in
+    let less = ltb-true first next both.0 in
+    elim i [
+      | inl s ↦ subst (λ n. first < n) (sym s) less
+      | inr j ↦ let more = ascends-later next hours both.1 hour j in omega (arith, less, more)
+    ]
+
+pub ascends-rest : (first : ℕ) (hours : List ℕ) → ascends (first ∷ hours) ≡ true → ascends hours ≡ true
+ascends-rest first [] up = refl
+ascends-rest first (next ∷ hours) up = (and_parts (nat_lt first next) (ascends (next ∷ hours)) up).1
 
 module _ (setup : Setup) (is_setup : IsMarketSetup setup) where
   abbrev graph : Graph
@@ -261,21 +277,6 @@ module _ (setup : Setup) (is_setup : IsMarketSetup setup) where
           go true is rest = elim (w e (inl refl) hour is) [ inl s ↦ absurd (other (sym s)) | inr i ↦ absurd i ]
           go false is rest = rw is rest
 
-  -- ascending hours are different
-  ascends-later : (first : ℕ) (hours : List ℕ) → ascends (first ∷ hours) ≡ true → (hour : ℕ) → IsIn hour hours → first < hour
-  ascends-later first [] up hour i = absurd i
-  ascends-later first (next ∷ hours) up hour i =
-      let both = and-true (nat_lt first next) (ascends (next ∷ hours)) up in
-      let less = ltb-true first next both.0 in
-      elim i [
-        | inl s ↦ subst (λ n. first < n) (sym s) less
-        | inr j ↦ let more = ascends-later next hours both.1 hour j in omega (arith, less, more)
-      ]
-
-  ascends-rest : (first : ℕ) (hours : List ℕ) → ascends (first ∷ hours) ≡ true → ascends hours ≡ true
-  ascends-rest first [] up = refl
-  ascends-rest first (next ∷ hours) up = (and-true (nat_lt first next) (ascends (next ∷ hours)) up).1
-
   few-basket : (parts : List Part) (caller : ℕ) (orders : List Order) (events : List Event) → FitAfter setup [] (events ++ enter_all parts graph caller orders events)
       → ascends (map (λ (o : Order). o.contract.hour) orders) ≡ true → ((order : Order) → IsIn order orders → rest_of graph events caller order ≡ 0)
       → AreFew events → AreFew (events ++ enter_all parts graph caller orders events)
@@ -323,8 +324,8 @@ module _ (setup : Setup) (is_setup : IsMarketSetup setup) where
   few-done parts events caller (command.EnterBlock order) history may fit few = few-block_entered parts caller order events history fit may.desk few
   few-done parts events caller (command.EnterBasket orders) history may fit few =
       let hours : List ℕ = map (λ (o : Order). o.contract.hour) orders in
-      let front = and-true (is_within 2 8 (length orders) && ascends hours) (list_all (λ (o : Order). is_fill_or_kill o.kind) orders) may.names.basket in
-      let up = (and-true (is_within 2 8 (length orders)) (ascends hours) front.0).1 in
+      let front = and_parts (is_within 2 8 (length orders) && ascends hours) (list_all (λ (o : Order). is_fill_or_kill o.kind) orders) may.names.basket in
+      let up = (and_parts (is_within 2 8 (length orders)) (ascends hours) front.0).1 in
       few-basket parts caller orders events fit up (λ order i.
       let zones : List ℕ = unfilled_zones graph events caller order in
       eqb-true (rest_of graph events caller order) 0 (unless-none (is_filled graph events caller order)

@@ -1,6 +1,6 @@
 -- No two orders of one line have one moment.
 use Rattle.std.proofs.Common.{◌≡◌, ◌∙◌, ◌≢◌, ◌⊎◌, inl, inr, ℕ, ◌+◌, Bool, true, false, List, [], ◌∷◌, ◌++◌, length, length-append, Some, append_assoc, eq-eqb, refl, sym, ap, subst, if◌then◌else◌, arith}
-use Rattle.std.proofs.lemmas.Bool.{true≢false}
+use Rattle.std.proofs.lemmas.Bool.{true≢false, and_parts, or_cases}
 use Rattle.std.proofs.lemmas.List.{append-nil}
 use Rattle.order_kinds.specs.declared.contract.Contract.{Contract}
 use Rattle.order_kinds.specs.declared.side.Side.{Side}
@@ -20,7 +20,7 @@ use Rattle.market_laws.proofs.Growing.{fit-back}
 use Rattle.market_laws.proofs.Members.{from_filter_map}
 use Rattle.market_laws.proofs.Names.{names-once}
 use Rattle.market_laws.proofs.Placed.{all_are_sound, picked-stays}
-use Rattle.market_laws.proofs.Tests.{and-true, or-true, same_name-eq, same_name-refl}
+use Rattle.market_laws.proofs.Tests.{same_name-eq, same_name-refl}
 use Rattle.market_laws.proofs.Unique.{one_order}
 
 -- a place, counted from 1 behind what comes before, at which an event passes a test
@@ -158,15 +158,15 @@ module _ (setup : Setup) (events : List Event) (fit : FitAfter setup [] events) 
   one-moment one other one_placed other_placed side before (event.Entered given caller entering) i of_one of_other =
       sym (same_name-eq given one.name of_one) ∙ same_name-eq given other.name of_other
   one-moment one other one_placed other_placed side before (event.Leg contract leg) i of_one of_other =
-      let names_one = (and-true (names leg one.name) _ of_one).0 in
-      let names_other = (and-true (names leg other.name) _ of_other).0 in
-      elim (or-true (same_name leg.taker one.name) (same_name leg.maker one.name) names_one) [
-        | inl t ↦ elim (or-true (same_name leg.taker other.name) (same_name leg.maker other.name) names_other) [
+      let names_one = (and_parts (names leg one.name) _ of_one).0 in
+      let names_other = (and_parts (names leg other.name) _ of_other).0 in
+      elim (or_cases (same_name leg.taker one.name) (same_name leg.maker one.name) names_one) [
+        | inl t ↦ elim (or_cases (same_name leg.taker other.name) (same_name leg.maker other.name) names_other) [
           | inl u ↦ sym (same_name-eq leg.taker one.name t) ∙ same_name-eq leg.taker other.name u
           | inr m ↦ absurd (opposite-other one.order.side (side ∙ leg-opposed contract leg i one other one_placed other_placed
               (same_name-eq leg.taker one.name t) (same_name-eq leg.maker other.name m)))
         ]
-        | inr m ↦ elim (or-true (same_name leg.taker other.name) (same_name leg.maker other.name) names_other) [
+        | inr m ↦ elim (or_cases (same_name leg.taker other.name) (same_name leg.maker other.name) names_other) [
           | inl u ↦ absurd (opposite-other other.order.side (sym side ∙ leg-opposed contract leg i other one other_placed one_placed
               (same_name-eq leg.taker other.name u) (same_name-eq leg.maker one.name m)))
           | inr n ↦ sym (same_name-eq leg.maker one.name m) ∙ same_name-eq leg.maker other.name n

@@ -24,21 +24,10 @@ use Rattle.market_laws.proofs.States.{left-more}
 use Rattle.market_laws.proofs.Tests.{same_name-refl}
 use Rattle.market_laws.proofs.Unique.{times-some}
 use Rattle.market_laws.proofs.Wholes.{other_name}
+use Rattle.market_laws.proofs.Counts.{fewer-le}
 use Rattle.history_bounds.proofs.Quiet.{AreQuiet, IsQuiet, quiet-append}
 
 -- ---- lists
-
--- a test that implies another is passed by no more
-pub fewer : {X : Type 0} (p q : X → Bool) (xs : List X) → ((x : X) → IsIn x xs → p x ≡ true → q x ≡ true) → length (filter p xs) ≤ length (filter q xs)
-fewer p q [] implies = omega arith
-fewer p q (x ∷ xs) implies = go (fewer p q xs (λ y i. implies y (inr i))) (p x) refl (q x) refl
-  where
-    go : length (filter p xs) ≤ length (filter q xs) → (s : Bool) → p x ≡ s → (t : Bool) → q x ≡ t
-        → length (cond s (x ∷ filter p xs) (filter p xs)) ≤ length (cond t (x ∷ filter q xs) (filter q xs))
-    go rest true a true b = omega (arith, rest)
-    go rest true a false b = absurd (true≢false (sym (implies x (inl refl) a) ∙ b))
-    go rest false a true b = omega (arith, rest)
-    go rest false a false b = rest
 
 -- nor than pass two others, one after the other
 fewer-both : {X : Type 0} (p q r : X → Bool) (xs : List X) → ((x : X) → IsIn x xs → p x ≡ true → (q x ≡ true) × (r x ≡ true))
@@ -121,7 +110,7 @@ closed-after events more quiet name none =
 pub fewer-quiet : (hour : ℕ) (events more : List Event) → AreQuiet more → length (open_names (events ++ more) hour) ≤ length (open_names events hour)
 fewer-quiet hour events more quiet =
     subst (λ xs. length (filter (is_open (events ++ more)) xs) ≤ length (open_names events hour)) (sym (given-quiet hour events more quiet))
-    (fewer (is_open (events ++ more)) (is_open events) (given_in events hour) (λ name i. opens-before events more quiet name))
+    (fewer-le (is_open (events ++ more)) (is_open events) (given_in events hour) (λ name i. opens-before events more quiet name))
 
 -- ---- an order or block that enters
 
@@ -207,7 +196,7 @@ module _ (events : List Event) (name : OrderName) (e : Event) (entry : IsEntry e
       ∙ ap (λ xs. filter (is_open final) (given_in events hour) ++ xs) (none_open final (nat_eq name.hour hour) closed)
       ∙ append-nil (filter (is_open final) (given_in events hour)) in
       subst (λ xs. length xs ≤ length (open_names events hour)) (sym parts)
-      (fewer (is_open final) (is_open events) (given_in events hour) (opened-before hour more quiet))
+      (fewer-le (is_open final) (is_open events) (given_in events hour) (opened-before hour more quiet))
     where
       none_open : (final : List Event) (t : Bool) → is_open final name ≡ false → filter (is_open final) (if t then name ∷ [] else []) ≡ []
       none_open final true is = rw is refl
@@ -248,7 +237,7 @@ module _ (events : List Event) (name : OrderName) (e : Event) (entry : IsEntry e
       go : (t : Bool) → nat_eq name.hour hour ≡ t → length (filter (is_open final) (given_in final hour)) ≤ desk_room
       go false is =
           let names : given_in final hour ≡ given_in events hour = given_after hour more quiet ∙ ap (λ t. given_in events hour ++ (if t then name ∷ [] else [])) is ∙ append-nil (given_in events hour) in
-          let less = fewer (is_open final) (is_open events) (given_in events hour) (opened-before hour more quiet) in
+          let less = fewer-le (is_open final) (is_open events) (given_in events hour) (opened-before hour more quiet) in
           subst (λ xs. length (filter (is_open final) xs) ≤ desk_room) (sym names) (omega (arith, less, few))
       go true is =
           let names : given_in final hour ≡ given_in events hour ++ (name ∷ []) = given_after hour more quiet ∙ ap (λ t. given_in events hour ++ (if t then name ∷ [] else [])) is in

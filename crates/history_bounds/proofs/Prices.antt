@@ -1,7 +1,7 @@
 -- The price of each peak of an iceberg that can show is in range.
 use Rattle.std.proofs.Common.{◌≡◌, ℕ, ◌-◌, ◌*◌, ◌/◌, ◌<◌, ◌≤◌, ◌&&◌, true, List, [], ℤ, pos, neg_ℤ, ◌+ℤ◌, ◌-ℤ◌, ◌≤ℤ◌, int_le, nat_lt, nat_le, refl, arith}
 use Rattle.std.proofs.Math.Nat.{div-add-mod, mul-le-mul_left}
-use Rattle.std.proofs.lemmas.Bool.{ltb-true}
+use Rattle.std.proofs.lemmas.Bool.{ltb-true, and_parts, and_from}
 use Rattle.std.proofs.lemmas.Nat.{le-div}
 use Rattle.iceberg_peak.specs.Peak.{showing_price}
 use Rattle.order_kinds.specs.declared.order.Kind.{Kind}
@@ -19,7 +19,6 @@ use Rattle.market_model.specs.Orders.{Placed, placed, price_now}
 use Rattle.market_model.specs.WellFormed.{FitAfter}
 use Rattle.market_laws.proofs.Placed.{all_are_sound}
 use Rattle.market_laws.proofs.Soundness.{NumbersAreSound, order_fault-none}
-use Rattle.market_laws.proofs.Tests.{and-intro, and-true}
 
 -- cents between the least and the greatest price
 record IsBetween (cents : ℤ) : Type 0 where
@@ -28,12 +27,12 @@ record IsBetween (cents : ℤ) : Type 0 where
 
 between : (price : Price) → price_in_range price ≡ true → IsBetween price.0
 between price h =
-    let both = and-true (int_le (neg_ℤ (pos 999900)) price.0) (int_le price.0 (pos 999900)) h in
+    let both = and_parts (int_le (neg_ℤ (pos 999900)) price.0) (int_le price.0 (pos 999900)) h in
     record { low = grind (arith, both.0); high = grind (arith, both.1) }
 
 in_range : (price : Price) → IsBetween price.0 → price_in_range price ≡ true
 in_range price is =
-    and-intro (int_le (neg_ℤ (pos 999900)) price.0) (int_le price.0 (pos 999900)) (let l = is.low in grind (arith, l)) (let h = is.high in grind (arith, h))
+    and_from (int_le (neg_ℤ (pos 999900)) price.0) (int_le price.0 (pos 999900)) (let l = is.low in grind (arith, l)) (let h = is.high in grind (arith, h))
 
 -- a change no greater than one that stays in range
 up : (cents : ℤ) (change most : ℕ) → change ≤ most → IsBetween cents → IsBetween (cents +ℤ pos most) → IsBetween (cents +ℤ pos change)
@@ -77,8 +76,8 @@ prices-in-range setup events fit order h filled less =
         let side : Side = order.order.side in
         let price : Price = order.order.price in
         let total : ℕ = order.order.quantity.0 in
-        let a = and-true (nat_lt 0 peak && nat_lt peak total && nat_le (peak_count total peak) 100) (price_in_range (last_peak_price side price total peak delta)) allowed in
-        let b = and-true (nat_lt 0 peak && nat_lt peak total) (nat_le (peak_count total peak) 100) a.0 in
-        let c = and-true (nat_lt 0 peak) (nat_lt peak total) b.0 in
+        let a = and_parts (nat_lt 0 peak && nat_lt peak total && nat_le (peak_count total peak) 100) (price_in_range (last_peak_price side price total peak delta)) allowed in
+        let b = and_parts (nat_lt 0 peak && nat_lt peak total) (nat_le (peak_count total peak) 100) a.0 in
+        let c = and_parts (nat_lt 0 peak) (nat_lt peak total) b.0 in
         in_range (showing_price side price peak delta filled)
         (showing-between side price total peak delta filled (ltb-true 0 peak c.0) less (between price numbers.price) (between (last_peak_price side price total peak delta) a.1))

@@ -1,4 +1,5 @@
 pub mod Blocks
+pub mod Diamond
 pub mod Filling
 pub mod Halves
 pub mod Refusing

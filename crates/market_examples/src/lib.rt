@@ -1,8 +1,9 @@
 //! Worked sessions as theorems: from the definitions of the market alone the journal of each
-//! session follows, to the byte. Each is the contract of a function that does nothing.
+//! session follows, to the byte; and from those of the grid which routes are best. Each is the contract of a function that does nothing.
 #![tactic(auto)]
 
 mod blocks;
+mod diamond;
 mod filling;
 mod halves;
 mod refusing;
@@ -11,6 +12,7 @@ mod sweeping;
 mod trading;
 
 pub use blocks::{block_over_two_routes, blocks_matched_later};
+pub use diamond::{best_routes, reached_zones};
 pub use filling::{
     baskets, cancel_and_reduce, iceberg_peaks, iceberg_with_a_delta, immediate_or_cancel,
     unfilled_fill_or_kill, views, zones_of_an_unfilled_order,

@@ -1,12 +1,14 @@
 -- What is known of a command that no rule refuses.
-use Rattle.std.proofs.Common.{◌≡◌, ◌∙◌, inl, inr, ℕ, ◌&&◌, Bool, true, false, List, [], ◌∷◌, Option, Some, None, refl, ap, nat_lt}
+use Rattle.std.proofs.Common.{◌≡◌, ◌∙◌, inl, inr, ℕ, ◌&&◌, Bool, true, false, List, [], ◌∷◌, Option, None, refl, ap, nat_lt}
 use Rattle.std.specs.List.{list_all}
 use Rattle.std.specs.Option.{option_map}
+use Rattle.std.proofs.lemmas.Bool.{and_parts}
 use Rattle.order_kinds.specs.Contract.{is_known}
 use Rattle.order_kinds.specs.Period.{is_within}
 use Rattle.order_kinds.specs.Price.{lots_in_range, price_in_range}
 use Rattle.zone_graph.specs.Graph.{zone_count}
 use Rattle.zone_graph.specs.Route.{IsIn}
+use Rattle.zone_graph.proofs.Finding.{map-none}
 use Rattle.market_model.specs.declared.command.Command.{Command}
 use Rattle.market_model.specs.declared.event.Event.{Event}
 use Rattle.market_model.specs.declared.refusal.Refusal.{Refusal}
@@ -16,7 +18,6 @@ use Rattle.market_model.specs.Grid.{graph_of}
 use Rattle.market_model.specs.Refusals.{basket_refusal, closed_hour, desk_refusal, gate_refusal, offer_refusal, order_is_known, reduces, refusal_of_command, request_refusal, rules, unfilled_refusal}
 use Rattle.market_model.specs.Rules.{basket_is_good, border_is_known, first_broken, has_right, hours_named, naming_refusal, naming_rules, numbers_refusal, numbers_rules, offer_in_range, parts_named, peaks_are_good, period_is_good, prices_named, quantities_named, unless, zones_named}
 use Rattle.market_laws.proofs.Members.{first_answer-none}
-use Rattle.market_laws.proofs.Tests.{and-true}
 
 pub unless-none : (b : Bool) (broken : Refusal) → unless b broken ≡ None → b ≡ true
 unless-none true broken e = refl
@@ -30,7 +31,7 @@ unbroken rules e rule h = first_answer-none (λ (r : Unit {0} → Option Refusal
 pub all-pass : {X : Type 0} (p : X → Bool) (xs : List X) → list_all p xs ≡ true → (x : X) → IsIn x xs → p x ≡ true
 all-pass p [] e x h = absurd h
 all-pass p (y ∷ xs) e x h =
-    let both = and-true (p y) (list_all p xs) e in
+    let both = and_parts (p y) (list_all p xs) e in
     elim h [ inl s ↦ ap p s ∙ both.0 | inr i ↦ all-pass p xs both.1 x i ]
 
 -- what a command names is there
@@ -70,7 +71,7 @@ unfolding numbers_refusal
 numbers-none given e =
     let holds : (b : Bool) (broken : Refusal) → IsIn (λ _. unless b broken) (numbers_rules given) → b ≡ true =
     λ b broken h. unless-none b broken (unbroken (numbers_rules given) e (λ _. unless b broken) h) in
-    let lots = and-true (list_all lots_in_range (quantities_named given)) (offer_in_range given)
+    let lots = and_parts (list_all lots_in_range (quantities_named given)) (offer_in_range given)
     (holds (list_all lots_in_range (quantities_named given) && offer_in_range given) refusal.QuantityOutOfRange (inr (inl refl))) in
     record {
       prices = holds (list_all price_in_range (prices_named given)) refusal.PriceOutOfRange (inl refl);
@@ -78,10 +79,6 @@ numbers-none given e =
       offer = lots.1;
       peaks = holds (peaks_are_good given) refusal.BadPeak (inr (inr (inl refl)));
     }
-
-map-none : {A B : Type 0} (f : A → B) (o : Option A) → option_map f o ≡ None → o ≡ None
-map-none f None e = refl
-map-none f (Some a) e = absurd (cc)
 
 -- a command that no rule refuses
 pub record IsAdmitted (setup : Setup) (events : List Event) (caller : ℕ) (given : Command) : Type 0 where

@@ -1,6 +1,7 @@
 -- What is filled of an order or block and taken off it never passes what was entered, and a trade
 -- lowers what is left of both its sides by its lots.
 use Rattle.std.proofs.Common.{◌≡◌, inl, inr, ℕ, ◌+◌, ◌-◌, ◌≤◌, ◌||◌, Bool, true, false, List, [], refl, subst, arith}
+use Rattle.std.proofs.lemmas.Bool.{or_cases}
 use Rattle.order_kinds.specs.declared.contract.Contract.{Contract}
 use Rattle.order_kinds.specs.declared.order.Kind.{Kind}
 use Rattle.order_kinds.specs.declared.order.Kind.TheVariants as kind
@@ -16,7 +17,7 @@ use Rattle.market_model.specs.Orders.{entered, filled, filled_by, left, names, s
 use Rattle.market_model.specs.WellFormed.{FitAfter, Fits, LegFits}
 use Rattle.market_laws.proofs.Growing.{grows}
 use Rattle.market_laws.proofs.States.{entered-more, filled-more, left-more, taken_off-more}
-use Rattle.market_laws.proofs.Tests.{or-true, same_name-eq, same_name-refl}
+use Rattle.market_laws.proofs.Tests.{same_name-eq, same_name-refl}
 
 -- no order shows more than is left of it
 pub shown-le-left : (kind : Kind) (filled left : ℕ) → shown_lots kind filled left ≤ left
@@ -46,7 +47,7 @@ named_has before leg name taker maker = go (names leg name) refl
   where
     go : (b : Bool) → names leg name ≡ b → lots_if b leg.lots ≤ left before name
     go false e = omega arith
-    go true e = elim (or-true (same_name leg.taker name) (same_name leg.maker name) e) [
+    go true e = elim (or_cases (same_name leg.taker name) (same_name leg.maker name) e) [
       | inl t ↦ subst (λ n. leg.lots ≤ left before n) (same_name-eq leg.taker name t) taker
       | inr m ↦ subst (λ n. leg.lots ≤ left before n) (same_name-eq leg.maker name m) maker
     ]

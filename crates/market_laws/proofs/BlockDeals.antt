@@ -1,6 +1,6 @@
 -- A deal of two blocks leaves a history well-formed: both are then closed.
 use Rattle.std.proofs.Common.{◌≡◌, ◌≢◌, ◌∙◌, ℕ, ◌&&◌, Bool, true, false, List, ◌++◌, filter, map, Some, nat_eq, nat_lt, eqb-true, refl, sym, ap, subst, if◌then◌else◌, arith}
-use Rattle.std.proofs.lemmas.Bool.{ltb-true, true≢false}
+use Rattle.std.proofs.lemmas.Bool.{ltb-true, true≢false, and_parts}
 use Rattle.order_kinds.specs.declared.order.OrderName.{OrderName}
 use Rattle.order_kinds.specs.declared.price.Lots.{Lots}
 use Rattle.order_kinds.specs.declared.side.Side.{Side}
@@ -9,14 +9,15 @@ use Rattle.order_kinds.specs.Side.{crosses, opposite}
 use Rattle.zone_graph.specs.Graph.{Graph}
 use Rattle.zone_graph.specs.Route.{IsIn}
 use Rattle.zone_graph.proofs.Membership.{from_filter, from_map}
+use Rattle.zone_graph.proofs.Finding.{from_find}
 use Rattle.market_model.specs.declared.event.Event.{Event}
 use Rattle.market_model.specs.declared.setup.Setup.{Setup}
 use Rattle.market_model.specs.Blocks.{StandingBlock, block_legs, block_line, block_partner, block_priority_cmp, block_stands_in, can_trade_blocks, carries_whole, is_of_period, standing_block}
 use Rattle.market_model.specs.Orders.{PlacedBlock, blocks_placed, is_open, left}
 use Rattle.market_model.specs.WellFormed.{IsHistory, IsMarketSetup}
-use Rattle.market_laws.proofs.Members.{from_find, from_in_order}
+use Rattle.market_laws.proofs.Members.{from_in_order}
 use Rattle.market_laws.proofs.Pours.{ArePair, PourKeeps}
-use Rattle.market_laws.proofs.Tests.{and-true, same_name-eq, same_name-refl, same_side-eq}
+use Rattle.market_laws.proofs.Tests.{same_name-eq, same_name-refl, same_side-eq}
 
 -- an open block: it entered, and something is left of it
 pub record IsOpenNow (events : List Event) (block : PlacedBlock) : Type 0 where
@@ -40,9 +41,9 @@ from_block_line events first last side found h =
     let listed = from_in_order (block_priority_cmp side) found (map (standing_block events) (filter stands_in (blocks_placed events))) h in
     let stands = from_map (standing_block events) found (filter stands_in (blocks_placed events)) listed in
     let passes = from_filter stands_in stands.0 (blocks_placed events) stands.1 in
-    let both = and-true (is_open events stands.0.name && is_of_period first last stands.0.order) (same_side stands.0.order.side side) passes.1 in
-    let front = and-true (is_open events stands.0.name) (is_of_period first last stands.0.order) both.0 in
-    let period = and-true (nat_eq stands.0.order.first first) (nat_eq stands.0.order.last last) front.1 in
+    let both = and_parts (is_open events stands.0.name && is_of_period first last stands.0.order) (same_side stands.0.order.side side) passes.1 in
+    let front = and_parts (is_open events stands.0.name) (is_of_period first last stands.0.order) both.0 in
+    let period = and_parts (nat_eq stands.0.order.first first) (nat_eq stands.0.order.last last) front.1 in
     record {
       block = stands.0;
       is_open = record { is_placed = passes.0; is_left = front.0 };

@@ -1,6 +1,6 @@
 -- What happens as blocks enter and are matched leaves a history well-formed.
 use Rattle.std.proofs.Common.{◌≡◌, ◌∙◌, inl, ℕ, ◌<◌, ◌&&◌, Bool, true, false, List, [], ◌∷◌, ◌++◌, append_assoc, filter, flat_map, length, map, Option, Some, None, nat_lt, refl, sym, ap, subst, if◌then◌else◌, arith}
-use Rattle.std.proofs.lemmas.Bool.{lt-ltb}
+use Rattle.std.proofs.lemmas.Bool.{lt-ltb, and_parts, and_from}
 use Rattle.std.proofs.lemmas.List.{append-nil, length-map}
 use Rattle.std.specs.Ordering.{is_lt}
 use Rattle.order_kinds.specs.declared.contract.Part.{Part}
@@ -32,7 +32,6 @@ use Rattle.market_laws.proofs.Pours.{ArePair, pour-keeps, pour-run}
 use Rattle.market_laws.proofs.Repeats.{fold-deals, map-some, run-kept, steps-keep}
 use Rattle.market_laws.proofs.Roles.{same_pour}
 use Rattle.market_laws.proofs.Soundness.{block_fault-none, lots_in_range-bounds}
-use Rattle.market_laws.proofs.Tests.{and-intro, and-true}
 use Rattle.market_laws.proofs.Wholes.{history-more, new_block-whole}
 use Rattle.zone_graph.proofs.Membership.{IsIn-right}
 
@@ -159,10 +158,10 @@ block_line-length events first last =
 stood_too : (before deal : List Event) (first last : ℕ) (block : PlacedBlock) → ((name : OrderName) → is_open (before ++ deal) name ≡ true → is_open before name ≡ true)
     → block_stands_in (before ++ deal) first last Buy block ≡ true → block_stands_in before first last Buy block ≡ true
 stood_too before deal first last block opens e =
-    let both = and-true (is_open (before ++ deal) block.name && is_of_period first last block.order) (same_side block.order.side Buy) e in
-    let front = and-true (is_open (before ++ deal) block.name) (is_of_period first last block.order) both.0 in
-    and-intro (is_open before block.name && is_of_period first last block.order) (same_side block.order.side Buy)
-    (and-intro (is_open before block.name) (is_of_period first last block.order) (opens block.name front.0) front.1) both.1
+    let both = and_parts (is_open (before ++ deal) block.name && is_of_period first last block.order) (same_side block.order.side Buy) e in
+    let front = and_parts (is_open (before ++ deal) block.name) (is_of_period first last block.order) both.0 in
+    and_from (is_open before block.name && is_of_period first last block.order) (same_side block.order.side Buy)
+    (and_from (is_open before block.name) (is_of_period first last block.order) (opens block.name front.0) front.1) both.1
 
 module _ (setup : Setup) (is_setup : IsMarketSetup setup) where
   -- the deals of a period leave a history well-formed

@@ -23,6 +23,7 @@ use Rattle.market_model.specs.declared.setup.Setup.{Setup}
 use Rattle.market_model.specs.Capacity.{flow}
 use Rattle.market_model.specs.Grid.{graph_of}
 use Rattle.zone_graph.specs.Grid.{arc_between}
+use Rattle.zone_graph.proofs.Finding.{from_find}
 use Rattle.market_model.specs.History.{and_then}
 use Rattle.market_model.specs.Market.{gate, then_sweeps, withdrawals}
 use Rattle.market_model.specs.Orders.{is_open, left, name_given, open_names}
@@ -32,7 +33,7 @@ use Rattle.market_model.specs.Sweep.{first_answer, sweeps}
 use Rattle.market_model.specs.WellFormed.{Fits, GateFits, IsHistory, IsMarketSetup}
 use Rattle.market_laws.proofs.Admitted.{unless-none}
 use Rattle.market_laws.proofs.Entries.{sweeps-history}
-use Rattle.market_laws.proofs.Members.{first_answer-none, from_filter_map, from_find}
+use Rattle.market_laws.proofs.Members.{first_answer-none, from_filter_map}
 use Rattle.market_laws.proofs.Names.{enters_as, names-once, times_entered}
 use Rattle.market_laws.proofs.Unique.{times-cons, times-some}
 use Rattle.market_laws.proofs.Tests.{same_name-refl}
@@ -118,7 +119,7 @@ filter-differ {X} p (x ∷ xs) differ = go (filter-differ p xs differ.1) (p x)
     go rest false = rest
 
 -- the withdrawal of all that was left of a name
-abbrev withdrawn : List Event → OrderName → Event
+abbrev pub withdrawn : List Event → OrderName → Event
 withdrawn start name = event.Withdrawn name (left start name)
 
 module _ (setup : Setup) (is_setup : IsMarketSetup setup) where

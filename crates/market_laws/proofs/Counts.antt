@@ -4,7 +4,7 @@ use Rattle.std.proofs.lemmas.Bool.{true≢false}
 use Rattle.std.specs.Ordering.{is_lt}
 use Rattle.std.specs.declared.cmp.Ordering.{Ordering}
 use Rattle.zone_graph.specs.Route.{IsIn}
-use Rattle.market_model.specs.Lines.{in_order, put_in_order}
+use Rattle.zone_graph.specs.InOrder.{put_in_order, in_order}
 
 -- putting in order keeps how many there are
 length-put_in_order : {X : Type 0} (cmp : X → X → Ordering) (ys : List X) (x : X) → length (put_in_order cmp ys x) ≡ suc (length ys)
@@ -23,7 +23,7 @@ pub length-in_order : {X : Type 0} (cmp : X → X → Ordering) (xs : List X) �
 length-in_order cmp xs = let same = length-fold cmp [] xs in omega arith
 
 -- fewer pass where none passes that did not, and one does no more
-fewer-le : {X : Type 0} (p q : X → Bool) (xs : List X) → ((x : X) → IsIn x xs → p x ≡ true → q x ≡ true) → length (filter p xs) ≤ length (filter q xs)
+pub fewer-le : {X : Type 0} (p q : X → Bool) (xs : List X) → ((x : X) → IsIn x xs → p x ≡ true → q x ≡ true) → length (filter p xs) ≤ length (filter q xs)
 fewer-le p q [] each = omega arith
 fewer-le {X} p q (x ∷ xs) each = go (fewer-le p q xs (λ y h. each y (inr h))) (p x) (q x) refl refl
   where

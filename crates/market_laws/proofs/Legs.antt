@@ -1,6 +1,7 @@
 -- The next leg of a taking and of a sweep fits the events before it.
 use Rattle.std.proofs.Common.{◌≡◌, ◌∙◌, ℕ, ◌&&◌, true, false, List, [], Some, refl, sym, ap, subst, if◌then◌else◌}
 use Rattle.std.specs.Ordering.{is_lt}
+use Rattle.std.proofs.lemmas.Bool.{and_parts}
 use Rattle.order_kinds.specs.declared.contract.Contract.{Contract}
 use Rattle.order_kinds.specs.declared.contract.Part.{Part}
 use Rattle.order_kinds.specs.declared.order.OrderName.{OrderName}
@@ -16,11 +17,12 @@ use Rattle.market_model.specs.Orders.{Placed, Standing, is_open, open_order, pla
 use Rattle.market_model.specs.Sweep.{leg_in, leg_of_buy, resting_trade, sweep, sweep_leg}
 use Rattle.market_model.specs.Taking.{next_leg, standing_order, take, trade}
 use Rattle.market_model.specs.WellFormed.{FitAfter, Fits, IsMarketSetup}
-use Rattle.market_laws.proofs.Members.{from_find, from_first_answer}
+use Rattle.market_laws.proofs.Members.{from_first_answer}
 use Rattle.market_laws.proofs.Placed.{AllAreSound, all_are_sound}
 use Rattle.market_laws.proofs.Repeats.{bind-some, map-some, steps-fit}
-use Rattle.market_laws.proofs.Tests.{and-true, same_name-eq}
+use Rattle.market_laws.proofs.Tests.{same_name-eq}
 use Rattle.market_laws.proofs.Trades.{IsInLine, IsOpen, IsPartner, from_line, partner-is, trade-fits}
+use Rattle.zone_graph.proofs.Finding.{from_find}
 
 pub opposite-opposite : (side : Side) → opposite (opposite side) ≡ side
 opposite-opposite Buy = refl
@@ -34,7 +36,7 @@ pub record IsFound (events : List Event) (name : OrderName) (found : Placed) : T
 pub open_order-is : (events : List Event) (name : OrderName) (found : Placed) → open_order events name ≡ Some found → IsFound events name found
 open_order-is events name found e =
     let r = from_find (λ order. same_name order.name name && is_open events order.name) found (placed events) e in
-    let both = and-true (same_name found.name name) (is_open events found.name) r.1 in
+    let both = and_parts (same_name found.name name) (is_open events found.name) r.1 in
     record { is_open = record { is_placed = r.0; is_left = both.1 }; is_named = same_name-eq found.name name both.0 }
 
 module _ (setup : Setup) (is_setup : IsMarketSetup setup) (events : List Event) (fit : FitAfter setup [] events) where

@@ -1,9 +1,9 @@
 pub mod Admitted
+pub mod Ascending
 pub mod Balances
 pub mod BlockDeals
 pub mod BlockEntries
 pub mod Capacities
-pub mod Carrying
 pub mod Changes
 pub mod Counts
 pub mod Entries
@@ -11,6 +11,8 @@ pub mod Falls
 pub mod Growing
 pub mod Journals
 pub mod Legs
+pub mod LineSums
+pub mod Lines
 pub mod Members
 pub mod Names
 pub mod Placed
@@ -18,6 +20,7 @@ pub mod Pours
 pub mod Repeats
 pub mod Replies
 pub mod Roles
+pub mod Rooms
 pub mod Soundness
 pub mod States
 pub mod Table

@@ -1,29 +1,12 @@
 -- What is in a list that is searched, put in order or picked from another one.
-use Rattle.std.proofs.Common.{◌≡◌, ◌∙◌, ◌⊎◌, inl, inr, Bool, true, false, cond, List, [], ◌∷◌, fold, Option, Some, None, refl, sym, ap, subst, if◌then◌else◌}
-use Rattle.std.specs.List.{cons_option, filter_map, find}
+use Rattle.std.proofs.Common.{◌≡◌, ◌∙◌, ◌⊎◌, inl, inr, true, false, List, [], ◌∷◌, fold, Option, Some, None, refl, sym, ap, subst, if◌then◌else◌}
+use Rattle.std.specs.List.{cons_option, filter_map}
 use Rattle.std.specs.Ordering.{is_lt}
 use Rattle.std.specs.declared.cmp.Ordering.{Ordering}
 use Rattle.zone_graph.specs.Route.{IsIn}
-use Rattle.market_model.specs.Lines.{in_order, put_in_order}
 use Rattle.market_model.specs.Sweep.{first_answer, or_else}
-
--- what is found is an item that passes
-pub from_find : {X : Type 0} (p : X → Bool) (x : X) (xs : List X) → find p xs ≡ Some x → IsIn x xs × (p x ≡ true)
-from_find p x [] e = absurd (cc)
-from_find {X} p x (y ∷ xs) e =
-    elim (p y) as (λ b. p y ≡ b → cond b (Some y) (find p xs) ≡ Some x → IsIn x (y ∷ xs) × (p x ≡ true)) [
-      | true ↦ λ t k. let same : y ≡ x = cc in (inl (sym same), ap p (sym same) ∙ t)
-      | false ↦ λ t k. let r = from_find p x xs k in (inr r.0, r.1)
-    ] refl e
-
--- nothing passes where nothing is found
-pub find-none : {X : Type 0} (p : X → Bool) (xs : List X) → find p xs ≡ None → (x : X) → IsIn x xs → p x ≡ false
-find-none p [] e x h = absurd h
-find-none {X} p (y ∷ xs) e x h =
-    elim (p y) as (λ b. p y ≡ b → cond b (Some y) (find p xs) ≡ None → p x ≡ false) [
-      | true ↦ λ t k. absurd (cc)
-      | false ↦ λ t k. elim h [ inl s ↦ ap p s ∙ t | inr i ↦ find-none p xs k x i ]
-    ] refl e
+use Rattle.zone_graph.specs.InOrder.{put_in_order, in_order}
+use Rattle.zone_graph.proofs.InOrder.{from_put_in_order, IsIn-put_in_order}
 
 -- what is picked comes from an item
 pub from_filter_map : {X Y : Type 0} (f : X → Option Y) (y : Y) (xs : List X) → IsIn y (filter_map f xs) → (x : X) × IsIn x xs × (f x ≡ Some y)
@@ -49,29 +32,6 @@ IsIn-filter_map {X} {Y} f x y (w ∷ xs) h e = elim h [
     later : (o : Option Y) → IsIn y (filter_map f xs) → IsIn y (cons_option o (filter_map f xs))
     later None i = i
     later (Some z) i = inr i
-
--- what is in a list into which an item is put in order is the item or was there
-pub from_put_in_order : {X : Type 0} (cmp : X → X → Ordering) (z : X) (ys : List X) (x : X) → IsIn z (put_in_order cmp ys x) → (z ≡ x) ⊎ IsIn z ys
-from_put_in_order cmp z [] x h = elim h [ inl e ↦ inl e | inr i ↦ absurd i ]
-from_put_in_order cmp z (y ∷ ys) x h =
-    elim (is_lt (cmp x y)) as (λ b. IsIn z (if b then (x ∷ y ∷ ys) else (y ∷ put_in_order cmp ys x)) → (z ≡ x) ⊎ IsIn z (y ∷ ys)) [
-      | true ↦ λ k. elim k [ inl e ↦ inl e | inr i ↦ inr i ]
-      | false ↦ λ k. elim k [
-        | inl e ↦ inr (inl e)
-        | inr i ↦ elim (from_put_in_order cmp z ys x i) [ inl e ↦ inl e | inr j ↦ inr (inr j) ]
-      ]
-    ] h
-
-pub IsIn-put_in_order : {X : Type 0} (cmp : X → X → Ordering) (z : X) (ys : List X) (x : X) → (z ≡ x) ⊎ IsIn z ys → IsIn z (put_in_order cmp ys x)
-IsIn-put_in_order cmp z [] x h = h
-IsIn-put_in_order cmp z (y ∷ ys) x h =
-    elim (is_lt (cmp x y)) as (λ b. IsIn z (if b then (x ∷ y ∷ ys) else (y ∷ put_in_order cmp ys x))) [
-      | true ↦ elim h [ inl e ↦ inl e | inr i ↦ inr i ]
-      | false ↦ elim h [
-        | inl e ↦ inr (IsIn-put_in_order cmp z ys x (inl e))
-        | inr i ↦ elim i [ inl e ↦ inl e | inr j ↦ inr (IsIn-put_in_order cmp z ys x (inr j)) ]
-      ]
-    ]
 
 from_fold : {X : Type 0} (cmp : X → X → Ordering) (z : X) (ys xs : List X) → IsIn z (fold (put_in_order cmp) ys xs) → IsIn z ys ⊎ IsIn z xs
 from_fold cmp z ys [] h = inl h

@@ -41,7 +41,7 @@ entered_in-more : (events : List Event) (event : Event) (hour : ℕ)
 entered_in-more events event hour = sum_by_push (λ e. cond (enters_in hour e) 1 0) events event
 
 -- an event that gives no name keeps this
-names-kept : (events : List Event) (event : Event) → NamesOnce events
+pub names-kept : (events : List Event) (event : Event) → NamesOnce events
     → ((name : OrderName) → enters_as name event ≡ false) → ((hour : ℕ) → enters_in hour event ≡ false) → NamesOnce (and_then events event)
 names-kept events event names not_as not_in = record {
   once = λ name. rw (times-more events event name, not_as name) (let h = names.once name in omega arith);
@@ -95,7 +95,7 @@ module _ (events : List Event) (event : Event) (given : OrderName)
           let h = names.numbered name before in
           rw (entered_in-given name.hour) (omega arith)
 
-  names-given : NamesOnce (and_then events event)
+  pub names-given : NamesOnce (and_then events event)
   names-given = record { once = once-given; numbered = numbered-given }
 
 -- whatever fits keeps this

@@ -11,6 +11,7 @@ use Rattle.zone_graph.specs.declared.route.RouteLeg.{RouteLeg}
 use Rattle.zone_graph.specs.Graph.{Graph}
 use Rattle.zone_graph.specs.Pour.{lots_if, pour_leg}
 use Rattle.zone_graph.specs.Route.{IsIn, IsRoute, best_route, carried}
+use Rattle.zone_graph.proofs.Carrying.{carried-le, carried-room, carried-some, way-room, best_route-route}
 use Rattle.market_model.specs.declared.event.Event.{Event}
 use Rattle.market_model.specs.declared.event.Event.TheVariants as event
 use Rattle.market_model.specs.declared.event.Leg.{Leg}
@@ -22,7 +23,6 @@ use Rattle.market_model.specs.Orders.{PlacedBlock, block_placed_by, blocks_place
 use Rattle.market_model.specs.Room.{room}
 use Rattle.market_model.specs.WellFormed.{BlockLegFits, Fits, FitAfter, IsMarketSetup}
 use Rattle.market_laws.proofs.Balances.{left-block_leg, names-maker, names-taker}
-use Rattle.market_laws.proofs.Carrying.{best_route-route, carried-le, carried-room, carried-some, way-room}
 use Rattle.market_laws.proofs.Placed.{picked-same}
 use Rattle.market_laws.proofs.Repeats.{fit-more, history-keep, map-some, run-kept}
 use Rattle.market_laws.proofs.Wholes.{left-untouched, names-other}

@@ -86,3 +86,8 @@ pub history-keep : (most : ℕ) (step : List Event → Option Event) (Kept : Lis
     → (events : List Event) → Kept events → Kept (events ++ steps most step and_then events)
 history-keep most step Kept each events kept =
     subst Kept (fold-and_then events (steps most step and_then events)) (steps-keep most step and_then Kept each events kept)
+
+-- the state that a run ends in has no next step
+pub run-end : {S X : Type 0} (step : S → Option X) (after : S → X → S) (state : S) (xs : List X) → IsRun step after state xs → step (fold after state xs) ≡ None
+run-end step after state [] run = run
+run-end step after state (x ∷ xs) run = run-end step after (after state x) xs run.1

@@ -1,6 +1,6 @@
 -- Every reply leaves a history well-formed, and so does every journal.
 use Rattle.std.proofs.Common.{◌≡◌, inl, inr, ℕ, zero, suc, ◌-◌, ◌<◌, ◌≤◌, ◌&&◌, Bool, true, false, not, List, [], ◌∷◌, ◌++◌, length, map, Option, Some, None, is_none, nat_eq, nat_lt, refl, sym, subst, if◌then◌else◌, arith}
-use Rattle.std.proofs.lemmas.Bool.{leb-true, ltb-true, true≢false}
+use Rattle.std.proofs.lemmas.Bool.{leb-true, ltb-true, true≢false, and_parts}
 use Rattle.std.proofs.lemmas.List.{append-nil}
 use Rattle.std.specs.List.{list_all, slice_get}
 use Rattle.std.specs.Option.{option_and_then, option_map, option_map_or}
@@ -12,7 +12,7 @@ use Rattle.order_kinds.specs.declared.order.Kind.TheVariants as kind
 use Rattle.order_kinds.specs.declared.order.Order.{Order}
 use Rattle.order_kinds.specs.declared.order.OrderName.{OrderName}
 use Rattle.order_kinds.specs.Contract.{is_known}
-use Rattle.order_kinds.specs.Order.{has_allowed_peaks}
+use Rattle.order_kinds.specs.Order.{has_allowed_peaks, is_fill_or_kill, is_limit}
 use Rattle.order_kinds.specs.Period.{hours_from, is_not_after, is_within, range_quarters}
 use Rattle.order_kinds.specs.Phase.{is_later}
 use Rattle.order_kinds.specs.Price.{lots_in_range, price_in_range}
@@ -29,12 +29,13 @@ use Rattle.market_model.specs.declared.setup.Caller.{Caller}
 use Rattle.market_model.specs.declared.setup.Setup.{Setup}
 use Rattle.market_model.specs.Grid.{graph_of}
 use Rattle.zone_graph.specs.Grid.{arc_between}
+use Rattle.zone_graph.proofs.Finding.{from_find}
 use Rattle.market_model.specs.History.{events_of}
 use Rattle.market_model.specs.Market.{answer, events_done, on_arc, refused_or, reply_by}
 use Rattle.market_model.specs.Orders.{Placed, PlacedBlock, is_open, left, open_block, open_order}
-use Rattle.market_model.specs.Refusals.{below_flow, has_own, if_limit, if_own, if_own_block, is_below_left, is_limit, no_room, own_limit, refusal_of_command}
+use Rattle.market_model.specs.Refusals.{below_flow, has_own, if_limit, if_own, if_own_block, is_below_left, no_room, own_limit, refusal_of_command}
 use Rattle.market_model.specs.Room.{phase_of}
-use Rattle.market_model.specs.Rules.{has_right, is_fill_or_kill, may_give}
+use Rattle.market_model.specs.Rules.{has_right, may_give}
 use Rattle.market_model.specs.Sweep.{first_answer}
 use Rattle.market_model.specs.WellFormed.{IsHistory, IsMarketSetup, IsRange}
 use Rattle.market_laws.proofs.Admitted.{IsAdmitted, all-pass, refusal-none, unless-none}
@@ -42,9 +43,8 @@ use Rattle.market_laws.proofs.BlockEntries.{enter_block-history, match_blocks-hi
 use Rattle.market_laws.proofs.Changes.{arc_between-has, gate-history, offer-covers, request-room, then_sweeps-history}
 use Rattle.market_laws.proofs.Entries.{enter-history, enter_all-history}
 use Rattle.market_laws.proofs.Legs.{open_order-is}
-use Rattle.market_laws.proofs.Members.{from_find}
 use Rattle.market_laws.proofs.Soundness.{block_fault-sound, lots_in_range-bounds, order_fault-sound}
-use Rattle.market_laws.proofs.Tests.{and-true, same_name-eq}
+use Rattle.market_laws.proofs.Tests.{same_name-eq}
 use Rattle.market_laws.proofs.Wholes.{history-more}
 
 slice_get-within : {X : Type 0} (xs : List X) (i : ℕ) (x : X) → slice_get xs i ≡ Some x → i < length xs
@@ -69,7 +69,7 @@ second-pass : {X : Type 0} (p : X → Bool) (x y : X) → list_all p (x ∷ y �
 second-pass p x y e = all-pass p (x ∷ y ∷ []) e y (inr (inl refl))
 
 -- a fill-or-kill order has no peaks
-kills-peaks : (order : Order) → is_fill_or_kill order.kind ≡ true → has_allowed_peaks order ≡ true
+pub kills-peaks : (order : Order) → is_fill_or_kill order.kind ≡ true → has_allowed_peaks order ≡ true
 kills-peaks order e = go order.kind refl e
   where
     go : (k : Kind) → order.kind ≡ k → is_fill_or_kill k ≡ true → has_allowed_peaks order ≡ true
@@ -105,7 +105,7 @@ module _ (setup : Setup) (is_setup : IsMarketSetup setup) (parts : List Part) (e
   basket_entered : (orders : List Order) → IsAdmitted setup events caller (command.EnterBasket orders) → IsHistory setup (events ++ events_done parts setup events caller (command.EnterBasket orders))
   unfolding events_done
   basket_entered orders may =
-      let kills = (and-true (is_within 2 8 (length orders) && _) (list_all (λ (order : Order). is_fill_or_kill order.kind) orders) may.names.basket).1 in
+      let kills = (and_parts (is_within 2 8 (length orders) && _) (list_all (λ (order : Order). is_fill_or_kill order.kind) orders) may.names.basket).1 in
       enter_all-history setup is_setup parts caller orders events (λ order h. record {
         of_caller = right-within setup caller (command.EnterBasket orders) may.names.right;
         in_hour = all-pass (is_within 1 setup.hours) (map (λ (o : Order). o.contract.hour) orders) may.names.hours order.contract.hour (IsIn-map (λ (o : Order). o.contract.hour) order orders h);
@@ -132,7 +132,7 @@ module _ (setup : Setup) (is_setup : IsMarketSetup setup) (parts : List Part) (e
           subst (λ n. 1 ≤ left events n) found.is_named some
       go None (Some block) is is_block k =
           let r = from_find (λ (b : PlacedBlock). same_name b.name name && is_open events b.name) block _ is_block in
-          let both = and-true (same_name block.name name) (is_open events block.name) r.1 in
+          let both = and_parts (same_name block.name name) (is_open events block.name) r.1 in
           let some = ltb-true 0 (left events block.name) both.1 in
           subst (λ n. 1 ≤ left events n) (same_name-eq block.name name both.0) some
       go None None is is_block k = absurd (true≢false (sym k))

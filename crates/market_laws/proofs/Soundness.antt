@@ -1,6 +1,6 @@
 -- What an order with sound numbers keeps.
 use Rattle.std.proofs.Common.{◌≡◌, ℕ, ◌≤◌, ◌&&◌, Bool, true, false, Option, None, nat_lt, nat_le, refl, arith}
-use Rattle.std.proofs.lemmas.Bool.{leb-true, ltb-true}
+use Rattle.std.proofs.lemmas.Bool.{leb-true, ltb-true, and_parts}
 use Rattle.order_kinds.specs.declared.order.BlockOrder.{BlockOrder}
 use Rattle.order_kinds.specs.declared.order.Kind.{Kind}
 use Rattle.order_kinds.specs.declared.order.Kind.TheVariants as kind
@@ -10,7 +10,6 @@ use Rattle.order_kinds.specs.declared.price.Lots.{Lots}
 use Rattle.order_kinds.specs.Order.{fault_unless, has_allowed_peaks, order_fault, block_fault, peak_count, peaks_allowed, last_peak_price}
 use Rattle.order_kinds.specs.Price.{lots_in_range, price_in_range}
 use Rattle.market_model.specs.Orders.{shown_lots}
-use Rattle.market_laws.proofs.Tests.{and-true}
 
 fault_unless-none : (b : Bool) (fault : OrderFault) (following : Option OrderFault) → fault_unless b fault following ≡ None → (b ≡ true) × (following ≡ None)
 fault_unless-none true fault following e = (refl, e)
@@ -33,10 +32,10 @@ order_fault-none order e =
 pub peak-some : (order : Order) (peak : Lots) (delta : ℕ) → order.kind ≡ kind.Iceberg peak delta → has_allowed_peaks order ≡ true → 1 ≤ peak.0
 peak-some order peak delta is allowed =
     let peaks : peaks_allowed order.side order.price order.quantity.0 peak.0 delta ≡ true = rw is at allowed in
-    let a = and-true (nat_lt 0 peak.0 && nat_lt peak.0 order.quantity.0 && nat_le (peak_count order.quantity.0 peak.0) 100)
+    let a = and_parts (nat_lt 0 peak.0 && nat_lt peak.0 order.quantity.0 && nat_le (peak_count order.quantity.0 peak.0) 100)
     (price_in_range (last_peak_price order.side order.price order.quantity.0 peak.0 delta)) peaks in
-    let b = and-true (nat_lt 0 peak.0 && nat_lt peak.0 order.quantity.0) (nat_le (peak_count order.quantity.0 peak.0) 100) a.0 in
-    let c = and-true (nat_lt 0 peak.0) (nat_lt peak.0 order.quantity.0) b.0 in
+    let b = and_parts (nat_lt 0 peak.0 && nat_lt peak.0 order.quantity.0) (nat_le (peak_count order.quantity.0 peak.0) 100) a.0 in
+    let c = and_parts (nat_lt 0 peak.0) (nat_lt peak.0 order.quantity.0) b.0 in
     ltb-true 0 peak.0 c.0
 
 -- a sound order of which something is left shows something
@@ -53,7 +52,7 @@ shown-some order sound filled left some = go order.kind refl
 -- a quantity in range
 pub lots_in_range-bounds : (lots : Lots) → lots_in_range lots ≡ true → (1 ≤ lots.0) × (lots.0 ≤ 9990)
 lots_in_range-bounds lots h =
-    let both = and-true (nat_le 1 lots.0) (nat_le lots.0 9990) h in
+    let both = and_parts (nat_le 1 lots.0) (nat_le lots.0 9990) h in
     (leb-true 1 lots.0 both.0, leb-true lots.0 9990 both.1)
 
 -- a sound block's price and quantity are in range

@@ -1,6 +1,6 @@
 -- What the tests of names, contracts and sides tell.
-use Rattle.std.proofs.Common.{◌≡◌, Bool, true, false, ◌&&◌, ◌||◌, ◌⊎◌, inl, inr, refl, sym, ap, nat_eq, eqb-true, eq-eqb}
-use Rattle.std.proofs.lemmas.Bool.{true≢false}
+use Rattle.std.proofs.Common.{◌≡◌, true, refl, sym, ap, nat_eq, eqb-true, eq-eqb}
+use Rattle.std.proofs.lemmas.Bool.{true≢false, and_parts, and_from}
 use Rattle.order_kinds.specs.declared.contract.Contract.{Contract}
 use Rattle.order_kinds.specs.declared.contract.Part.{Part}
 use Rattle.order_kinds.specs.declared.contract.Part.TheVariants as part
@@ -9,27 +9,15 @@ use Rattle.order_kinds.specs.declared.side.Side.{Side}
 use Rattle.order_kinds.specs.declared.side.Side.TheVariants.{Buy, Sell}
 use Rattle.order_kinds.specs.Same.{same_contract, same_name, same_part, same_side}
 
--- both hold where their conjunction does
-pub and-true : (a b : Bool) → (a && b) ≡ true → (a ≡ true) × (b ≡ true)
-and-true true b h = (refl, h)
-and-true false b h = absurd (true≢false (sym h))
-
-pub and-intro : (a b : Bool) → a ≡ true → b ≡ true → (a && b) ≡ true
-and-intro a b h k = cc
-
-pub or-true : (a b : Bool) → (a || b) ≡ true → (a ≡ true) ⊎ (b ≡ true)
-or-true true b h = inl refl
-or-true false b h = inr h
-
 pub same_name-eq : (a b : OrderName) → same_name a b ≡ true → a ≡ b
 same_name-eq a b h =
-    let both = and-true (nat_eq a.hour b.hour) (nat_eq a.number b.number) h in
+    let both = and_parts (nat_eq a.hour b.hour) (nat_eq a.number b.number) h in
     let hours : a.hour ≡ b.hour = eqb-true a.hour b.hour both.0 in
     let numbers : a.number ≡ b.number = eqb-true a.number b.number both.1 in
     λ i. record { hour = hours i; number = numbers i }
 
 pub same_name-refl : (a : OrderName) → same_name a a ≡ true
-same_name-refl a = and-intro (nat_eq a.hour a.hour) (nat_eq a.number a.number) (eq-eqb a.hour a.hour refl) (eq-eqb a.number a.number refl)
+same_name-refl a = and_from (nat_eq a.hour a.hour) (nat_eq a.number a.number) (eq-eqb a.hour a.hour refl) (eq-eqb a.number a.number refl)
 
 pub same_part-eq : (a b : Part) → same_part a b ≡ true → a ≡ b
 same_part-eq part.Hour part.Hour h = refl
@@ -44,7 +32,7 @@ same_part-eq (part.Half m) (part.Half n) h = ap part.Half (eqb-true m n h)
 
 pub same_contract-eq : (a b : Contract) → same_contract a b ≡ true → a ≡ b
 same_contract-eq a b h =
-    let both = and-true (nat_eq a.hour b.hour) (same_part a.part b.part) h in
+    let both = and_parts (nat_eq a.hour b.hour) (same_part a.part b.part) h in
     let hours : a.hour ≡ b.hour = eqb-true a.hour b.hour both.0 in
     let parts : a.part ≡ b.part = same_part-eq a.part b.part both.1 in
     λ i. record { hour = hours i; part = parts i }

@@ -1,6 +1,6 @@
 -- A trade that the definitions make fits the events before it.
 use Rattle.std.proofs.Common.{◌≡◌, ℕ, ◌<◌, ◌≤◌, ◌&&◌, true, List, map, filter, min, Option, Some, None, refl, subst, arith}
-use Rattle.std.proofs.lemmas.Bool.{ltb-true}
+use Rattle.std.proofs.lemmas.Bool.{ltb-true, and_parts}
 use Rattle.std.specs.Option.{option_map}
 use Rattle.order_kinds.specs.declared.contract.Contract.{Contract}
 use Rattle.order_kinds.specs.declared.side.Side.{Side}
@@ -10,6 +10,8 @@ use Rattle.zone_graph.specs.declared.route.Arc.{Arc}
 use Rattle.zone_graph.specs.Graph.{Graph}
 use Rattle.zone_graph.specs.Route.{IsIn, best_route, carried}
 use Rattle.zone_graph.proofs.Membership.{from_filter, from_map}
+use Rattle.zone_graph.proofs.Finding.{from_find}
+use Rattle.zone_graph.proofs.Carrying.{carried-le, carried-room, carried-some, way-room, best_route-route}
 use Rattle.market_model.specs.declared.event.Event.{Event}
 use Rattle.market_model.specs.declared.setup.Setup.{Setup}
 use Rattle.market_model.specs.Grid.{graph_of}
@@ -17,11 +19,10 @@ use Rattle.market_model.specs.Lines.{buyer_zone, can_trade, line, partner, prior
 use Rattle.market_model.specs.Orders.{Placed, Standing, is_open, left, placed, standing}
 use Rattle.market_model.specs.Taking.{leg_over, trade}
 use Rattle.market_model.specs.WellFormed.{Fits, IsMarketSetup}
-use Rattle.market_laws.proofs.Carrying.{best_route-route, carried-le, carried-room, carried-some, way-room}
-use Rattle.market_laws.proofs.Members.{from_find, from_in_order}
+use Rattle.market_laws.proofs.Members.{from_in_order}
 use Rattle.market_laws.proofs.Placed.{OrderIsSound}
 use Rattle.market_laws.proofs.Soundness.{shown-some}
-use Rattle.market_laws.proofs.Tests.{and-true, same_contract-eq, same_side-eq}
+use Rattle.market_laws.proofs.Tests.{same_contract-eq, same_side-eq}
 
 -- an open order: it entered, and something is left of it
 pub record IsOpen (events : List Event) (order : Placed) : Type 0 where
@@ -42,8 +43,8 @@ from_line events contract side found h =
     let listed = from_in_order (priority_cmp side) found (map (standing events) (filter (stands_in events contract side) (placed events))) h in
     let stands = from_map (standing events) found (filter (stands_in events contract side) (placed events)) listed in
     let passes = from_filter (stands_in events contract side) stands.0 (placed events) stands.1 in
-    let both = and-true (is_open events stands.0.name && same_contract stands.0.order.contract contract) (same_side stands.0.order.side side) passes.1 in
-    let first = and-true (is_open events stands.0.name) (same_contract stands.0.order.contract contract) both.0 in
+    let both = and_parts (is_open events stands.0.name && same_contract stands.0.order.contract contract) (same_side stands.0.order.side side) passes.1 in
+    let first = and_parts (is_open events stands.0.name) (same_contract stands.0.order.contract contract) both.0 in
     record {
       order = stands.0;
       is_open = record { is_placed = passes.0; is_left = first.0 };

@@ -171,3 +171,25 @@ module _ (events : List Event) (names : NamesOnce events) where
       let y_enters = subst (λ n. enters_as n y.0 ≡ true) (sym same) (enters-block_placed block y.0 y.2) in
       let one : x.0 ≡ y.0 = entered-once order.name x.0 y.0 events (names.once order.name) x.1 y.1 x_enters y_enters in
       not_both order block x.0 x.2 (ap block_placed_by one ∙ y.2)
+
+-- what was entered of an order is its quantity
+order-quantity : (order : Placed) (e : Event) → placed_by e ≡ Some order → entered_by order.name e ≡ order.order.quantity.0
+order-quantity order (event.Entered given caller entering) is =
+    let same : record { name = given; caller = caller; order = entering } ≡ order = cc in
+    subst (λ (o : Placed). entered_by o.name (event.Entered given caller entering) ≡ o.order.quantity.0) same
+    (rw (same_name-refl given) refl)
+order-quantity order (event.EnteredBlock given caller entering) is = absurd (cc)
+order-quantity order (event.Leg contract leg) is = absurd (cc)
+order-quantity order (event.BlockLeg first last leg) is = absurd (cc)
+order-quantity order (event.Granted arc first last lots) is = absurd (cc)
+order-quantity order (event.Offered arc first last lots) is = absurd (cc)
+order-quantity order (event.Halted border first last) is = absurd (cc)
+order-quantity order (event.Resumed border first last) is = absurd (cc)
+order-quantity order (event.Gated gated asked) is = absurd (cc)
+order-quantity order (event.Withdrawn given lots) is = absurd (cc)
+order-quantity order (event.Reduced given by) is = absurd (cc)
+
+pub entered-order : (events : List Event) (order : Placed) → NamesOnce events → IsIn order (placed events) → entered events order.name ≡ order.order.quantity.0
+entered-order events order names i =
+    let x = from_filter_map placed_by order events i in
+    entered-is order.name x.0 events (names.once order.name) x.1 (enters-placed order x.0 x.2) ∙ order-quantity order x.0 x.2

@@ -1,7 +1,7 @@
 -- Each event uses no more capacity than remained before it, so that something from nothing on
 -- remains.
 use Rattle.std.proofs.Common.{◌≡◌, ◌⊎◌, inl, inr, ℕ, ◌+◌, ◌-◌, ◌≤◌, ◌&&◌, Bool, true, false, not, List, [], ◌∷◌, fold, map, min, nat_eq, nat_le, nat_lt, ℤ, pos, negsuc, ◌-ℤ◌, ◌≤ℤ◌, eqb-true, refl, sym, subst, if◌then◌else◌, arith}
-use Rattle.std.proofs.lemmas.Bool.{le-leb, leb-true, ltb-true, true≢false}
+use Rattle.std.proofs.lemmas.Bool.{le-leb, leb-true, ltb-true, true≢false, and_parts, and_from, or_cases}
 use Rattle.std.proofs.lemmas.Int.{ints}
 use Rattle.std.specs.List.{list_any}
 use Rattle.order_kinds.specs.declared.contract.Contract.{Contract}
@@ -10,9 +10,10 @@ use Rattle.order_kinds.specs.Contract.{covers, quarters}
 use Rattle.order_kinds.specs.Period.{block_has, block_quarters, contract_has, contract_quarters, hour_quarters, hours_from, is_not_after, is_quarter, is_within, quarter_of, range_has, range_quarters}
 use Rattle.quarter_capacity.specs.Capacity.{flow_of, remaining_of}
 use Rattle.zone_graph.specs.declared.route.Arc.{Arc}
-use Rattle.zone_graph.specs.Pour.{lots_if, opposite_arc, same_arc, same_bool, uses}
+use Rattle.zone_graph.specs.Pour.{opposite_arc, same_arc, uses}
 use Rattle.zone_graph.specs.Route.{IsIn}
 use Rattle.zone_graph.proofs.Membership.{IsIn-filter, IsIn-flat_map, IsIn-map, IsIn-range}
+use Rattle.zone_graph.proofs.Arcs.{same_arc-is, IsIn-uses, opposite-twice, if_free}
 use Rattle.market_model.specs.declared.event.Event.{Event}
 use Rattle.market_model.specs.declared.event.Event.TheVariants as event
 use Rattle.market_model.specs.declared.setup.Setup.{Setup}
@@ -22,34 +23,15 @@ use Rattle.market_model.specs.Room.{is_halted, is_open_phase, least, lots_of, ph
 use Rattle.market_model.specs.WellFormed.{Fits, FitAfter}
 use Rattle.market_laws.proofs.Capacities.{allocated-more, offered-more}
 use Rattle.market_laws.proofs.Growing.{grows}
-use Rattle.market_laws.proofs.Tests.{and-intro, and-true, or-true}
 
 -- ---- what the tests of arcs and quarters tell
 
 any-is : {X : Type 0} (p : X → Bool) (xs : List X) → list_any p xs ≡ true → (x : X) × IsIn x xs × (p x ≡ true)
 any-is p [] e = absurd (true≢false (sym e))
-any-is p (x ∷ xs) e = elim (or-true (p x) (list_any p xs) e) [
+any-is p (x ∷ xs) e = elim (or_cases (p x) (list_any p xs) e) [
   | inl h ↦ (x, inl refl, h)
   | inr h ↦ let r = any-is p xs h in (r.0, inr r.1, r.2)
 ]
-
-same_bool-eq : (a b : Bool) → same_bool a b ≡ true → a ≡ b
-same_bool-eq true true e = refl
-same_bool-eq true false e = absurd (true≢false (sym e))
-same_bool-eq false true e = absurd (true≢false (sym e))
-same_bool-eq false false e = refl
-
-pub same_arc-eq : (a b : Arc) → same_arc a b ≡ true → a ≡ b
-same_arc-eq a b h =
-    let both = and-true (nat_eq a.border b.border) (same_bool a.forward b.forward) h in
-    let borders : a.border ≡ b.border = eqb-true a.border b.border both.0 in
-    let ways : a.forward ≡ b.forward = same_bool-eq a.forward b.forward both.1 in
-    λ i. record { border = borders i; forward = ways i }
-
--- an arc that a route uses is one of it
-pub uses-is : (route : List Arc) (arc : Arc) → uses route arc ≡ true → IsIn arc route
-uses-is route arc h =
-    let r = any-is (same_arc arc) route h in subst (λ a. IsIn a route) (sym (same_arc-eq arc r.0 r.2)) r.1
 
 quarter-eta : (quarter : Quarter) (hour number : ℕ) → hour ≡ quarter.hour → number ≡ quarter.number → quarter_of hour number ≡ quarter
 quarter-eta quarter hour number h n = λ i. record { hour = h i; number = n i }
@@ -57,7 +39,7 @@ quarter-eta quarter hour number h n = λ i. record { hour = h i; number = n i }
 -- a quarter in which a contract delivers is one of its quarters
 pub contract_has-is : (contract : Contract) (quarter : Quarter) → contract_has contract quarter ≡ true → IsIn quarter (contract_quarters contract)
 contract_has-is contract quarter h =
-    let both = and-true (nat_eq contract.hour quarter.hour) (covers contract.part quarter.number) h in
+    let both = and_parts (nat_eq contract.hour quarter.hour) (covers contract.part quarter.number) h in
     let hour : contract.hour ≡ quarter.hour = eqb-true contract.hour quarter.hour both.0 in
     let found = any-is (λ number. nat_eq number quarter.number) (quarters contract.part) both.1 in
     let number : found.0 ≡ quarter.number = eqb-true found.0 quarter.number found.2 in
@@ -67,7 +49,7 @@ contract_has-is contract quarter h =
 -- one of an hour's four quarters is listed among them
 hour_quarters-is : (quarter : Quarter) → is_quarter quarter ≡ true → IsIn quarter (hour_quarters quarter.hour)
 hour_quarters-is quarter h =
-    let both = and-true (nat_le 1 quarter.number) (nat_le quarter.number 4) h in
+    let both = and_parts (nat_le 1 quarter.number) (nat_le quarter.number 4) h in
     go quarter.number refl (leb-true 1 quarter.number both.0) (leb-true quarter.number 4 both.1)
   where
     go : (n : ℕ) → quarter.number ≡ n → 1 ≤ n → n ≤ 4 → IsIn quarter (hour_quarters quarter.hour)
@@ -81,7 +63,7 @@ hour_quarters-is quarter h =
 -- a quarter of hours of a period is one of the period's
 block_quarters-is : (first last : ℕ) (quarter : Quarter) → is_within first last quarter.hour ≡ true → is_quarter quarter ≡ true → IsIn quarter (block_quarters first last)
 block_quarters-is first last quarter within quartered =
-    let both = and-true (nat_le first quarter.hour) (nat_le quarter.hour last) within in
+    let both = and_parts (nat_le first quarter.hour) (nat_le quarter.hour last) within in
     let low = leb-true first quarter.hour both.0 in
     let high = leb-true quarter.hour last both.1 in
     IsIn-flat_map hour_quarters quarter.hour quarter (hours_from first last)
@@ -89,27 +71,27 @@ block_quarters-is first last quarter within quartered =
 
 pub block_has-is : (first last : ℕ) (quarter : Quarter) → block_has first last quarter ≡ true → IsIn quarter (block_quarters first last)
 block_has-is first last quarter h =
-    let both = and-true (is_within first last quarter.hour) (is_quarter quarter) h in block_quarters-is first last quarter both.0 both.1
+    let both = and_parts (is_within first last quarter.hour) (is_quarter quarter) h in block_quarters-is first last quarter both.0 both.1
 
 -- the hour of a quarter that is not after another is not either
 pub not_after-hours : (a b : Quarter) → is_not_after a b ≡ true → a.hour ≤ b.hour
-not_after-hours a b h = elim (or-true (nat_lt a.hour b.hour) (nat_eq a.hour b.hour && nat_le a.number b.number) h) [
+not_after-hours a b h = elim (or_cases (nat_lt a.hour b.hour) (nat_eq a.hour b.hour && nat_le a.number b.number) h) [
   | inl l ↦ let less = ltb-true a.hour b.hour l in omega arith
-  | inr e ↦ let both = and-true (nat_eq a.hour b.hour) (nat_le a.number b.number) e in
+  | inr e ↦ let both = and_parts (nat_eq a.hour b.hour) (nat_le a.number b.number) e in
       let same : a.hour ≡ b.hour = eqb-true a.hour b.hour both.0 in omega arith
 ]
 
 pub range_has-is : (first last quarter : Quarter) → range_has first last quarter ≡ true → IsIn quarter (range_quarters first last)
 range_has-is first last quarter h =
-    let both = and-true (is_quarter quarter && is_not_after first quarter) (is_not_after quarter last) h in
-    let front = and-true (is_quarter quarter) (is_not_after first quarter) both.0 in
+    let both = and_parts (is_quarter quarter && is_not_after first quarter) (is_not_after quarter last) h in
+    let front = and_parts (is_quarter quarter) (is_not_after first quarter) both.0 in
     let low = not_after-hours first quarter front.1 in
     let high = not_after-hours quarter last both.1 in
     let within : is_within first.hour last.hour quarter.hour ≡ true =
-    and-intro (nat_le first.hour quarter.hour) (nat_le quarter.hour last.hour) (le-leb first.hour quarter.hour low) (le-leb quarter.hour last.hour high) in
+    and_from (nat_le first.hour quarter.hour) (nat_le quarter.hour last.hour) (le-leb first.hour quarter.hour low) (le-leb quarter.hour last.hour high) in
     IsIn-filter (λ q. is_not_after first q && is_not_after q last) quarter (block_quarters first.hour last.hour)
     (block_quarters-is first.hour last.hour quarter within front.0)
-    (and-intro (is_not_after first quarter) (is_not_after quarter last) front.1 both.1)
+    (and_from (is_not_after first quarter) (is_not_after quarter last) front.1 both.1)
 
 -- ---- what remains, as a difference of numbers
 
@@ -117,11 +99,11 @@ range_has-is first last quarter h =
 abbrev pub free : List Event → Quarter → Arc → ℕ
 free events quarter arc = offered events quarter arc + allocated events quarter (opposite_arc arc) - allocated events quarter arc
 
-lots_of-is : (z : ℤ) (more less : ℕ) → z ≡ pos more -ℤ pos less → lots_of z ≡ more - less
+pub lots_of-is : (z : ℤ) (more less : ℕ) → z ≡ pos more -ℤ pos less → lots_of z ≡ more - less
 lots_of-is (pos n) more less e = omega (arith, ints)
 lots_of-is (negsuc n) more less e = omega (arith, ints)
 
-lots_of-remaining : (offer there back : ℕ) → lots_of (remaining_of offer (flow_of there back)) ≡ offer + back - there
+pub lots_of-remaining : (offer there back : ℕ) → lots_of (remaining_of offer (flow_of there back)) ≡ offer + back - there
 lots_of-remaining offer there back =
     let same : remaining_of offer (flow_of there back) ≡ pos (offer + back) -ℤ pos there = omega (arith, ints) in
     lots_of-is (remaining_of offer (flow_of there back)) (offer + back) there same
@@ -160,11 +142,6 @@ room-le events quarters arc quarter h =
 
 -- ---- what an event uses
 
--- lots that are used where a test holds, no more than are free there
-if_free : (b : Bool) (lots most : ℕ) → (b ≡ true → lots ≤ most) → lots_if b lots ≤ most
-if_free true lots most h = h refl
-if_free false lots most h = omega arith
-
 -- an event that fits uses no more than is free
 pub uses-free : (setup : Setup) (before : List Event) (e : Event) → Fits setup before e → (quarter : Quarter) (arc : Arc)
     → allocated_by quarter arc e ≤ free before quarter arc
@@ -172,20 +149,20 @@ uses-free setup before (event.Entered name caller order) fits quarter arc = omeg
 uses-free setup before (event.EnteredBlock name caller order) fits quarter arc = omega arith
 uses-free setup before (event.Leg contract leg) fits quarter arc =
     if_free (contract_has contract quarter && uses leg.route arc) leg.lots (free before quarter arc) (λ h.
-    let both = and-true (contract_has contract quarter) (uses leg.route arc) h in
-    let has = fits.carried.has_room arc (uses-is leg.route arc both.1) in
+    let both = and_parts (contract_has contract quarter) (uses leg.route arc) h in
+    let has = fits.carried.has_room arc (IsIn-uses leg.route arc both.1) in
     let in_quarter = room-le before (contract_quarters contract) arc quarter (contract_has-is contract quarter both.0) in
     let most = quarter_room-le before arc quarter in omega arith)
 uses-free setup before (event.BlockLeg first last leg) fits quarter arc =
     if_free (block_has first last quarter && uses leg.route arc) leg.lots (free before quarter arc) (λ h.
-    let both = and-true (block_has first last quarter) (uses leg.route arc) h in
-    let has = fits.carried.has_room arc (uses-is leg.route arc both.1) in
+    let both = and_parts (block_has first last quarter) (uses leg.route arc) h in
+    let has = fits.carried.has_room arc (IsIn-uses leg.route arc both.1) in
     let in_quarter = room-le before (block_quarters first last) arc quarter (block_has-is first last quarter both.0) in
     let most = quarter_room-le before arc quarter in omega arith)
 uses-free setup before (event.Granted granted first last lots) fits quarter arc =
     if_free (range_has first last quarter && same_arc granted arc) lots (free before quarter arc) (λ h.
-    let both = and-true (range_has first last quarter) (same_arc granted arc) h in
-    let same : granted ≡ arc = same_arc-eq granted arc both.1 in
+    let both = and_parts (range_has first last quarter) (same_arc granted arc) h in
+    let same : granted ≡ arc = same_arc-is granted arc both.1 in
     let has : lots ≤ quarter_room before arc quarter = subst (λ a. lots ≤ quarter_room before a quarter) same (fits.has_room quarter (range_has-is first last quarter both.0)) in
     let most = quarter_room-le before arc quarter in omega arith)
 uses-free setup before (event.Offered given first last lots) fits quarter arc = omega arith
@@ -220,8 +197,8 @@ offer_after setup before (event.Offered given first last lots) fits quarter arc 
         × (offered (and_then before (event.Offered given first last lots)) quarter arc ≤ 1000000))
     go false e = inl (rw (offered-more before (event.Offered given first last lots) quarter arc, e) refl)
     go true e =
-        let both = and-true (range_has first last quarter) (same_arc given arc) e in
-        let same : given ≡ arc = same_arc-eq given arc both.1 in
+        let both = and_parts (range_has first last quarter) (same_arc given arc) e in
+        let same : given ≡ arc = same_arc-is given arc both.1 in
         let now : offered (and_then before (event.Offered given first last lots)) quarter arc ≡ lots =
         rw (offered-more before (event.Offered given first last lots) quarter arc, e) refl in
         let flows = subst (λ a. flow before quarter a ≤ℤ pos lots) same (fits.covers_flow quarter (range_has-is first last quarter both.0)) in
@@ -263,19 +240,12 @@ remaining-bounds : (offer other there back : ℕ) → there ≤ offer + back →
     → (pos 0 ≤ℤ remaining_of offer (flow_of there back)) × (remaining_of offer (flow_of there back) ≤ℤ pos 2000000)
 remaining-bounds offer other there back covered back_covered most other_most = (omega (arith, ints), omega (arith, ints))
 
-opposite-opposite_arc : (arc : Arc) → opposite_arc (opposite_arc arc) ≡ arc
-opposite-opposite_arc arc = λ i. record { border = arc.border; forward = not-not arc.forward i }
-  where
-    not-not : (b : Bool) → not (not b) ≡ b
-    not-not true = refl
-    not-not false = refl
-
 -- so something from nothing to 200000.0 MW remains on each arc in each quarter
 pub remaining-within : (events : List Event) → IsWithinOffers events → (quarter : Quarter) (arc : Arc)
     → (pos 0 ≤ℤ remaining events quarter arc) × (remaining events quarter arc ≤ℤ pos 2000000)
 remaining-within events within quarter arc =
     let back : allocated events quarter (opposite_arc arc) ≤ offered events quarter (opposite_arc arc) + allocated events quarter arc =
-    subst (λ a. allocated events quarter (opposite_arc arc) ≤ offered events quarter (opposite_arc arc) + allocated events quarter a) (opposite-opposite_arc arc) (within.covered quarter (opposite_arc arc)) in
+    subst (λ a. allocated events quarter (opposite_arc arc) ≤ offered events quarter (opposite_arc arc) + allocated events quarter a) (opposite-twice arc) (within.covered quarter (opposite_arc arc)) in
     remaining-bounds (offered events quarter arc) (offered events quarter (opposite_arc arc)) (allocated events quarter arc) (allocated events quarter (opposite_arc arc))
     (within.covered quarter arc) back (within.most quarter arc) (within.most quarter (opposite_arc arc))
 

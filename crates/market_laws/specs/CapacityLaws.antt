@@ -13,13 +13,14 @@ use Rattle.market_model.specs.Capacity.{allocated_by, flow, remaining}
 use Rattle.market_model.specs.History.{events_of}
 use Rattle.market_model.specs.Market.{reply_by}
 use Rattle.market_model.specs.WellFormed.{IsHistory, IsMarketSetup}
+use Rattle.quarter_capacity.specs.Capacity.{most_remaining}
 
 -- it leaves from nothing to 200000.0 MW on each arc in each quarter
 abbrev pub RepliesLeaveCapacity : Type 0
 RepliesLeaveCapacity = (setup : Setup) (parts : List Part) (events : List Event) (caller : ℕ) (given : Command) (quarter : Quarter) (arc : Arc)
     → IsMarketSetup setup → IsHistory setup events
     → let after = events ++ events_of (reply_by parts setup events caller given) in
-    (pos 0 ≤ℤ remaining after quarter arc) × (remaining after quarter arc ≤ℤ pos 2000000)
+    (pos 0 ≤ℤ remaining after quarter arc) × (remaining after quarter arc ≤ℤ pos most_remaining)
 
 -- each of its legs, legs of blocks and grants uses no more than remained just before it
 abbrev pub RepliesOversellNothing : Type 0

@@ -3,6 +3,7 @@ use Rattle.std.proofs.Common.{◌≡◌, ◌∙◌, inl, inr, ℕ, zero, suc, �
 use Rattle.std.specs.List.{find}
 use Rattle.std.specs.Option.{option_map}
 use Rattle.std.specs.Ordering.{is_lt}
+use Rattle.std.proofs.lemmas.Bool.{and_parts}
 use Rattle.order_kinds.specs.declared.contract.Part.{Part}
 use Rattle.order_kinds.specs.declared.contract.Quarter.{Quarter}
 use Rattle.order_kinds.specs.declared.order.BlockOrder.{BlockOrder}
@@ -23,19 +24,19 @@ use Rattle.market_model.specs.declared.event.Event.{Event}
 use Rattle.market_model.specs.declared.event.Event.TheVariants as event
 use Rattle.market_model.specs.Blocks.{StandingBlock, block_buyer_zone, block_deal, block_deals, block_leg, block_leg_over, block_legs, block_line, block_partner, block_priority_cmp, block_seller_zone, block_stands_in, block_time_cmp, can_trade_blocks, carries_whole, deal_of_buy, enter_block, entering_block, is_of_period, legs_with, match_blocks, partner_found, resting_block_legs, standing_block, with_block}
 use Rattle.market_model.specs.History.{and_then}
-use Rattle.market_model.specs.Lines.{in_order}
 use Rattle.market_model.specs.Orders.{PlacedBlock, block_moment, block_placed_by, blocks_placed, enters_block, is_open, last_place, left, next_name, open_block}
 use Rattle.market_model.specs.Room.{room}
 use Rattle.market_model.specs.Sweep.{first_answer, sweeps}
 use Rattle.market_laws.proofs.BlockDeals.{IsInBlockLine, block_partner-is, from_block_line}
 use Rattle.market_laws.proofs.Members.{from_filter_map, from_first_answer}
 use Rattle.market_laws.proofs.Repeats.{map-some}
-use Rattle.market_laws.proofs.Tests.{and-true, same_name-eq}
+use Rattle.market_laws.proofs.Tests.{same_name-eq}
 use Rattle.market_locality.proofs.Entries.{sweeps-agree}
 use Rattle.market_locality.proofs.Lines.{first_answer-same, steps-agree, steps-named}
 use Rattle.market_locality.proofs.Named.{AreNamedByHour, IsNamedByHour, named-append}
 use Rattle.market_locality.proofs.Restrict.{filter-filter, filter-same, find-filter, find-same, map-same}
 use Rattle.market_locality.proofs.States.{Agree, agree-append, agree-more, blocks_placed-agree, is_open-agree, left-agree, next_name-agree, room-agree}
+use Rattle.zone_graph.specs.InOrder.{in_order}
 
 -- a block that entered is named by its first hour, which is not after its last
 pub record IsPeriodNamed (block : PlacedBlock) : Type 0 where
@@ -95,9 +96,9 @@ module _ (hours : List ℕ) (a b : List Event) (agree : Agree hours a b) where
       in_its_hour : (events : List Event) → AreNamedByHour events → (block : PlacedBlock) → IsIn block (blocks_placed events) → block_stands_in events first last side block ≡ true
           → in_hour first block ≡ true
       in_its_hour events named block i s =
-          let both = and-true (is_open events block.name && is_of_period first last block.order) (same_side block.order.side side) s in
-          let front = and-true (is_open events block.name) (is_of_period first last block.order) both.0 in
-          let period = and-true (nat_eq block.order.first first) (nat_eq block.order.last last) front.1 in
+          let both = and_parts (is_open events block.name && is_of_period first last block.order) (same_side block.order.side side) s in
+          let front = and_parts (is_open events block.name) (is_of_period first last block.order) both.0 in
+          let period = and_parts (nat_eq block.order.first first) (nat_eq block.order.last last) front.1 in
           eq-eqb block.name.hour first ((block-named events named block i).named ∙ eqb-true block.order.first first period.0)
 
   pub block_line-agree : (first last : ℕ) (side : Side) → IsIn first hours → block_line a first last side ≡ block_line b first last side
@@ -105,9 +106,9 @@ module _ (hours : List ℕ) (a b : List Event) (agree : Agree hours a b) where
   block_line-agree first last side h =
       ap (in_order (block_priority_cmp side)) (map-same (standing_block a) (standing_block b) (filter (block_stands_in a first last side) (blocks_placed a)) (λ block i.
       let passes = from_filter (block_stands_in a first last side) block (blocks_placed a) i in
-      let both = and-true (is_open a block.name && is_of_period first last block.order) (same_side block.order.side side) passes.1 in
-      let front = and-true (is_open a block.name) (is_of_period first last block.order) both.0 in
-      let period = and-true (nat_eq block.order.first first) (nat_eq block.order.last last) front.1 in
+      let both = and_parts (is_open a block.name && is_of_period first last block.order) (same_side block.order.side side) passes.1 in
+      let front = and_parts (is_open a block.name) (is_of_period first last block.order) both.0 in
+      let period = and_parts (nat_eq block.order.first first) (nat_eq block.order.last last) front.1 in
       let hour = (block-named a agree.named_a block passes.0).named ∙ eqb-true block.order.first first period.0 in
       standing_block-agree block (subst (λ n. IsIn n hours) (sym hour) h))
       ∙ ap (map (standing_block b)) (blocks_stand-agree first last side h))
@@ -415,5 +416,5 @@ open_block-agree hours a b agree name h =
   where
     named_so : (events : List Event) (block : PlacedBlock) → (same_name block.name name && is_open events block.name) ≡ true → nat_eq block.name.hour name.hour ≡ true
     named_so events block s =
-        let both = and-true (same_name block.name name) (is_open events block.name) s in
+        let both = and_parts (same_name block.name name) (is_open events block.name) s in
         eq-eqb block.name.hour name.hour (ap (λ (n : OrderName). n.hour) (same_name-eq block.name name both.0))

@@ -1,7 +1,9 @@
 pub mod Answers
 pub mod Blocks
 pub mod Entries
+pub mod Keeping
 pub mod Lines
+pub mod Moments
 pub mod Named
 pub mod Replies
 pub mod Restrict

@@ -4,6 +4,7 @@ use Rattle.std.specs.List.{find}
 use Rattle.std.proofs.lemmas.List.Sums.{sum_by-cons}
 use Rattle.std.specs.Option.{option_and_then, option_map}
 use Rattle.std.specs.Ordering.{is_lt}
+use Rattle.std.proofs.lemmas.Bool.{and_parts}
 use Rattle.order_kinds.specs.declared.contract.Contract.{Contract}
 use Rattle.order_kinds.specs.declared.contract.Part.{Part}
 use Rattle.order_kinds.specs.declared.contract.Quarter.{Quarter}
@@ -22,7 +23,7 @@ use Rattle.zone_graph.proofs.Membership.{from_filter, from_map}
 use Rattle.market_model.specs.declared.event.Event.{Event}
 use Rattle.market_model.specs.declared.event.Event.TheVariants as event
 use Rattle.market_model.specs.History.{and_then}
-use Rattle.market_model.specs.Lines.{buyer_zone, can_trade, in_order, line, partner, priority_cmp, rooms_for, seller_zone, stands_in, time_cmp}
+use Rattle.market_model.specs.Lines.{buyer_zone, can_trade, line, partner, priority_cmp, rooms_for, seller_zone, stands_in, time_cmp}
 use Rattle.market_model.specs.Orders.{Placed, Standing, gives_moment, is_open, last_place, left, moment, open_order, placed, placed_by, price_now, shown_lots, standing}
 use Rattle.market_model.specs.Sweep.{first_answer, leg_in, leg_of_buy, resting_trade, sweep, sweep_leg, left_in_hour, or_else}
 use Rattle.market_model.specs.Taking.{leg_over, next_leg, standing_order, take, trade}
@@ -30,11 +31,12 @@ use Rattle.market_laws.proofs.Legs.{open_order-is}
 use Rattle.market_laws.proofs.Falls.{trade-leg}
 use Rattle.market_laws.proofs.Members.{from_filter_map, from_first_answer}
 use Rattle.market_laws.proofs.Repeats.{bind-some, map-some}
-use Rattle.market_laws.proofs.Tests.{and-true, same_contract-eq, same_name-eq}
+use Rattle.market_laws.proofs.Tests.{same_contract-eq, same_name-eq}
 use Rattle.market_laws.proofs.Trades.{IsInLine, from_line, partner-is}
 use Rattle.market_locality.proofs.Named.{AreNamedByHour, IsNamedByHour, named-more}
 use Rattle.market_locality.proofs.Restrict.{filter-filter, filter-same, find-filter, find-same, map-same}
 use Rattle.market_locality.proofs.States.{Agree, agree-more, filled-agree, is_open-agree, left-agree, placed-agree, room-agree}
+use Rattle.zone_graph.specs.InOrder.{in_order}
 
 -- an order that entered is named by its contract's hour
 pub placed-named : (events : List Event) → AreNamedByHour events → (order : Placed) → IsIn order (placed events) → order.name.hour ≡ order.order.contract.hour
@@ -97,8 +99,8 @@ module _ (hours : List ℕ) (a b : List Event) (agree : Agree hours a b) where
       in_its_hour : (events : List Event) → AreNamedByHour events → (order : Placed) → IsIn order (placed events) → stands_in events contract side order ≡ true
           → in_hour contract.hour order ≡ true
       in_its_hour events named order i s =
-          let both = and-true (is_open events order.name && same_contract order.order.contract contract) (same_side order.order.side side) s in
-          let front = and-true (is_open events order.name) (same_contract order.order.contract contract) both.0 in
+          let both = and_parts (is_open events order.name && same_contract order.order.contract contract) (same_side order.order.side side) s in
+          let front = and_parts (is_open events order.name) (same_contract order.order.contract contract) both.0 in
           let contracts = same_contract-eq order.order.contract contract front.1 in
           eq-eqb order.name.hour contract.hour (placed-named events named order i ∙ ap (λ (c : Contract). c.hour) contracts)
 
@@ -108,8 +110,8 @@ module _ (hours : List ℕ) (a b : List Event) (agree : Agree hours a b) where
       let stand = stand-agree contract side h in
       ap (in_order (priority_cmp side)) (map-same (standing a) (standing b) (filter (stands_in a contract side) (placed a)) (λ order i.
       let passes = from_filter (stands_in a contract side) order (placed a) i in
-      let both = and-true (is_open a order.name && same_contract order.order.contract contract) (same_side order.order.side side) passes.1 in
-      let contracts = same_contract-eq order.order.contract contract (and-true (is_open a order.name) (same_contract order.order.contract contract) both.0).1 in
+      let both = and_parts (is_open a order.name && same_contract order.order.contract contract) (same_side order.order.side side) passes.1 in
+      let contracts = same_contract-eq order.order.contract contract (and_parts (is_open a order.name) (same_contract order.order.contract contract) both.0).1 in
       standing-agree order (subst (λ n. IsIn n hours) (sym (placed-named a agree.named_a order passes.0 ∙ ap (λ (c : Contract). c.hour) contracts)) h))
       ∙ ap (map (standing b)) stand)
 
@@ -141,7 +143,7 @@ module _ (hours : List ℕ) (a b : List Event) (agree : Agree hours a b) where
     where
       named_so : (events : List Event) (order : Placed) → (same_name order.name name && is_open events order.name) ≡ true → in_hour name.hour order ≡ true
       named_so events order s =
-          let both = and-true (same_name order.name name) (is_open events order.name) s in
+          let both = and_parts (same_name order.name name) (is_open events order.name) s in
           eq-eqb order.name.hour name.hour (ap (λ (n : OrderName). n.hour) (same_name-eq order.name name both.0))
 
   standing_order-agree : (name : OrderName) → IsIn name.hour hours → standing_order a name ≡ standing_order b name

@@ -1,6 +1,6 @@
 -- Histories in which every name is of the hour of its contract or of its period's first.
 use Rattle.std.proofs.Common.{◌≡◌, ◌∙◌, inl, inr, ◌≤◌, List, [], ◌∷◌, ◌++◌, nat_lt, sym, ap, subst, arith}
-use Rattle.std.proofs.lemmas.Bool.{ltb-true}
+use Rattle.std.proofs.lemmas.Bool.{ltb-true, and_parts}
 use Rattle.zone_graph.specs.Route.{IsIn}
 use Rattle.zone_graph.proofs.Membership.{IsIn-append}
 use Rattle.market_model.specs.declared.event.Event.{Event}
@@ -11,7 +11,6 @@ use Rattle.market_model.specs.WellFormed.{FitAfter, Fits}
 use Rattle.market_laws.proofs.Growing.{grows}
 use Rattle.market_laws.proofs.Placed.{AllAreSound, all_are_sound}
 use Rattle.market_laws.proofs.Repeats.{fit-more}
-use Rattle.market_laws.proofs.Tests.{and-true}
 
 -- the names of an event are of its hour
 abbrev pub IsNamedByHour : Event → Type 0
@@ -37,7 +36,7 @@ named-append events more named own f h = elim (IsIn-append f events more h) [ in
 named-fits : (setup : Setup) (before : List Event) (e : Event) → AllAreSound setup before → Fits setup before e → IsNamedByHour e
 named-fits setup before (event.Entered name caller order) sound fits = ap (λ n. n.hour) fits.named
 named-fits setup before (event.EnteredBlock name caller order) sound fits =
-    let period = and-true (nat_lt order.first order.last) _ fits.of_period in
+    let period = and_parts (nat_lt order.first order.last) _ fits.of_period in
     let ordered = ltb-true order.first order.last period.0 in
     (ap (λ n. n.hour) fits.named, omega arith)
 named-fits setup before (event.Leg contract leg) sound fits =
@@ -49,7 +48,7 @@ named-fits setup before (event.Leg contract leg) sound fits =
 named-fits setup before (event.BlockLeg first last leg) sound fits =
     let taker = sound.blocks fits.taker fits.taker_open.is_placed in
     let maker = sound.blocks fits.maker fits.maker_open.is_placed in
-    let period = and-true (nat_lt fits.taker.order.first fits.taker.order.last) _ taker.of_period in
+    let period = and_parts (nat_lt fits.taker.order.first fits.taker.order.last) _ taker.of_period in
     let order = ltb-true fits.taker.order.first fits.taker.order.last period.0 in
     let first_is = fits.taker_first in
     let last_is = fits.taker_last in (

@@ -1,6 +1,6 @@
 -- A reply depends on the events of the hours that its command concerns alone.
 use Rattle.std.proofs.Common.{◌≡◌, ◌∙◌, inl, inr, ℕ, zero, suc, ◌+◌, ◌-◌, ◌≤◌, ◌&&◌, Bool, true, false, not, List, [], ◌∷◌, ◌++◌, map, Option, Some, None, is_none, nat_eq, nat_le, nat_lt, pos, ℤ, refl, sym, ap, subst, if◌then◌else◌, arith}
-use Rattle.std.proofs.lemmas.Bool.{ltb-true}
+use Rattle.std.proofs.lemmas.Bool.{ltb-true, and_parts}
 use Rattle.std.specs.Prelude.{int_lt}
 use Rattle.std.specs.List.{find}
 use Rattle.std.specs.Option.{option_and_then, option_map}
@@ -35,13 +35,12 @@ use Rattle.market_model.specs.Entering.{after_taking, name_of_next, rest_of}
 use Rattle.market_model.specs.Grid.{graph_of}
 use Rattle.market_model.specs.Market.{answer, events_done, gate, on_arc, refused_or, reply_by, then_sweeps, withdrawals}
 use Rattle.market_model.specs.Orders.{Placed, left, next_name, open_block, open_names, open_order}
-use Rattle.market_model.specs.Refusals.{basket_order_refusal, basket_refusal, below_flow, block_desk_refusal, can_rest, closed_hour, desk_refusal, gate_refusal, has_desk_room, if_limit, if_own, if_own_block, is_below_left, is_limit, no_room, offer_refusal, order_desk_refusal, order_is_known, own_limit, reduces, refusal_of_command, request_refusal, unfilled_refusal}
+use Rattle.market_model.specs.Refusals.{basket_order_refusal, basket_refusal, below_flow, block_desk_refusal, can_rest, closed_hour, desk_refusal, gate_refusal, has_desk_room, if_limit, if_own, if_own_block, is_below_left, no_room, offer_refusal, order_desk_refusal, order_is_known, own_limit, reduces, refusal_of_command, request_refusal, unfilled_refusal}
 use Rattle.market_model.specs.Room.{is_closed_phase, lots_of, phase_of}
-use Rattle.market_model.specs.Rules.{first_broken, hours_concerned, is_fill_or_kill, naming_refusal, numbers_refusal, period_is_good, touched_hours, unless}
+use Rattle.market_model.specs.Rules.{first_broken, hours_concerned, naming_refusal, numbers_refusal, period_is_good, touched_hours, unless}
 use Rattle.market_model.specs.Sweep.{first_answer, sweeps}
 use Rattle.market_laws.proofs.Admitted.{naming-none}
 use Rattle.market_laws.proofs.Legs.{open_order-is}
-use Rattle.market_laws.proofs.Tests.{and-true}
 use Rattle.market_locality.proofs.Answers.{bound_of-agree, has_desk_room-agree, open_names-agree, open_names-hour, unfilled_zones-agree, view-agree}
 use Rattle.market_locality.proofs.Blocks.{enter_block-agree, first-in, match_blocks-agree, open_block-agree, partner_found-agree, period-hours, with_block-agree}
 use Rattle.market_locality.proofs.Entries.{after_taking-agree, enter-agree, enter_all-agree, rest_of-agree, sweeps-agree}
@@ -49,6 +48,7 @@ use Rattle.market_locality.proofs.Lines.{first_answer-same, open_order-agree}
 use Rattle.market_locality.proofs.Named.{AreNamedByHour, IsNamedByHour}
 use Rattle.market_locality.proofs.Restrict.{find-same, map-same}
 use Rattle.market_locality.proofs.States.{Agree, agree-append, agree-more, allocated-agree, left-agree, next_name-agree, phase-agree, quarter_room-agree}
+use Rattle.order_kinds.specs.Order.{is_fill_or_kill, is_limit}
 
 -- the hours of a range's quarters are the range's
 range-hours : (first last : Quarter) (quarter : Quarter) → IsIn quarter (range_quarters first last) → IsIn quarter.hour (hours_from first.hour last.hour)
@@ -216,7 +216,7 @@ desk-agree graph a b caller (command.EnterBlock order) good agree =
     hours = hours_from order.first order.last
 
     ordered : order.first ≤ order.last
-    ordered = let less = ltb-true order.first order.last (and-true (nat_lt order.first order.last) (nat_le (order.last + 1 - order.first) 24) good).0 in omega arith
+    ordered = let less = ltb-true order.first order.last (and_parts (nat_lt order.first order.last) (nat_le (order.last + 1 - order.first) 24) good).0 in omega arith
 
     room_same : has_desk_room (with_block a caller order) (next_name a order.first) ≡ has_desk_room (with_block b caller order) (next_name b order.first)
     room_same =
@@ -284,7 +284,7 @@ then-agree : (hours : List ℕ) (parts : List Part) (graph : Graph) (a b : List 
 then-agree hours parts graph a b done named agree =
     ap (λ rest. done ∷ rest) (sweeps-agree hours parts graph hours (a ++ done ∷ []) (b ++ done ∷ []) (agree-more hours a b done agree named) (λ k i. i))
 
-at_arc : (o : Option Arc) (f g : Arc → List Event) → ((arc : Arc) → f arc ≡ g arc) → on_arc o f ≡ on_arc o g
+pub at_arc : (o : Option Arc) (f g : Arc → List Event) → ((arc : Arc) → f arc ≡ g arc) → on_arc o f ≡ on_arc o g
 at_arc None f g same = refl
 at_arc (Some arc) f g same = same arc
 
@@ -294,14 +294,14 @@ unfolding events_done
 done-agree parts setup a b caller (command.Enter order) good agree = enter-agree (order.contract.hour ∷ []) a b agree (graph_of setup) caller order (inl refl) parts
 done-agree parts setup a b caller (command.EnterBlock order) good agree =
     enter_block-agree (hours_from order.first order.last) a b agree (graph_of setup) caller order
-    (let less = ltb-true order.first order.last (and-true (nat_lt order.first order.last) (nat_le (order.last + 1 - order.first) 24) good).0 in omega arith) (λ hour h. h) parts
+    (let less = ltb-true order.first order.last (and_parts (nat_lt order.first order.last) (nat_le (order.last + 1 - order.first) 24) good).0 in omega arith) (λ hour h. h) parts
 done-agree parts setup a b caller (command.EnterBasket orders) good agree =
     enter_all-agree (map (λ (o : Order). o.contract.hour) orders) parts (graph_of setup) caller orders a b agree (λ order i. IsIn-map (λ (o : Order). o.contract.hour) order orders i)
 done-agree parts setup a b caller (command.Cancel name) good agree = ap (λ n. event.Withdrawn name n ∷ []) (left-agree (name.hour ∷ []) a b agree name (inl refl))
 done-agree parts setup a b caller (command.Reduce name to) good agree = ap (λ n. event.Reduced name (n - to) ∷ []) (left-agree (name.hour ∷ []) a b agree name (inl refl))
 done-agree parts setup a b caller (command.Blocks first last) good agree =
     match_blocks-agree (hours_from first last) (graph_of setup) first last
-    (first-in first last (let less = ltb-true first last (and-true (nat_lt first last) (nat_le (last + 1 - first) 24) good).0 in omega arith)) (λ hour h. h) parts a b agree
+    (first-in first last (let less = ltb-true first last (and_parts (nat_lt first last) (nat_le (last + 1 - first) 24) good).0 in omega arith)) (λ hour h. h) parts a b agree
 done-agree parts setup a b caller (command.Offer from to first last lots) good agree = at_arc (arc_between (graph_of setup) from to) _ _
     (λ arc. then-agree (hours_from first.hour last.hour) parts (graph_of setup) a b (event.Offered arc first last lots) tt agree)
 done-agree parts setup a b caller (command.Request from to first last lots) good agree = at_arc (arc_between (graph_of setup) from to) _ _

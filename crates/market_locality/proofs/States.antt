@@ -1,7 +1,7 @@
 -- Histories that agree on some hours say the same of these hours.
 use Rattle.std.proofs.Common.{◌≡◌, ◌≢◌, ◌∙◌, ℕ, ◌+◌, ◌≤◌, ◌&&◌, Bool, true, false, cond, List, [], ◌∷◌, ◌++◌, filter, fold, count_by, Some, None, unwrap_or, nat_eq, nat_le, nat_lt, eqb-true, eq-eqb, refl, sym, ap, subst, if◌then◌else◌, arith}
 use Rattle.std.proofs.Math.Path.{fun_ext}
-use Rattle.std.proofs.lemmas.Bool.{le-leb, true≢false}
+use Rattle.std.proofs.lemmas.Bool.{le-leb, true≢false, and_parts, and_from}
 use Rattle.std.proofs.lemmas.List.Elements.{filter-append}
 use Rattle.std.specs.List.{filter_map}
 use Rattle.order_kinds.specs.declared.contract.Quarter.{Quarter}
@@ -20,7 +20,7 @@ use Rattle.market_model.specs.Capacity.{allocated, allocated_by, offered, offere
 use Rattle.market_model.specs.History.{and_then, enters_in, of_hour, touches}
 use Rattle.market_model.specs.Orders.{Placed, PlacedBlock, block_placed_by, blocks_placed, entered, entered_by, filled, filled_by, is_open, left, names, next_name, placed, placed_by, taken_off, taken_off_by}
 use Rattle.market_model.specs.Room.{halt_by, is_halted, least, phase_by, phase_of, quarter_room, room}
-use Rattle.market_laws.proofs.Tests.{and-intro, and-true, same_name-eq}
+use Rattle.market_laws.proofs.Tests.{same_name-eq}
 use Rattle.market_laws.proofs.Uses.{not_after-hours}
 use Rattle.market_locality.proofs.Named.{AreNamedByHour, IsNamedByHour, named-append, named-more}
 use Rattle.market_locality.proofs.Restrict.{fold-filter, map-same, picked-filter}
@@ -61,7 +61,7 @@ not_named a b apart = go (same_name a b) refl
     go false e = refl
 
 within-first : (first last : ℕ) → first ≤ last → is_within first last first ≡ true
-within-first first last order = and-intro (nat_le first first) (nat_le first last) (le-leb first first (omega arith)) (le-leb first last order)
+within-first first last order = and_from (nat_le first first) (nat_le first last) (le-leb first first (omega arith)) (le-leb first last order)
 
 -- what does not touch an hour enters, fills and takes off nothing of its names
 entered-elsewhere : (hour : ℕ) (name : OrderName) (e : Event) → name.hour ≡ hour → touches hour e ≡ false → entered_by name e ≡ 0
@@ -120,9 +120,9 @@ taken_off-elsewhere hour name (event.Gated gated phase) is h = refl
 -- a quarter of a range is of an hour of it
 range-within : (first last quarter : Quarter) → range_has first last quarter ≡ true → is_within first.hour last.hour quarter.hour ≡ true
 range-within first last quarter h =
-    let both = and-true (is_quarter quarter && is_not_after first quarter) (is_not_after quarter last) h in
-    let front = and-true (is_quarter quarter) (is_not_after first quarter) both.0 in
-    and-intro (nat_le first.hour quarter.hour) (nat_le quarter.hour last.hour) (le-leb first.hour quarter.hour (not_after-hours first quarter front.1))
+    let both = and_parts (is_quarter quarter && is_not_after first quarter) (is_not_after quarter last) h in
+    let front = and_parts (is_quarter quarter) (is_not_after first quarter) both.0 in
+    and_from (nat_le first.hour quarter.hour) (nat_le quarter.hour last.hour) (le-leb first.hour quarter.hour (not_after-hours first quarter front.1))
     (le-leb quarter.hour last.hour (not_after-hours quarter last both.1))
 
 no_lots : (b : Bool) (lots : ℕ) → (b ≡ true → ⊥) → lots_if b lots ≡ 0
@@ -131,15 +131,15 @@ no_lots false lots h = refl
 
 allocated-elsewhere : (hour : ℕ) (quarter : Quarter) (arc : Arc) (e : Event) → quarter.hour ≡ hour → touches hour e ≡ false → allocated_by quarter arc e ≡ 0
 allocated-elsewhere hour quarter arc (event.Leg contract leg) is h = no_lots (contract_has contract quarter && uses leg.route arc) leg.lots (λ k.
-    let both = and-true (contract_has contract quarter) (uses leg.route arc) k in
-    let here = and-true (nat_eq contract.hour quarter.hour) (covers contract.part quarter.number) both.0 in
+    let both = and_parts (contract_has contract quarter) (uses leg.route arc) k in
+    let here = and_parts (nat_eq contract.hour quarter.hour) (covers contract.part quarter.number) both.0 in
     other-hour contract.hour hour h (eqb-true contract.hour quarter.hour here.0 ∙ is))
 allocated-elsewhere hour quarter arc (event.BlockLeg first last leg) is h = no_lots (block_has first last quarter && uses leg.route arc) leg.lots (λ k.
-    let both = and-true (block_has first last quarter) (uses leg.route arc) k in
-    let here = and-true (is_within first last quarter.hour) (is_quarter quarter) both.0 in
+    let both = and_parts (block_has first last quarter) (uses leg.route arc) k in
+    let here = and_parts (is_within first last quarter.hour) (is_quarter quarter) both.0 in
     true≢false (sym (subst (λ t. is_within first last t ≡ true) is here.0) ∙ h))
 allocated-elsewhere hour quarter arc (event.Granted given first last lots) is h = no_lots (range_has first last quarter && same_arc given arc) lots (λ k.
-    let both = and-true (range_has first last quarter) (same_arc given arc) k in
+    let both = and_parts (range_has first last quarter) (same_arc given arc) k in
     true≢false (sym (subst (λ t. is_within first.hour last.hour t ≡ true) is (range-within first last quarter both.0)) ∙ h))
 allocated-elsewhere hour quarter arc (event.Entered given caller order) is h = refl
 allocated-elsewhere hour quarter arc (event.EnteredBlock given caller order) is h = refl
@@ -156,7 +156,7 @@ offered-elsewhere hour quarter arc (event.Offered given first last lots) is h = 
   where
     go : (b : Bool) → (range_has first last quarter && same_arc given arc) ≡ b → (if b then Some lots else None) ≡ None
     go true k =
-        let both = and-true (range_has first last quarter) (same_arc given arc) k in
+        let both = and_parts (range_has first last quarter) (same_arc given arc) k in
         absurd (true≢false (sym (subst (λ t. is_within first.hour last.hour t ≡ true) is (range-within first last quarter both.0)) ∙ h))
     go false k = refl
 offered-elsewhere hour quarter arc (event.Entered given caller order) is h = refl

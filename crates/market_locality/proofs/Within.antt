@@ -1,6 +1,6 @@
 -- The events of a reply touch no hour but those that its command concerns.
 use Rattle.std.proofs.Common.{◌≡◌, ◌∙◌, inl, inr, ℕ, zero, suc, ◌+◌, ◌-◌, ◌≤◌, true, false, List, [], ◌∷◌, ◌++◌, flat_map, length, map, Option, Some, None, nat_eq, nat_le, eqb-true, is_none, nat_lt, refl, sym, ap, subst, if◌then◌else◌, arith}
-use Rattle.std.proofs.lemmas.Bool.{leb-true, ltb-true}
+use Rattle.std.proofs.lemmas.Bool.{leb-true, ltb-true, and_parts}
 use Rattle.std.specs.Ordering.{is_lt}
 use Rattle.std.specs.List.{filter_map}
 use Rattle.order_kinds.specs.declared.contract.Contract.{Contract}
@@ -42,7 +42,6 @@ use Rattle.market_laws.proofs.Falls.{IsLegIn, sweep_leg-hour, trade-leg}
 use Rattle.market_laws.proofs.Legs.{open_order-is}
 use Rattle.market_laws.proofs.Members.{from_first_answer}
 use Rattle.market_laws.proofs.Repeats.{bind-some, map-some}
-use Rattle.market_laws.proofs.Tests.{and-true}
 use Rattle.market_locality.proofs.Answers.{open_names-hour}
 use Rattle.market_locality.proofs.Blocks.{ArePeriodNamed, IsWithin, agree-itself, block_deal-named, block_deals-named, block_leg-made, block_leg-named, entered_before, entered_before-named, entering-within, first-in, legs_found, line-within, partner-pair, partner-turned, with_block-agree}
 use Rattle.market_locality.proofs.Entries.{before_sweep-named, enter-named, with_order-agree}
@@ -69,7 +68,7 @@ one-hour hours own hour h e = subst (λ n. IsIn n hours) (eqb-true own hour e) h
 
 period-hour : (first last hour : ℕ) → is_within first last hour ≡ true → IsIn hour (hours_from first last)
 period-hour first last hour e =
-    let both = and-true (nat_le first hour) (nat_le hour last) e in
+    let both = and_parts (nat_le first hour) (nat_le hour last) e in
     let low = leb-true first hour both.0 in
     let high = leb-true hour last both.1 in
     IsIn-range hour first (last + 1 - first) low (omega arith)
@@ -300,7 +299,7 @@ unfolding events_done
 done-within parts setup events caller (command.Enter order) good named =
     enter-within (order.contract.hour ∷ []) parts (graph_of setup) caller order events (inl refl) named
 done-within parts setup events caller (command.EnterBlock order) good named =
-    let less = ltb-true order.first order.last (and-true (nat_lt order.first order.last) (nat_le (order.last + 1 - order.first) 24) good).0 in
+    let less = ltb-true order.first order.last (and_parts (nat_lt order.first order.last) (nat_le (order.last + 1 - order.first) 24) good).0 in
     enter_block-within (hours_from order.first order.last) parts (graph_of setup) caller order (omega arith) (λ hour h. h) events named
 done-within parts setup events caller (command.EnterBasket orders) good named =
     enter_all-within (map (λ (o : Order). o.contract.hour) orders) parts (graph_of setup) caller orders events (λ order i. IsIn-map (λ (o : Order). o.contract.hour) order orders i) named
@@ -309,7 +308,7 @@ done-within parts setup events caller (command.Cancel name) good named =
 done-within parts setup events caller (command.Reduce name to) good named =
     within-one (name.hour ∷ []) (event.Reduced name (left events name - to)) (λ k t. one-hour (name.hour ∷ []) name.hour k (inl refl) t)
 done-within parts setup events caller (command.Blocks first last) good named =
-    let less = ltb-true first last (and-true (nat_lt first last) (nat_le (last + 1 - first) 24) good).0 in
+    let less = ltb-true first last (and_parts (nat_lt first last) (nat_le (last + 1 - first) 24) good).0 in
     match_blocks-within (hours_from first last) parts (graph_of setup) first last (first-in first last (omega arith)) (λ hour h. h) events named
 done-within parts setup events caller (command.Offer from to first last lots) good named =
     at_arc-within (hours_from first.hour last.hour) (arc_between (graph_of setup) from to) _ (λ arc.

@@ -1,6 +1,7 @@
 //! What a reply depends on.
 
 ghost use Rattle.market_locality.specs.Locality.{RepliesStayWithin, TouchedHoursDecide};
+ghost use Rattle.market_model.specs.Concerned.{JournalsKeepToTheirHours};
 ghost use Rattle.market_model.specs.DeepLaws.{EventsStayInTheirHours, RepliesAreLocal};
 
 /// Two well-formed histories with the same events of the hours that a command touches, in order,
@@ -24,4 +25,9 @@ pub fn replies_are_local()
 /// The reply to a command brings about no event that touches another hour.
 pub fn events_stay_in_their_hours()
     ensures { EventsStayInTheirHours }
+{}
+
+/// No entry of a journal has an event of an hour that its command does not touch.
+pub fn journals_keep_to_their_hours()
+    ensures { JournalsKeepToTheirHours }
 {}

@@ -1,6 +1,6 @@
 -- How many orders and blocks enter by the events of a reply.
 use Rattle.std.proofs.Common.{◌≡◌, ◌∙◌, inl, inr, ℕ, ◌+◌, ◌-◌, ◌≤◌, ◌&&◌, cond, List, [], ◌∷◌, ◌++◌, length, map, Option, Some, None, refl, ap, arith, nat_le}
-use Rattle.std.proofs.lemmas.Bool.{leb-true}
+use Rattle.std.proofs.lemmas.Bool.{leb-true, and_parts}
 use Rattle.std.proofs.lemmas.List.Sums.{sum_by-append, sum_by-cons}
 use Rattle.std.specs.List.{list_all}
 use Rattle.order_kinds.specs.declared.contract.Part.{Part}
@@ -23,12 +23,12 @@ use Rattle.market_model.specs.History.{entered_count, enters, events_of}
 use Rattle.market_model.specs.Market.{answer, events_done, gate, refused_or, reply_by}
 use Rattle.market_model.specs.Orders.{left, next_name}
 use Rattle.market_model.specs.Refusals.{refusal_of_command}
-use Rattle.market_model.specs.Rules.{ascends, is_fill_or_kill}
+use Rattle.market_model.specs.Rules.{ascends}
 use Rattle.market_model.specs.Sweep.{all_parts, sweep, sweeps}
 use Rattle.market_laws.proofs.Admitted.{IsAdmitted, refusal-none}
-use Rattle.market_laws.proofs.Tests.{and-true}
 use Rattle.history_bounds.proofs.Quiet.{AreQuiet, at_arc-quiet, gate-quiet, legs_with-quiet, match_blocks-quiet, quiet-one, rest-quiet, sweep-quiet, sweeps-quiet, take-quiet, then-quiet}
 use Rattle.reply_bounds.specs.Bounds.{RepliesEnterFew}
+use Rattle.order_kinds.specs.Order.{is_fill_or_kill}
 
 -- one for an event by which something enters
 abbrev entering : Event → ℕ
@@ -124,9 +124,9 @@ module _ (setup : Setup) (events : List Event) (caller : ℕ) where
   done-few (command.EnterBasket orders) may =
       let each = enter_all-each all_parts market caller orders events in
       let hours : List ℕ = map (λ (o : Order). o.contract.hour) orders in
-      let front = and-true (is_within 2 8 (length orders) && ascends hours) (list_all (λ (o : Order). is_fill_or_kill o.kind) orders) may.names.basket in
-      let sized = (and-true (is_within 2 8 (length orders)) (ascends hours) front.0).0 in
-      let few = leb-true (length orders) 8 (and-true (nat_le 2 (length orders)) (nat_le (length orders) 8) sized).1 in
+      let front = and_parts (is_within 2 8 (length orders) && ascends hours) (list_all (λ (o : Order). is_fill_or_kill o.kind) orders) may.names.basket in
+      let sized = (and_parts (is_within 2 8 (length orders)) (ascends hours) front.0).0 in
+      let few = leb-true (length orders) 8 (and_parts (nat_le 2 (length orders)) (nat_le (length orders) 8) sized).1 in
       omega (arith, each, few)
   done-few (command.Cancel name) may = few-quiet (event.Withdrawn name (left events name) ∷ []) (quiet-one (event.Withdrawn name (left events name)) refl)
   done-few (command.Reduce name to) may = few-quiet (event.Reduced name (left events name - to) ∷ []) (quiet-one (event.Reduced name (left events name - to)) refl)

@@ -32,12 +32,13 @@ use Rattle.market_model.specs.Naming.{HasArcs, HasBorder, HasZone, IsEventIn, Is
 use Rattle.market_model.specs.Orders.{next_name}
 use Rattle.market_model.specs.Refusals.{basket_order_refusal, basket_refusal, below_flow, can_rest, closed_hour, desk_refusal, gate_refusal, has_desk_room, is_filled, no_room, offer_refusal, order_desk_refusal, order_is_known, reduces, refusal_of_command, request_refusal, rules, unfilled_refusal}
 use Rattle.market_model.specs.Room.{lots_of, phase_of, quarter_room, room}
-use Rattle.market_model.specs.Rules.{first_broken, is_fill_or_kill, naming_refusal, naming_rules, numbers_refusal, numbers_rules, unless}
+use Rattle.market_model.specs.Rules.{first_broken, naming_refusal, naming_rules, numbers_refusal, numbers_rules, unless}
 use Rattle.market_model.specs.Sweep.{all_parts, first_answer, or_else}
 use Rattle.market_model.specs.WellFormed.{FitAfter, Fits}
 use Rattle.market_laws.proofs.Growing.{fit-back}
 use Rattle.market_laws.proofs.Replies.{reply-history}
 use Rattle.reply_bounds.specs.Bounds.{RepliesNameTheSetup}
+use Rattle.order_kinds.specs.Order.{is_fill_or_kill}
 
 -- what holds of each item that is in a list
 all-in : {X : Type 0} (P : X → Type 0) (xs : List X) → ((x : X) → IsIn x xs → P x) → All P xs

@@ -1,0 +1,12 @@
+pub mod BestPlans
+pub mod BoundsFall
+pub mod Certified
+pub mod CrossingPeaks
+pub mod Duality
+pub mod Obtained
+pub mod OrdersMet
+pub mod Refused
+pub mod RoomsTaken
+pub mod Runs
+pub mod Takers
+pub mod WholeIcebergs

@@ -1,0 +1,12 @@
+//! What a taking obtains is the most that could flow: certified by a set of zones and its bound.
+#![tactic(auto)]
+
+mod plans;
+mod rooms;
+mod takings;
+mod unfilled;
+
+pub use plans::{no_plan_beats_a_bound, no_plan_beats_the_bound};
+pub use rooms::{legs_leave_the_rooms, takings_leave_the_rooms, takings_open_no_way};
+pub use takings::{takings_obtain_the_most, takings_reach_their_bound};
+pub use unfilled::{basket_unfilled_is_certified, unfilled_is_certified};

@@ -1,0 +1,16 @@
+//! What a refusal as unfilled says.
+
+ghost use Rattle.certified_maximum.specs.Unfilled.{BasketUnfilledIsCertified, UnfilledIsCertified};
+
+/// A reply after a well-formed history that refuses a command as `Unfilled` certifies that no flow
+/// plan fills its order: the zones have the order's own, the bound is theirs, and it is below the
+/// quantity. It comes for fill-or-kill orders alone.
+pub fn unfilled_is_certified()
+    ensures { UnfilledIsCertified }
+{}
+
+/// A reply after a well-formed history that refuses a command as `BasketUnfilled` certifies that no
+/// flow plan fills an order of its basket, of the hour that is named.
+pub fn basket_unfilled_is_certified()
+    ensures { BasketUnfilledIsCertified }
+{}

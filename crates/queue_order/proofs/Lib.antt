@@ -1,0 +1,5 @@
+pub mod Entries
+pub mod Holding
+pub mod InTurn
+pub mod Kept
+pub mod Made
