@@ -4,12 +4,12 @@ use Rattle.std.proofs.lemmas.List.{append-nil}
 use Rattle.std.proofs.Math.Dec.{eqb-suc-zero}
 use Rattle.std.proofs.Math.Seq.{take-append_seam}
 use Rattle.std.specs.Ordering.{is_lt}
+use Rattle.std.proofs.lemmas.Bool.{and_parts}
 use Rattle.order_kinds.specs.Side.{crosses}
 use Rattle.zone_graph.specs.Graph.{Graph}
 use Rattle.market_model.specs.declared.event.Event.{Event}
 use Rattle.market_model.specs.Blocks.{StandingBlock, block_legs, block_time_cmp, can_trade_blocks, carries_whole, resting_block_legs}
 use Rattle.market_laws.proofs.Roles.{same_pour}
-use Rattle.market_laws.proofs.Tests.{and-true}
 use Rattle.plain_blocks.specs.Meeting.{ArePoured, Meet, deal_if, is_match, legs_if}
 use Rattle.plain_blocks.proofs.Meetings.{equal-left}
 
@@ -32,7 +32,7 @@ module _ (graph : Graph) (events : List Event) (own other : StandingBlock) where
 
   pub poured : Meet graph events own other → is_match own other ≡ true → ArePoured graph events own other
   poured meet same =
-      let both = and-true (other.order.quantity.0 == own.order.quantity.0) (crosses own.order.side own.order.price other.order.price) same in
+      let both = and_parts (other.order.quantity.0 == own.order.quantity.0) (crosses own.order.side own.order.price other.order.price) same in
       let lots : other.order.quantity.0 ≡ own.order.quantity.0 = eqb-true other.order.quantity.0 own.order.quantity.0 both.0 in
       record { meet = meet; one_quantity = λ i. record { 0 = lots i } }
 

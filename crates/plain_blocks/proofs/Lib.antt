@@ -1,4 +1,3 @@
-pub mod Days
 pub mod Deals
 pub mod Entries
 pub mod Legs

@@ -1,6 +1,6 @@
 -- What is known of two blocks that meet.
 use Rattle.std.proofs.Common.{◌≡◌, ◌∙◌, ℕ, ◌<◌, ◌≤◌, ◌+◌, ◌-◌, List, sym, ap, subst, nat_lt, nat_le, arith}
-use Rattle.std.proofs.lemmas.Bool.{ltb-true}
+use Rattle.std.proofs.lemmas.Bool.{ltb-true, and_parts}
 use Rattle.order_kinds.specs.declared.price.Lots.{Lots}
 use Rattle.order_kinds.specs.Side.{opposite}
 use Rattle.zone_graph.specs.Graph.{Graph, HasZone}
@@ -10,7 +10,6 @@ use Rattle.market_model.specs.Orders.{left}
 use Rattle.market_laws.proofs.Legs.{opposite-opposite}
 use Rattle.market_laws.proofs.Placed.{all_are_sound}
 use Rattle.market_laws.proofs.Pours.{ArePair}
-use Rattle.market_laws.proofs.Tests.{and-true}
 use Rattle.plain_orders.specs.Histories.{IsSomeHistory}
 use Rattle.plain_blocks.specs.Entering.{IsHistoryOver}
 use Rattle.plain_blocks.specs.Meeting.{ArePoured, Stands}
@@ -28,7 +27,7 @@ stands-sound graph events own legal stands =
     let sound = (all_are_sound legal.setup events legal.history.fit).blocks stands.block stands.is_placed in
     let first : ℕ = stands.block.order.first in
     let last : ℕ = stands.block.order.last in
-    let before : first < last = ltb-true first last (and-true (nat_lt first last) (nat_le (last + 1 - first) 24) sound.of_period).0 in
+    let before : first < last = ltb-true first last (and_parts (nat_lt first last) (nat_le (last + 1 - first) 24) sound.of_period).0 in
     subst (λ s. IsSoundBlock graph s) (sym stands.is) (record {
       in_zone = subst (λ g. HasZone g stands.block.order.zone) (sym legal.over) sound.in_zone;
       in_order = omega arith;

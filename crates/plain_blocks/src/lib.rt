@@ -9,8 +9,6 @@ mod deal;
 mod entering;
 mod pouring;
 mod resting;
-#[cfg(test)]
-mod tests;
 
 pub use entering::take_block;
 pub use resting::match_deals;

@@ -4,7 +4,7 @@ use Rattle.std.proofs.lemmas.List.{length-replicate}
 use Rattle.std.proofs.Math.Seq.{take-append_seam}
 use Rattle.order_kinds.specs.declared.contract.Quarter.{Quarter}
 use Rattle.order_kinds.specs.declared.phase.Phase.TheVariants as phase
-use Rattle.order_kinds.specs.Period.{quarter_of}
+use Rattle.order_kinds.specs.Period.{EachQuarter, quarter_of}
 use Rattle.quarter_capacity.specs.Row.{Row, flow, nothing_offered, offered}
 use Rattle.zone_graph.specs.Graph.{Graph, border_count}
 use Rattle.market_model.specs.declared.event.Event.{Event}
@@ -18,7 +18,7 @@ use Rattle.market_laws.proofs.Capacities.{last_said-more}
 use Rattle.market_laws.proofs.Growing.{fit-back, fit-front}
 use Rattle.market_laws.proofs.Uses.{IsWithinOffers, within_offers}
 use Rattle.plain_capacity.specs.Rows.{IsNoted, IsQuarterOf}
-use Rattle.plain_capacity.specs.Hour.{CanNoteIn, Capacity, EachQuarter, HasBorder, IsCapacityOf, IsLegalOver, halted_at, idle, rows_in, size_of}
+use Rattle.plain_capacity.specs.Hour.{CanNoteIn, Capacity, HasBorder, IsCapacityOf, IsLegalOver, halted_at, idle, rows_in, size_of}
 use Rattle.plain_capacity.proofs.Legal.{can-note, noted-is}
 
 -- what is true of quarters 1 to 4 is true of each quarter

@@ -9,7 +9,7 @@ use Rattle.quarter_capacity.specs.Row.{Row}
 use Rattle.zone_graph.specs.declared.route.Arc.{Arc}
 use Rattle.zone_graph.specs.Graph.{Graph, HasArc, border_count}
 use Rattle.zone_graph.specs.Pour.{lots_if, opposite_arc, same_arc, uses}
-use Rattle.cut_proof.proofs.Arcs.{same_arc-itself, uses-IsIn}
+use Rattle.zone_graph.proofs.Arcs.{same_arc-itself, uses-IsIn}
 use Rattle.cut_proof.proofs.Ways.{borders_once, way_has_arc}
 use Rattle.market_model.specs.declared.event.Event.{Event}
 use Rattle.market_model.specs.declared.event.Event.TheVariants as event

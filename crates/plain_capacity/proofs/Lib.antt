@@ -3,4 +3,3 @@ pub mod Carries
 pub mod Legal
 pub mod Hours
 pub mod RoomLemmas
-pub mod QuietLemmas

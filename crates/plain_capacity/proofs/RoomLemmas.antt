@@ -2,7 +2,7 @@
 use Rattle.std.proofs.Common.{◌≡◌, ◌∙◌, ◌+◌, ◌-◌, ◌*◌, ◌<◌, ◌≤◌, ◌==◌, ◌&&◌, not, ℕ, zero, suc, Bool, true, false, List, [], ◌∷◌, ◌++◌, fold, length, map, min, nat_le, if◌then◌else◌, ℤ, refl, ap, ap₂, arith}
 use Rattle.std.specs.List.{flat_map, range_with_len}
 use Rattle.std.specs.Prelude.{Result, Ok, Err, IfOk}
-use Rattle.std.proofs.lemmas.Bool.{eqb-false, leb-true}
+use Rattle.std.proofs.lemmas.Bool.{eqb-false, leb-true, and_parts}
 use Rattle.std.proofs.lemmas.Grind.{flat_map-append}
 use Rattle.std.proofs.lemmas.List.{length-map, map-append}
 use Rattle.std.proofs.lemmas.List.Sums.{fold-append}
@@ -10,24 +10,13 @@ use Rattle.order_kinds.specs.declared.contract.Part.{Part}
 use Rattle.order_kinds.specs.declared.contract.Part.TheVariants as part
 use Rattle.order_kinds.specs.declared.phase.Phase.{Phase}
 use Rattle.order_kinds.specs.Contract.{is_known, quarters}
-use Rattle.order_kinds.specs.Period.{block_quarters, hour_quarters, hours_from, quarter_of}
+use Rattle.order_kinds.specs.Period.{EachQuarter, block_quarters, hour_quarters, hours_from, quarter_of}
 use Rattle.quarter_capacity.specs.Capacity.{remaining_of}
 use Rattle.zone_graph.specs.declared.route.Arc.{Arc}
 use Rattle.zone_graph.specs.Graph.{Graph, HasArc}
-use Rattle.zone_graph.specs.Pour.{same_bool}
 use Rattle.market_model.specs.declared.event.Event.{Event}
 use Rattle.market_model.specs.Room.{is_halted, is_open_phase, least, lots_of, phase_of, quarter_room, room}
-use Rattle.market_laws.proofs.Tests.{and-true}
-use Rattle.plain_capacity.specs.Hour.{Capacity, EachQuarter, IsCapacityOf, halted_at, part_room, remaining_in, room_in}
-
--- the rooms of the two arcs of a border, written one after the other
-pub two_rooms : (same forward : Bool) (old mid new : ℕ) (room : Bool → ℕ)
-    → mid ≡ (if same && same_bool true forward then room true else old)
-    → new ≡ (if same && same_bool false forward then room false else mid)
-    → new ≡ (if same then room forward else old)
-two_rooms true true old mid new room first second = second ∙ first
-two_rooms true false old mid new room first second = second
-two_rooms false forward old mid new room first second = second ∙ first
+use Rattle.plain_capacity.specs.Hour.{Capacity, IsCapacityOf, halted_at, part_room, remaining_in, room_in}
 
 -- one more border
 pub written_more : (border place new mid want : ℕ) → new ≡ (if border == place then want else mid) → (place < border → mid ≡ want)
@@ -60,10 +49,10 @@ module _ (graph : Graph) (events : List Event) (hour : ℕ) (capacity : Capacity
       ap₂ min (ap₂ min (ap₂ min (room-is 1 (omega arith) (omega arith)) (room-is 2 (omega arith) (omega arith))) (room-is 3 (omega arith) (omega arith)))
       (room-is 4 (omega arith) (omega arith))
   part-is (part.Quarter number) e =
-      let both = and-true (nat_le 1 number) (nat_le number 4) e in
+      let both = and_parts (nat_le 1 number) (nat_le number 4) e in
       room-is number (leb-true 1 number both.0) (leb-true number 4 both.1)
   part-is (part.Half number) e =
-      let both = and-true (nat_le 1 number) (nat_le number 2) e in
+      let both = and_parts (nat_le 1 number) (nat_le number 2) e in
       let low = leb-true 1 number both.0 in
       let high = leb-true number 2 both.1 in
       ap₂ min (room-is (2 * number - 1) (omega arith) (omega arith)) (room-is (2 * number) (omega arith) (omega arith))

@@ -1,18 +1,13 @@
 -- What lots that are taken of one arc do to the flows over all arcs.
-use Rattle.std.proofs.Common.{◌≡◌, ◌∙◌, ◌<◌, ◌==◌, ◌&&◌, not, zero, suc, ℕ, ◌+ℤ◌, ℤ, Bool, true, false, List, [], ◌∷◌, length, get_or, if◌then◌else◌, refl, sym, ap, subst, arith, eqb-true, get_or-set_same, get_or-set_other, slice_set}
+use Rattle.std.proofs.Common.{◌≡◌, ◌∙◌, ◌<◌, ◌==◌, ◌&&◌, not, ℕ, ◌+ℤ◌, ℤ, Bool, true, false, List, length, get_or, if◌then◌else◌, refl, sym, ap, subst, arith, eqb-true, get_or-set_same, get_or-set_other, slice_set}
 use Rattle.std.proofs.lemmas.Bool.{eqb-false}
 use Rattle.std.proofs.lemmas.Int.{ints}
 use Rattle.quarter_capacity.specs.Capacity.{flow_of}
 use Rattle.quarter_capacity.specs.Row.{Row, flow, nothing_offered, with_taken}
 use Rattle.zone_graph.specs.declared.route.Arc.{Arc}
 use Rattle.zone_graph.specs.Pour.{lots_if, opposite_arc, same_arc, same_bool}
+use Rattle.zone_graph.proofs.Places.{at_any}
 use Rattle.plain_capacity.specs.Rows.{flow_at}
-
--- an item that is there is the same whatever stands for one that is not
-pub get_or-any : {X : Type 0} (xs : List X) (i : ℕ) (d e : X) → i < length xs → get_or xs i d ≡ get_or xs i e
-get_or-any [] i d e within = absurd (let no : ⊥ = omega arith in no)
-get_or-any (x ∷ xs) zero d e within = refl
-get_or-any (x ∷ xs) (suc i) d e within = get_or-any xs i d e (omega arith)
 
 -- the rows with one of them put in place
 row-set : (rows : List Row) (i j : ℕ) (row : Row) → i < length rows
@@ -45,7 +40,7 @@ flow_at-taken rows arc other d row lots within taken =
         ≡ flow_at rows other +ℤ flow_of (lots_if (b && same_bool arc.forward other.forward) lots) (lots_if (b && same_bool arc.forward (not other.forward)) lots)
     by true e =
         let there : get_or rows arc.border d ≡ get_or rows other.border nothing_offered =
-        get_or-any rows arc.border d nothing_offered within ∙ ap (λ k. get_or rows k nothing_offered) (eqb-true arc.border other.border e) in
+        at_any rows arc.border d nothing_offered within ∙ ap (λ k. get_or rows k nothing_offered) (eqb-true arc.border other.border e) in
         ap (λ r. flow r other.forward) (taken ∙ ap (λ r. with_taken r arc.forward lots) there)
         ∙ taken-flow (get_or rows other.border nothing_offered) arc.forward other.forward lots
     by false e = no_change (flow_at rows other)

@@ -1,11 +1,11 @@
 -- The capacity of one hour as it follows from a list of events. The quarters of an hour are numbered
 -- from 1 to 4.
-use Rattle.std.specs.Prelude.{◌≡◌, ℕ, ◌<◌, ◌≤◌, ◌==◌, ◌&&◌, Bool, true, false, not, List, [], length, map, replicate, slice_index_or, ℤ, if◌then◌else◌}
+use Rattle.std.specs.Prelude.{◌≡◌, ℕ, ◌<◌, ◌==◌, ◌&&◌, Bool, true, false, not, List, [], length, map, replicate, slice_index_or, ℤ, if◌then◌else◌}
 use Rattle.order_kinds.specs.declared.contract.Part.{Part}
 use Rattle.order_kinds.specs.declared.phase.Phase.{Phase}
 use Rattle.order_kinds.specs.declared.phase.Phase.TheVariants as phase
 use Rattle.order_kinds.specs.Contract.{quarters}
-use Rattle.order_kinds.specs.Period.{is_within, quarter_of}
+use Rattle.order_kinds.specs.Period.{EachQuarter, is_within, quarter_of}
 use Rattle.quarter_capacity.specs.Row.{Row, nothing_offered}
 use Rattle.zone_graph.specs.declared.route.Arc.{Arc}
 use Rattle.zone_graph.specs.Graph.{Graph, border_count}
@@ -82,10 +82,6 @@ room_in capacity arc number =
 -- the room of an arc over the quarters of a part of the hour: the least of theirs
 abbrev pub part_room : Capacity → Part → Arc → ℕ
 part_room capacity part arc = least (map (room_in capacity arc) (quarters part))
-
--- something is true of each quarter
-abbrev pub EachQuarter : ((number : ℕ) → Type 0) → Type 0
-EachQuarter P = (number : ℕ) → 1 ≤ number → number ≤ 4 → P number
 
 -- this is the capacity of an hour after some events
 pub record IsCapacityOf (graph : Graph) (events : List Event) (hour : ℕ) (capacity : Capacity) : Type 0 where

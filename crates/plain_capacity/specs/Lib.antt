@@ -1,4 +1,3 @@
 -- What the contracts of this crate cite.
 pub mod Rows
 pub mod Hour
-pub mod Quiet

@@ -2,7 +2,7 @@
 use Rattle.std.specs.Prelude.{◌≡◌, ℕ, ◌<◌, ◌≤◌, true, List, length, map, slice_index_or, unwrap_or, ℤ, pos, ◌+ℤ◌, ◌≤ℤ◌}
 use Rattle.order_kinds.specs.declared.contract.Quarter.{Quarter}
 use Rattle.order_kinds.specs.Period.{block_has, contract_has, range_has}
-use Rattle.quarter_capacity.specs.Capacity.{flow_of, remaining_of}
+use Rattle.quarter_capacity.specs.Capacity.{flow_of, remaining_of, most_offered}
 use Rattle.quarter_capacity.specs.Row.{Row, flow, nothing_offered, offered}
 use Rattle.zone_graph.specs.declared.route.Arc.{Arc}
 use Rattle.zone_graph.specs.Graph.{Graph, border_count}
@@ -55,7 +55,7 @@ pub record CanTake (rows : List Row) (arc : Arc) (lots : ℕ) : Type 0 where
 -- so many lots can be offered on an arc
 pub record CanOffer (rows : List Row) (arc : Arc) (lots : ℕ) : Type 0 where
   pub there : arc.border < length rows
-  pub most : lots ≤ 1000000
+  pub most : lots ≤ most_offered
   pub covers_flow : flow_at rows arc ≤ℤ pos lots
 
 -- what an event uses or offers in a quarter can be used or offered

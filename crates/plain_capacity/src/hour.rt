@@ -10,11 +10,10 @@ ghost use Rattle.market_model.specs.Room.{halt_by as halt_said, is_open_phase, p
 ghost use Rattle.plain_capacity.specs.Rows.{IsNoted, flow_at, row_at};
 ghost use Rattle.plain_capacity.specs.Hour as hours;
 
-use crate::period::{is_within, quarter_of};
 use crate::quarter::{idle_rows, note};
-use crate::said::phase_by;
+use crate::said::{is_within, phase_by};
 use market_model::Event;
-use order_kinds::{Part, Phase};
+use order_kinds::{Part, Phase, Quarter};
 use quarter_capacity::QuarterRow;
 use std::alloc::Global;
 use std::marker::Model;
@@ -76,7 +75,7 @@ impl HourCapacity {
     // Lets an event of a legal history count.
     fn note(&mut self, hour: u32, event: &Event)
         requires { hours.CanNoteIn hour event.now self.old }
-        ensures quarters { hours.EachQuarter (λ number. IsNoted (periods.quarter_of hour number) event.now (hours.rows_in self.old number) (hours.rows_in self.new number)) }
+        ensures quarters { periods.EachQuarter (λ number. IsNoted (periods.quarter_of hour number) event.now (hours.rows_in self.old number) (hours.rows_in self.new number)) }
         ensures size { hours.size_of self.new ≡ hours.size_of self.old }
         ensures halts { (border : ℕ) → border < hours.size_of self.old → hours.halted_at self.new border ≡ unwrap_or (halt_said border hour event.now) (hours.halted_at self.old border) }
         ensures phase { self.new.phase ≡ unwrap_or (phase_said hour event.now) self.old.phase }
@@ -152,8 +151,8 @@ impl HourCapacity {
         ensures size { length rooms.new ≡ length rooms.old }
         ensures rooms { (arc : Arc) → arcs.room_of rooms.new arc ≡ (if border == arc.border then hours.part_room self.now part arc else arcs.room_of rooms.old arc) }
     {
-        let forward = arc_over(border, true);
-        let backward = arc_over(border, false);
+        let forward = Arc::over(border, true);
+        let backward = Arc::over(border, false);
         rooms.set(forward, self.part_room(forward, part));
         rooms.set(backward, self.part_room(backward, part));
     }
@@ -192,11 +191,11 @@ impl HourCapacity {
     }
 }
 
-// An arc over a border.
-fn arc_over(border: u32, forward: bool) -> Arc
-    ensures { result ≡ record { border = border; forward = forward } }
+// The quarter of this number of an hour.
+fn quarter_of(hour: u32, number: u32) -> Quarter
+    ensures { result ≡ periods.quarter_of hour number }
 {
-    Arc { border, forward }
+    Quarter { hour, number }
 }
 
 // Whether energy is traded between bidding zones.

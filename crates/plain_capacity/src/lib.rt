@@ -6,12 +6,9 @@
 #![tactic(auto)]
 
 mod hour;
-mod period;
 mod quarter;
 mod rooms;
 mod said;
-#[cfg(test)]
-mod tests;
 
 pub use hour::{HourCapacity, hour_capacity};
 pub use rooms::{block_rooms, contract_rooms};

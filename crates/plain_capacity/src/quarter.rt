@@ -5,8 +5,8 @@ ghost use Rattle.quarter_capacity.specs.Row as cells;
 ghost use Rattle.zone_graph.specs.declared.route.Arc.{Arc};
 ghost use Rattle.zone_graph.specs.Pour.{lots_if, same_arc, uses};
 ghost use Rattle.plain_capacity.specs.Rows as rows;
+ghost use Rattle.quarter_capacity.specs.Capacity.{most_offered};
 
-use crate::period::{block_has, contract_has, range_has};
 use market_model::Event;
 use order_kinds::Quarter;
 use quarter_capacity::QuarterRow;
@@ -27,11 +27,11 @@ pub fn note(borders: &mut [QuarterRow], quarter: Quarter, event: &Event)
 {
     match event {
         Event::Leg { contract, leg } => {
-            let counts = contract_has(*contract, quarter);
+            let counts = contract.has(quarter);
             carry(borders, counts, leg.route.as_slice(), leg.lots);
         }
         Event::BlockLeg { first, last, leg } => {
-            let counts = block_has(*first, *last, quarter);
+            let counts = quarter.is_in_hours(*first, *last);
             carry(borders, counts, leg.route.as_slice(), leg.lots);
         }
         Event::Granted {
@@ -40,7 +40,7 @@ pub fn note(borders: &mut [QuarterRow], quarter: Quarter, event: &Event)
             last,
             lots,
         } => {
-            grant(borders, range_has(*first, *last, quarter), *arc, *lots);
+            grant(borders, quarter.is_in_range(*first, *last), *arc, *lots);
         }
         Event::Offered {
             arc,
@@ -48,7 +48,7 @@ pub fn note(borders: &mut [QuarterRow], quarter: Quarter, event: &Event)
             last,
             lots,
         } => {
-            offer(borders, range_has(*first, *last, quarter), *arc, *lots);
+            offer(borders, quarter.is_in_range(*first, *last), *arc, *lots);
         }
         _ => {}
     }
@@ -100,7 +100,7 @@ fn offer(borders: &mut [QuarterRow], counts: bool, arc: Arc, lots: u32)
 
 // Offers so many lots in a direction of a border.
 fn offer_row(row: &mut QuarterRow, forward: bool, lots: u32)
-    requires most { lots ≤ 1000000 }
+    requires most { lots ≤ most_offered }
     requires covers_flow { cells.flow row.old forward ≤ℤ pos lots }
     ensures { row.new ≡ cells.with_offered row.old forward lots }
 {

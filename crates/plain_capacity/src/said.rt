@@ -1,9 +1,9 @@
 //! What the last event that speaks of an hour's phase, or of a halt, says.
 
 ghost use Rattle.std.specs.Prelude.{◌≡◌, Some, None, if◌then◌else◌};
+ghost use Rattle.order_kinds.specs.Period as periods;
 ghost use Rattle.market_model.specs.Room as rooms;
 
-use crate::period::is_within;
 use market_model::Event;
 use order_kinds::Phase;
 
@@ -64,4 +64,11 @@ fn said_if(counts: bool, halted: bool) -> Option<bool>
     ensures { result ≡ (if counts then Some halted else None) }
 {
     if counts { Some(halted) } else { None }
+}
+
+/// Whether an hour is one of those from the first to the last.
+pub fn is_within(first: u32, last: u32, hour: u32) -> bool
+    ensures { result ≡ periods.is_within first last hour }
+{
+    first <= hour && hour <= last
 }

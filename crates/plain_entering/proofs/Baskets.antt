@@ -2,25 +2,28 @@
 use Rattle.std.proofs.Common.{◌≡◌, ◌∙◌, inl, inr, ℕ, ◌+◌, ◌-◌, ◌<◌, ◌^◌, ◌&&◌, true, List, [], ◌∷◌, ◌++◌, append_assoc, count_by, drop, get_or, length, map, Option, Some, None, refl, sym, ap, subst, arith}
 use Rattle.std.proofs.lemmas.List.{append-nil, get_or_default}
 use Rattle.std.specs.List.{list_all}
+use Rattle.std.proofs.lemmas.Bool.{and_parts}
 use Rattle.order_kinds.specs.declared.order.Order.{Order}
 use Rattle.order_kinds.specs.Period.{is_within}
 use Rattle.zone_graph.specs.Graph.{Graph, IsGraph}
 use Rattle.zone_graph.specs.Route.{IsIn}
 use Rattle.zone_graph.proofs.Membership.{IsIn-map}
+use Rattle.zone_graph.proofs.Places.{at_place, item_at_place}
 use Rattle.market_model.specs.declared.command.Command.TheVariants as command
 use Rattle.market_model.specs.declared.event.Event.{Event}
 use Rattle.market_model.specs.declared.refusal.Refusal.{Refusal}
 use Rattle.market_model.specs.Entering.{enter, enter_all}
 use Rattle.market_model.specs.History.{entered_count, enters_in}
 use Rattle.market_model.specs.Refusals.{basket_order_refusal}
-use Rattle.market_model.specs.Rules.{ascends, basket_is_good, is_fill_or_kill}
+use Rattle.market_model.specs.Rules.{ascends, basket_is_good}
 use Rattle.market_model.specs.Sweep.{all_parts, first_answer}
-use Rattle.market_laws.proofs.Tests.{and-true}
-use Rattle.plain_matching.proofs.Places.{at-IsIn, first_answer-found, first_answer-next, from_place, item-IsIn}
+use Rattle.history_bounds.proofs.Desk.{ascends-later, ascends-rest}
+use Rattle.plain_matching.proofs.Places.{first_answer-found, first_answer-next, from_place}
 use Rattle.plain_entering.specs.Entering.{CanEnter}
 use Rattle.plain_entering.proofs.Fitting.{can-one, can-still}
-use Rattle.plain_entering.proofs.Hours.{ascends-later, ascends-rest, later-count}
+use Rattle.plain_entering.proofs.Hours.{later-count}
 use Rattle.plain_entering.proofs.Parts.{few-in}
+use Rattle.order_kinds.specs.Order.{is_fill_or_kill}
 
 abbrev hours_of : List Order → List ℕ
 hours_of orders = map (λ order. order.contract.hour) orders
@@ -41,8 +44,8 @@ none-entered graph caller orders old can good few = record {
   grew = sym (append-nil old);
   onward = refl;
   can = can;
-  up = (and-true (is_within 2 8 (length orders)) (ascends (hours_of orders))
-      (and-true (is_within 2 8 (length orders) && ascends (hours_of orders)) (list_all (λ (order : Order). is_fill_or_kill order.kind) orders) good).0).1;
+  up = (and_parts (is_within 2 8 (length orders)) (ascends (hours_of orders))
+      (and_parts (is_within 2 8 (length orders) && ascends (hours_of orders)) (list_all (λ (order : Order). is_fill_or_kill order.kind) orders) good).0).1;
   few = λ order i. few-in old order.contract.hour few;
 }
 
@@ -68,7 +71,7 @@ pub next-entered : (graph : Graph) (caller : ℕ) (all : List Order) (k : ℕ) (
     → k < length all → order ≡ get_or all k order → IsEntered graph caller all (drop k all) old now
     → new ≡ now ++ enter all_parts graph caller order now → IsEntered graph caller all (drop (k + 1) all) old new
 next-entered graph caller all k order old now new is within at entered grown =
-    one-entered graph caller all (drop (k + 1) all) order old now new is (item-IsIn all k order within at)
+    one-entered graph caller all (drop (k + 1) all) order old now new is (item_at_place all k order within at)
     (subst (λ rest. IsEntered graph caller all rest old now) (from_place all k order within at) entered) grown
 
 pub few-next : (graph : Graph) (caller : ℕ) (all : List Order) (k : ℕ) (order : Order) (old now : List Event) → k < length all → order ≡ get_or all k order
@@ -85,7 +88,7 @@ pub can-at : (graph : Graph) (old now : List Event) (caller : ℕ) (all : List O
     → k < length all → CanEnter graph now caller (get_or all k d ∷ [])
 can-at graph old now caller all k d can same within =
     subst (λ history. CanEnter graph history caller (get_or all k d ∷ [])) (sym same)
-    (can-one graph old caller all (get_or all k d) can (at-IsIn all k d within))
+    (can-one graph old caller all (get_or all k d) can (at_place all k d within))
 
 pub few-at : (graph : Graph) (caller : ℕ) (all : List Order) (k : ℕ) (d : Order) (old now : List Event) → k < length all
     → IsEntered graph caller all (drop k all) old now → count_by (enters_in (get_or all k d).contract.hour) now < 2 ^ 32 - 1

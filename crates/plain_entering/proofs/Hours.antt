@@ -1,6 +1,6 @@
 -- An order that enters counts in its own hour alone.
 use Rattle.std.proofs.Common.{◌≡◌, ◌<◌, inl, inr, ℕ, ◌+◌, Bool, true, false, cond, List, [], ◌∷◌, ◌++◌, count_by, nat_lt, nat_eq, eqb-true, refl, sym, ap, subst, arith}
-use Rattle.std.proofs.lemmas.Bool.{ltb-true, true≢false}
+use Rattle.std.proofs.lemmas.Bool.{ltb-true, true≢false, and_parts}
 use Rattle.std.proofs.lemmas.List.Sums.{sum_by-append, sum_by-cons}
 use Rattle.order_kinds.specs.declared.contract.Part.{Part}
 use Rattle.order_kinds.specs.declared.order.Order.{Order}
@@ -14,7 +14,6 @@ use Rattle.market_model.specs.Entering.{enter, legs_taken, name_of_next, rest_of
 use Rattle.market_model.specs.History.{enters, enters_in}
 use Rattle.market_model.specs.Rules.{ascends}
 use Rattle.market_model.specs.Sweep.{sweep}
-use Rattle.market_laws.proofs.Tests.{and-true}
 
 -- an event by which nothing enters
 quiet-here : (hour : ℕ) (e : Event) → enters e ≡ false → enters_in hour e ≡ false
@@ -72,18 +71,3 @@ later-count parts graph caller order events hour later =
     sum_by-cons (counted hour) (event.Entered name caller order) ((legs ++ rest) ++ swept) in
     let other : counted hour (event.Entered name caller order) ≡ 0 = ap (λ b. cond b 1 0) (apart order.contract.hour hour later) in
     omega (arith, whole, none, own, other)
-
--- each later hour of ascending ones is above the first
-pub ascends-later : (first : ℕ) (hours : List ℕ) → ascends (first ∷ hours) ≡ true → (hour : ℕ) → IsIn hour hours → first < hour
-ascends-later first [] up hour i = absurd i
-ascends-later first (next ∷ hours) up hour i =
-    let both = and-true (nat_lt first next) (ascends (next ∷ hours)) up in
-    let less = ltb-true first next both.0 in
-    elim i [
-      | inl same ↦ subst (λ h. first < h) (sym same) less
-      | inr j ↦ (let more = ascends-later next hours both.1 hour j in omega (arith, less, more))
-    ]
-
-pub ascends-rest : (first : ℕ) (hours : List ℕ) → ascends (first ∷ hours) ≡ true → ascends hours ≡ true
-ascends-rest first [] up = refl
-ascends-rest first (next ∷ hours) up = (and-true (nat_lt first next) (ascends (next ∷ hours)) up).1

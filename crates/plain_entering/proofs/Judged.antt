@@ -14,6 +14,7 @@ use Rattle.market_model.specs.Entering.{after_taking, name_of_next, rest_of, wit
 use Rattle.market_model.specs.Refusals.{basket_order_refusal, order_desk_refusal}
 use Rattle.market_model.specs.Rules.{first_broken}
 use Rattle.market_model.specs.Sweep.{first_answer, or_else}
+use Rattle.plain_matching.proofs.Orders.{of_kind}
 use Rattle.plain_refusals.specs.State.{filling_rules}
 use Rattle.plain_entering.proofs.Parts.{IsTaken}
 use Rattle.plain_entering.specs.Judging.{refusal_after, unless_filled, unless_full}
@@ -21,10 +22,6 @@ use Rattle.plain_entering.specs.Judging.{refusal_after, unless_filled, unless_fu
 or-nothing : (o : Option Refusal) → or_else o (λ _. None) ≡ o
 or-nothing None = refl
 or-nothing (Some x) = refl
-
--- an order of another kind
-of_kind : Kind → Order → Order
-of_kind kind order = record order { kind = kind }
 
 full-is : (graph : Graph) (events : List Event) (caller : ℕ) (order : Order)
     → unless_full (after_taking graph events caller order) (name_of_next events order) ≡ order_desk_refusal graph events caller order

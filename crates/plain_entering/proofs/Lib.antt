@@ -1,5 +1,4 @@
 pub mod Baskets
-pub mod Days
 pub mod Fitting
 pub mod Hours
 pub mod Judged

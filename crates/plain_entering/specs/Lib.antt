@@ -1,4 +1,3 @@
 -- What the contracts of this crate cite.
-pub mod Days
 pub mod Entering
 pub mod Judging

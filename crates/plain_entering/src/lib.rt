@@ -8,8 +8,6 @@
 mod basket;
 mod entering;
 mod judging;
-#[cfg(test)]
-mod tests;
 
 pub use basket::enter_basket;
 pub use entering::enter;

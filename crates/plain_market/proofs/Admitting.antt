@@ -1,7 +1,7 @@
 -- What is known of commands that no early rule and no rule on the state refuses, and which refusal each
 -- command has.
 use Rattle.std.proofs.Common.{◌≡◌, ◌∙◌, inl, inr, ℕ, ◌&&◌, true, List, [], ◌∷◌, ◌++◌, length, map, nat_lt, Option, Some, None, refl, sym, ap, subst, true≢false}
-use Rattle.std.proofs.lemmas.Bool.{ltb-true}
+use Rattle.std.proofs.lemmas.Bool.{ltb-true, and_parts}
 use Rattle.std.specs.List.{list_all}
 use Rattle.order_kinds.specs.declared.contract.Contract.{Contract}
 use Rattle.order_kinds.specs.declared.order.BlockOrder.{BlockOrder}
@@ -10,7 +10,7 @@ use Rattle.order_kinds.specs.declared.order.Kind.TheVariants as kind
 use Rattle.order_kinds.specs.declared.order.Order.{Order}
 use Rattle.order_kinds.specs.declared.side.Side.{Side}
 use Rattle.order_kinds.specs.Contract.{is_known}
-use Rattle.order_kinds.specs.Order.{has_allowed_peaks}
+use Rattle.order_kinds.specs.Order.{has_allowed_peaks, is_fill_or_kill}
 use Rattle.order_kinds.specs.Period.{is_within}
 use Rattle.order_kinds.specs.Price.{lots_in_range, price_in_range}
 use Rattle.zone_graph.specs.Graph.{Graph, HasZone, zone_count}
@@ -25,12 +25,11 @@ use Rattle.market_model.specs.Entering.{enter, enter_all, name_of_next}
 use Rattle.market_model.specs.Grid.{graph_of}
 use Rattle.market_model.specs.Market.{events_done}
 use Rattle.market_model.specs.Refusals.{refusal_of_command}
-use Rattle.market_model.specs.Rules.{ascends, basket_is_good, early_refusal, first_broken, is_fill_or_kill, naming_refusal, numbers_refusal}
+use Rattle.market_model.specs.Rules.{ascends, basket_is_good, early_refusal, first_broken, naming_refusal, numbers_refusal}
 use Rattle.market_model.specs.Sweep.{all_parts, or_else}
 use Rattle.market_model.specs.WellFormed.{IsHistory, IsMarketSetup, OrderEnters}
 use Rattle.market_laws.proofs.Admitted.{NamesWhatIs, NumbersAreGood, all-pass, naming-none, numbers-none, refusal-none}
-use Rattle.market_laws.proofs.Replies.{done-history, right-within}
-use Rattle.market_laws.proofs.Tests.{and-true}
+use Rattle.market_laws.proofs.Replies.{done-history, kills-peaks, right-within}
 use Rattle.market_laws.proofs.Soundness.{block_fault-sound, order_fault-sound}
 use Rattle.plain_blocks.specs.Entering.{CanEnterBlock}
 use Rattle.plain_entering.specs.Entering.{CanEnter}
@@ -133,16 +132,6 @@ block-enters graph setup events caller order over history let_in =
       };
     }
 
--- a fill-or-kill order has no peaks
-kills-peaks : (order : Order) → is_fill_or_kill order.kind ≡ true → has_allowed_peaks order ≡ true
-kills-peaks order e = go order.kind refl e
-  where
-    go : (k : Kind) → order.kind ≡ k → is_fill_or_kill k ≡ true → has_allowed_peaks order ≡ true
-    go kind.Limit is h = absurd (true≢false (sym h))
-    go kind.Ioc is h = absurd (true≢false (sym h))
-    go kind.Fok is h = rw is refl
-    go (kind.Iceberg peak delta) is h = absurd (true≢false (sym h))
-
 pub basket-good : (setup : Setup) (events : List Event) (caller : ℕ) (orders : List Order) → IsLetIn setup events caller (command.EnterBasket orders)
     → basket_is_good (command.EnterBasket orders) ≡ true
 basket-good setup events caller orders let_in = (naming-none setup caller (command.EnterBasket orders) let_in.naming).basket
@@ -153,7 +142,7 @@ basket-enters graph setup events caller orders over history let_in =
     let given : Command = command.EnterBasket orders in
     let names : NamesWhatIs setup caller given = naming-none setup caller given let_in.naming in
     let numbers : NumbersAreGood given = numbers-none given let_in.numbers in
-    let kills = (and-true (is_within 2 8 (length orders) && ascends (map (λ (o : Order). o.contract.hour) orders))
+    let kills = (and_parts (is_within 2 8 (length orders) && ascends (map (λ (o : Order). o.contract.hour) orders))
     (list_all (λ (o : Order). is_fill_or_kill o.kind) orders) names.basket).1 in
     record {
       setup = setup;

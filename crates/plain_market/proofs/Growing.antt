@@ -10,10 +10,3 @@ stays events = record { more = []; grew = sym (append-nil events) }
 
 pub grows : (old new more : List Event) → new ≡ old ++ more → Grew old new
 grows old new more is = record { more = more; grew = is }
-
--- a history that grew from one that is another with some events
-pub grows-on : (old new after more : List Event) → new ≡ old ++ more → Grew new after → Grew old after
-grows-on old new after more is on = record {
-  more = more ++ on.more;
-  grew = on.grew ∙ ap (λ events. events ++ on.more) is ∙ append_assoc old more on.more;
-}

@@ -14,15 +14,16 @@ use Rattle.zone_graph.specs.Graph.{Graph}
 use Rattle.zone_graph.specs.Reach.{reaches}
 use Rattle.zone_graph.specs.Route.{IsIn}
 use Rattle.market_model.specs.declared.event.Event.{Event}
-use Rattle.market_model.specs.Lines.{buyer_zone, can_trade, line, partner, priority_cmp, put_in_order, rooms_for, seller_zone, stands_in, time_cmp}
+use Rattle.market_model.specs.Lines.{buyer_zone, can_trade, line, partner, priority_cmp, rooms_for, seller_zone, stands_in, time_cmp}
 use Rattle.market_model.specs.Orders.{Standing, placed, standing}
 use Rattle.market_model.specs.Sweep.{first_answer, leg_in, leg_of_buy, resting_trade}
-use Rattle.market_laws.proofs.Members.{from_put_in_order}
 use Rattle.market_laws.proofs.Trades.{from_line}
 use Rattle.plain_matching.specs.Over.{crosses_price, first_crosses, leg_with_partner}
 use Rattle.plain_matching.proofs.Here.{no_buys, no_partner-leg}
 use Rattle.plain_matching.proofs.Places.{find-nothing, first_answer-nothing}
 use Rattle.plain_matching.proofs.Zones.{no_partner}
+use Rattle.zone_graph.specs.InOrder.{put_in_order}
+use Rattle.zone_graph.proofs.InOrder.{from_put_in_order}
 
 -- what an order of two numbers, and then by something else, says of them
 first-least : (r later : Ordering) (x y : ℤ) → MatchOrdering r (x <ℤ y) (x ≡ y) (y <ℤ x) → is_lt (ordering_then r later) ≡ true → x ≤ℤ y

@@ -1,24 +1,12 @@
 -- The sweeps of the hours from one to another, hour by hour.
-use Rattle.std.proofs.Common.{◌≡◌, ◌∙◌, ℕ, suc, ◌+◌, ◌-◌, ◌<◌, ◌≤◌, List, [], ◌∷◌, ◌++◌, append_assoc, refl, sym, ap, arith}
+use Rattle.std.proofs.Common.{◌≡◌, ◌∙◌, ℕ, ◌+◌, ◌<◌, ◌≤◌, List, [], ◌++◌, append_assoc, refl, sym, ap}
 use Rattle.std.proofs.lemmas.List.{append-nil}
-use Rattle.std.specs.List.{range_with_len}
 use Rattle.order_kinds.specs.Period.{hours_from}
+use Rattle.order_kinds.proofs.Hours.{hours-next, hours-none}
 use Rattle.zone_graph.specs.Graph.{Graph}
 use Rattle.market_model.specs.declared.event.Event.{Event}
 use Rattle.market_model.specs.Sweep.{all_parts, sweep, sweeps}
 use Rattle.plain_matching.specs.Grown.{Grew, GrewByPart}
-
--- from an hour that is not after the last one the hours are it and those after it
-hours-next : (hour last : ℕ) → hour ≤ last → hours_from hour last ≡ hour ∷ hours_from (hour + 1) last
-hours-next hour last h =
-    let more : last + 1 - hour ≡ suc (last + 1 - (hour + 1)) = omega (arith, h) in
-    ap (range_with_len hour) more
-
-hours-none : (hour last : ℕ) → last < hour → hours_from hour last ≡ []
-hours-none hour last h = ap (range_with_len hour) (none last hour h)
-  where
-    none : (last hour : ℕ) → last < hour → last + 1 - hour ≡ 0
-    none last hour h = omega (arith, h)
 
 -- the hours before one of them are swept, and what is left to sweep follows
 pub record IsSwept (graph : Graph) (first last hour : ℕ) (old now : List Event) : Type 0 where

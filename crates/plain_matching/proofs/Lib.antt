@@ -1,5 +1,4 @@
 pub mod Apart
-pub mod Days
 pub mod Growths
 pub mod Here
 pub mod Hours

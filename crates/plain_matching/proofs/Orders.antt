@@ -1,8 +1,10 @@
 -- What is known of the orders of an hour in a legal history, and of the lines that they make.
-use Rattle.std.proofs.Common.{◌≡◌, ◌∙◌, ℕ, Bool, true, false, cond, List, [], ◌∷◌, filter, map, nat_lt, Some, refl, sym, ap, subst, eq-eqb}
+use Rattle.std.proofs.Common.{◌≡◌, ◌∙◌, ℕ, true, List, filter, nat_lt, Some, sym, ap, subst, eq-eqb}
 use Rattle.std.specs.List.{find}
 use Rattle.std.specs.Option.{option_map}
+use Rattle.std.proofs.lemmas.Bool.{and_parts}
 use Rattle.order_kinds.specs.declared.contract.Contract.{Contract}
+use Rattle.order_kinds.specs.declared.order.Kind.{Kind}
 use Rattle.order_kinds.specs.declared.order.Order.{Order}
 use Rattle.order_kinds.specs.declared.order.OrderName.{OrderName}
 use Rattle.order_kinds.specs.declared.side.Side.{Side}
@@ -12,33 +14,19 @@ use Rattle.order_kinds.specs.Side.{opposite}
 use Rattle.zone_graph.specs.Graph.{Graph, HasZone}
 use Rattle.zone_graph.specs.Route.{IsIn}
 use Rattle.zone_graph.proofs.Membership.{from_filter, from_map}
+use Rattle.zone_graph.proofs.Finding.{find-map, from_find}
 use Rattle.market_model.specs.declared.event.Event.{Event}
 use Rattle.market_model.specs.Lines.{line}
 use Rattle.market_model.specs.Orders.{Placed, Standing, left, placed, standing}
 use Rattle.market_model.specs.Taking.{standing_order}
-use Rattle.market_laws.proofs.Members.{from_find}
 use Rattle.market_laws.proofs.Placed.{all_are_sound}
-use Rattle.market_laws.proofs.Tests.{and-true, same_name-eq}
+use Rattle.market_laws.proofs.Tests.{same_name-eq}
 use Rattle.market_laws.proofs.Trades.{from_line}
 use Rattle.market_locality.proofs.Restrict.{find-filter}
 use Rattle.plain_capacity.specs.Hour.{IsLegalOver}
-use Rattle.plain_orders.specs.Histories.{IsSomeHistory}
 use Rattle.plain_orders.specs.Listed.{is_order_of, line_of, orders_of}
 use Rattle.plain_orders.proofs.LineLaws.{line-of_orders}
 use Rattle.plain_matching.specs.Over.{AreInZones, AreRoomsFor, is_open_as}
-
-pub history : (graph : Graph) (events : List Event) → IsLegalOver graph events → IsSomeHistory events
-history graph events legal = record { setup = legal.setup; fit = legal.fit }
-
--- a search in what comes from items
-find-map : {X Y : Type 0} (p : Y → Bool) (f : X → Y) (xs : List X) → find p (map f xs) ≡ option_map f (find (λ x. p (f x)) xs)
-find-map p f [] = refl
-find-map {X} {Y} p f (x ∷ xs) = go (p (f x)) (find-map p f xs)
-  where
-    go : (b : Bool) → find p (map f xs) ≡ option_map f (find (λ y. p (f y)) xs)
-        → cond b (Some (f x)) (find p (map f xs)) ≡ option_map f (cond b (Some x) (find (λ y. p (f y)) xs))
-    go true rest = refl
-    go false rest = rest
 
 -- who is open under a name is found among the orders of the name's hour
 pub open_as-is : (events : List Event) (name : OrderName) → find (is_open_as name) (orders_of events name.hour) ≡ standing_order events name
@@ -48,7 +36,7 @@ open_as-is events name =
   where
     in_hour : (order : Placed) → IsIn order (placed events) → is_open_as name (standing events order) ≡ true → is_order_of name.hour order ≡ true
     in_hour order i open_here =
-        let both = and-true (same_name order.name name) (nat_lt 0 (left events order.name)) open_here in
+        let both = and_parts (same_name order.name name) (nat_lt 0 (left events order.name)) open_here in
         eq-eqb order.name.hour name.hour (ap (λ (n : OrderName). n.hour) (same_name-eq order.name name both.0))
 
 -- an order of an hour: its zone and its part are there, and it is named by its contract's hour
@@ -78,7 +66,7 @@ pub found_as : (graph : Graph) (events : List Event) (name : OrderName) (own : S
     → find (is_open_as name) (orders_of events name.hour) ≡ Some own → IsFoundAs graph events name own
 found_as graph events name own legal found =
     let r = from_find (is_open_as name) own (orders_of events name.hour) found in
-    let both = and-true (same_name own.name name) (nat_lt 0 own.left) r.1 in
+    let both = and_parts (same_name own.name name) (nat_lt 0 own.left) r.1 in
     let sound = order-sound graph events name.hour own legal r.0 in
     record { is_in = r.0; hour = sym sound.named ∙ ap (λ (n : OrderName). n.hour) (same_name-eq own.name name both.0) }
 
@@ -86,7 +74,7 @@ found_as graph events name own legal found =
 pub lines-are : (graph : Graph) (events : List Event) (orders : List Standing) (contract : Contract) (side : Side) → IsLegalOver graph events
     → orders ≡ orders_of events contract.hour → line_of orders contract side ≡ line events contract side
 lines-are graph events orders contract side legal same =
-    ap (λ os. line_of os contract side) same ∙ line-of_orders events contract side (history graph events legal)
+    ap (λ os. line_of os contract side) same ∙ line-of_orders events contract side (record { setup = legal.setup; fit = legal.fit })
 
 -- the zones of a line are there
 pub line-zones : (graph : Graph) (events : List Event) (contract : Contract) (side : Side) → IsLegalOver graph events → AreInZones graph (line events contract side)
@@ -129,3 +117,7 @@ ready graph events orders own order side found others made legal same of_order o
       line_is = line_is;
       in_zones = subst (AreInZones graph) (sym line_is) (line-zones graph events own.order.contract (opposite own.order.side) legal);
     }
+
+-- an order, of a kind
+unfoldable pub of_kind : Kind → Order → Order
+of_kind kind order = record order { kind = kind }

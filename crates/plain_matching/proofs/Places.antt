@@ -1,19 +1,10 @@
 -- Lists that are gone through by place.
-use Rattle.std.proofs.Common.{◌≡◌, ◌∙◌, ℕ, zero, suc, ◌+◌, ◌<◌, ◌||◌, Bool, true, false, cond, List, [], ◌∷◌, drop, get_or, length, Option, Some, None, refl, sym, ap, subst, inl, inr, arith, add-one, drop-cons}
+use Rattle.std.proofs.Common.{◌≡◌, ◌∙◌, ℕ, suc, ◌+◌, ◌<◌, ◌||◌, Bool, true, false, cond, List, [], ◌∷◌, drop, get_or, length, Option, Some, None, refl, sym, ap, inl, inr, add-one, drop-cons}
 use Rattle.std.proofs.lemmas.Bool.{true≢false}
 use Rattle.std.specs.List.{find, list_any}
 use Rattle.zone_graph.specs.Route.{IsIn}
 use Rattle.market_model.specs.Sweep.{first_answer, or_else}
 use Rattle.plain_matching.specs.Over.{is_nothing}
-
--- an item at a place is in the list
-pub at-IsIn : {X : Type 0} (xs : List X) (k : ℕ) (d : X) → k < length xs → IsIn (get_or xs k d) xs
-at-IsIn [] k d within = absurd (let no : ⊥ = omega arith in no)
-at-IsIn (x ∷ xs) zero d within = inl refl
-at-IsIn (x ∷ xs) (suc k) d within = inr (at-IsIn xs k d (omega arith))
-
-pub item-IsIn : {X : Type 0} (xs : List X) (k : ℕ) (x : X) → k < length xs → x ≡ get_or xs k x → IsIn x xs
-item-IsIn xs k x within is = subst (λ y. IsIn y xs) (sym is) (at-IsIn xs k x within)
 
 -- the items from a place on are the one there and the ones from the next place on
 pub from_place : {X : Type 0} (xs : List X) (k : ℕ) (x : X) → k < length xs → x ≡ get_or xs k x → drop k xs ≡ x ∷ drop (k + 1) xs
@@ -31,12 +22,6 @@ pub first_answer-found : {X Y : Type 0} (ask : X → Option Y) (xs : List X) (k 
     → first_answer ask (drop k xs) ≡ Some y
 first_answer-found ask xs k x y within is found =
     ap (first_answer ask) (from_place xs k x within is) ∙ ap (λ o. or_else o (λ _. first_answer ask (drop (k + 1) xs))) found
-
-pub first_answer-same : {X Y : Type 0} (ask other : X → Option Y) (xs : List X) → ((x : X) → IsIn x xs → ask x ≡ other x) → first_answer ask xs ≡ first_answer other xs
-first_answer-same ask other [] same = refl
-first_answer-same ask other (x ∷ xs) same =
-    ap (λ o. or_else o (λ _. first_answer ask xs)) (same x (inl refl))
-    ∙ ap (λ rest. or_else (other x) (λ _. rest)) (first_answer-same ask other xs (λ y i. same y (inr i)))
 
 pub first_answer-nothing : {X Y : Type 0} (ask : X → Option Y) (xs : List X) → ((x : X) → IsIn x xs → ask x ≡ None) → first_answer ask xs ≡ None
 first_answer-nothing ask [] none = refl

@@ -6,11 +6,11 @@ use Rattle.zone_graph.specs.declared.route.Arc.{Arc}
 use Rattle.zone_graph.specs.Graph.{Graph, HasArc, IsGraph}
 use Rattle.zone_graph.specs.Route.{IsIn, best_route}
 use Rattle.zone_graph.proofs.BestRoute.{best_route-rooms}
+use Rattle.zone_graph.proofs.Carrying.{best_route-route}
 use Rattle.market_model.specs.declared.event.Event.{Event}
 use Rattle.market_model.specs.Lines.{buyer_zone, can_trade, seller_zone, time_cmp}
 use Rattle.market_model.specs.Orders.{Standing}
 use Rattle.market_model.specs.Taking.{leg_over}
-use Rattle.market_laws.proofs.Carrying.{best_route-route}
 use Rattle.market_locality.proofs.Restrict.{find-same}
 use Rattle.cut_proof.proofs.Ways.{way_has_arc}
 use Rattle.route_carrying.proofs.Carrying.{carried-rooms}

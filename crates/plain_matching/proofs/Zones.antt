@@ -7,17 +7,18 @@ use Rattle.order_kinds.specs.declared.side.Side.TheVariants.{Buy, Sell}
 use Rattle.zone_graph.specs.declared.route.Arc.{Arc}
 use Rattle.zone_graph.specs.Graph.{Graph, HasZone}
 use Rattle.zone_graph.specs.Reach.{reaches}
+use Rattle.zone_graph.proofs.Finding.{from_find}
+use Rattle.zone_graph.proofs.Places.{at_place}
 use Rattle.market_model.specs.Lines.{buyer_zone, can_trade, seller_zone}
 use Rattle.market_model.specs.Orders.{Standing}
-use Rattle.market_laws.proofs.Members.{from_find}
 use Rattle.market_locality.proofs.Restrict.{find-same}
 use Rattle.plain_routes.specs.declared.zone_set.ZoneSet.{ZoneSet}
 use Rattle.plain_routes.specs.Reached.{has_zone, is_reached}
 use Rattle.plain_matching.specs.Over.{AreInZones, crosses_price, is_buy, is_in_reach, partner_in}
-use Rattle.plain_matching.proofs.Places.{at-IsIn, find-nothing}
+use Rattle.plain_matching.proofs.Places.{find-nothing}
 
 -- an order, on a side
-on : Side → Standing → Standing
+unfoldable pub on : Side → Standing → Standing
 on side own = record own { order = record (own.order) { side = side } }
 
 module _ (graph : Graph) (own other : Standing) (own_zone : HasZone graph own.order.zone) (other_zone : HasZone graph other.order.zone) where
@@ -84,4 +85,4 @@ partner-known graph room line own other in_zones found = in_zones.each other (fr
 -- so is that of the order at a place
 pub at-known : (graph : Graph) (line : List Standing) (place : ℕ) (d : Standing) → AreInZones graph line → place < length line
     → HasZone graph (get_or line place d).order.zone
-at-known graph line place d in_zones within = in_zones.each (get_or line place d) (at-IsIn line place d within)
+at-known graph line place d in_zones within = in_zones.each (get_or line place d) (at_place line place d within)

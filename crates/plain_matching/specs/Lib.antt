@@ -1,4 +1,3 @@
 -- What the contracts of this crate cite.
-pub mod Days
 pub mod Grown
 pub mod Over

@@ -9,8 +9,6 @@ mod growth;
 mod partner;
 mod sweeping;
 mod taking;
-#[cfg(test)]
-mod tests;
 mod trade;
 
 pub use growth::cut_back;

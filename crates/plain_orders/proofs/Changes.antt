@@ -1,7 +1,7 @@
 -- Price changes of an iceberg's peaks, and what is known before an event is taken in.
-use Rattle.std.proofs.Common.{◌≡◌, ℕ, zero, suc, ◌+◌, ◌-◌, ◌*◌, ◌/◌, ◌<◌, ◌≤◌, ◌&&◌, true, pos, neg_ℤ, ℤ, ◌≤ℤ◌, ◌+ℤ◌, ◌-ℤ◌, int_le, nat_le, nat_lt, refl, arith}
+use Rattle.std.proofs.Common.{◌≡◌, ℕ, zero, suc, ◌+◌, ◌-◌, ◌*◌, ◌/◌, ◌<◌, ◌≤◌, ◌&&◌, true, pos, neg_ℤ, ℤ, ◌≤ℤ◌, ◌+ℤ◌, ◌-ℤ◌, int_le, nat_le, nat_lt, refl, arith, w32, FitsSigned}
 use Rattle.std.proofs.Math.Nat.{div-mul-le_self, mul-le-mul_left}
-use Rattle.std.proofs.lemmas.Bool.{ltb-true}
+use Rattle.std.proofs.lemmas.Bool.{and_parts, leb-true, ltb-true}
 use Rattle.std.proofs.lemmas.Nat.{le-div}
 use Rattle.order_kinds.specs.declared.order.Kind.{Kind}
 use Rattle.order_kinds.specs.declared.order.Kind.TheVariants as kind
@@ -12,10 +12,9 @@ use Rattle.order_kinds.specs.declared.side.Side.{Side}
 use Rattle.order_kinds.specs.declared.side.Side.TheVariants.{Buy, Sell}
 use Rattle.order_kinds.specs.Order.{last_peak, last_peak_price, peak_count, peak_price, peaks_allowed}
 use Rattle.order_kinds.specs.Price.{price_in_range}
-use Rattle.market_laws.proofs.Soundness.{order_fault-none, peak-some}
-use Rattle.market_laws.proofs.Tests.{and-true}
+use Rattle.market_laws.proofs.Soundness.{lots_in_range-bounds, order_fault-none, peak-some}
 use Rattle.plain_orders.specs.Histories.{HasSoundNumbers}
-use Rattle.plain_orders.specs.Tallies.{HasPeak, moved}
+use Rattle.plain_orders.specs.Tallies.{HasPeak}
 
 -- no more peaks are filled than the last one and those before it
 number-most : (n filled total peak : ℕ) → n * peak ≤ filled → filled ≤ total → 1 ≤ peak → n ≤ (total - 1) / peak + 1
@@ -34,7 +33,7 @@ rise-most cents change low high = grind arith
 
 between : (price : Price) → price_in_range price ≡ true → (neg_ℤ (pos 999900) ≤ℤ price.0) × (price.0 ≤ℤ pos 999900)
 between price h =
-    let both = and-true (int_le (neg_ℤ (pos 999900)) price.0) (int_le price.0 (pos 999900)) h in
+    let both = and_parts (int_le (neg_ℤ (pos 999900)) price.0) (int_le price.0 (pos 999900)) h in
     (grind (arith, both.0), grind (arith, both.1))
 
 last-change : (side : Side) (price : Price) (total peak delta : ℕ) → price_in_range price ≡ true → price_in_range (last_peak_price side price total peak delta) ≡ true
@@ -44,29 +43,58 @@ last-change Buy price total peak delta own last =
 last-change Sell price total peak delta own last =
     rise-most price.0 (delta * last_peak total peak) (between price own).0 (between (last_peak_price Sell price total peak delta) last).1
 
+-- the numbers of an iceberg's peaks
+pub record PeaksAreSound (order : Order) (peak delta : ℕ) : Type 0 where
+  pub some : 1 ≤ peak
+  pub less : peak < order.quantity.0
+  pub few : peak_count order.quantity.0 peak ≤ 100
+  pub most : order.quantity.0 ≤ 9990
+  pub price : price_in_range order.price ≡ true
+  pub last : price_in_range (last_peak_price order.side order.price order.quantity.0 peak delta) ≡ true
+
+pub peaks-sound : (order : Order) (peak : Lots) (delta : ℕ) → HasSoundNumbers order → order.kind ≡ kind.Iceberg peak delta → PeaksAreSound order peak.0 delta
+peaks-sound order peak delta sound is =
+    let numbers = order_fault-none order sound.no_fault in
+    let total : ℕ = order.quantity.0 in
+    let allowed : peaks_allowed order.side order.price total peak.0 delta ≡ true = rw is at numbers.peaks in
+    let a = and_parts (nat_lt 0 peak.0 && nat_lt peak.0 total && nat_le (peak_count total peak.0) 100) (price_in_range (last_peak_price order.side order.price total peak.0 delta)) allowed in
+    let b = and_parts (nat_lt 0 peak.0 && nat_lt peak.0 total) (nat_le (peak_count total peak.0) 100) a.0 in
+    let c = and_parts (nat_lt 0 peak.0) (nat_lt peak.0 total) b.0 in
+    record {
+      some = ltb-true 0 peak.0 c.0;
+      less = ltb-true peak.0 total c.1;
+      few = leb-true (peak_count total peak.0) 100 b.1;
+      most = (lots_in_range-bounds order.quantity numbers.quantity).1;
+      price = numbers.price;
+      last = a.1;
+    }
+
 -- how far the price of a peak is from that of the first one
 pub change-most : (order : Order) (peak : Lots) (delta filled : ℕ) → HasSoundNumbers order → order.kind ≡ kind.Iceberg peak delta → filled ≤ order.quantity.0
     → delta * (filled / peak.0) ≤ 3999600
 change-most order peak delta filled sound is within =
-    let numbers = order_fault-none order sound.no_fault in
+    let peaks = peaks-sound order peak delta sound is in
     let total : ℕ = order.quantity.0 in
-    let allowed : peaks_allowed order.side order.price total peak.0 delta ≡ true = rw is at numbers.peaks in
-    let a = and-true (nat_lt 0 peak.0 && nat_lt peak.0 total && nat_le (peak_count total peak.0) 100) (price_in_range (last_peak_price order.side order.price total peak.0 delta)) allowed in
-    let b = and-true (nat_lt 0 peak.0 && nat_lt peak.0 total) (nat_le (peak_count total peak.0) 100) a.0 in
-    let c = and-true (nat_lt 0 peak.0) (nat_lt peak.0 total) b.0 in
-    let some : 0 < peak.0 = ltb-true 0 peak.0 c.0 in
-    let less : peak.0 < total = ltb-true peak.0 total c.1 in
-    let last : delta * last_peak total peak.0 ≤ 1999800 = last-change order.side order.price total peak.0 delta numbers.price a.1 in
+    let some = peaks.some in
+    let less = peaks.less in
+    let last : delta * last_peak total peak.0 ≤ 1999800 = last-change order.side order.price total peak.0 delta peaks.price peaks.last in
     let more_than_one : 1 ≤ last_peak total peak.0 = le-div 1 (total - 1) peak.0 some (omega (arith, less)) in
     let most = number-most (filled / peak.0) filled total peak.0 (div-mul-le_self filled peak.0) within some in
     let one : delta * 1 ≤ delta * last_peak total peak.0 = mul-le-mul_left delta more_than_one in
     let all : delta * (filled / peak.0) ≤ delta * (last_peak total peak.0 + 1) = mul-le-mul_left delta most in
     omega (arith, last, one, all)
 
--- the price of a peak is the first one's, so far moved
-pub moved-is : (side : Side) (price : Price) (delta number : ℕ) → moved side price (delta * number) ≡ peak_price side price delta number
-moved-is Buy price delta number = refl
-moved-is Sell price delta number = refl
+-- so the price of a peak fits
+pub price-fits : (side : Side) (price : Price) (delta number : ℕ) → price_in_range price ≡ true → delta * number ≤ 3999600
+    → FitsSigned w32 (peak_price side price delta number).0
+price-fits Buy price delta number allowed most = let both = between price allowed in grind (arith, both.0, both.1, most)
+price-fits Sell price delta number allowed most = let both = between price allowed in grind (arith, both.0, both.1, most)
+
+-- and an order of which so much is filled has a peak with such a price
+pub filled-fits : (order : Order) (peak : Lots) (delta filled : ℕ) → HasSoundNumbers order → order.kind ≡ kind.Iceberg peak delta → filled ≤ order.quantity.0
+    → FitsSigned w32 (peak_price order.side order.price delta (filled / peak.0)).0
+filled-fits order peak delta filled sound is within =
+    price-fits order.side order.price delta (filled / peak.0) (peaks-sound order peak delta sound is).price (change-most order peak delta filled sound is within)
 
 -- a sound order has a peak
 pub sound-peak : (order : Order) → HasSoundNumbers order → HasPeak order.kind

@@ -1,5 +1,4 @@
 pub mod Changes
-pub mod Example
 pub mod Found
 pub mod Histories
 pub mod LineLaws

@@ -4,6 +4,7 @@ use Rattle.std.specs.Cmp.{IsStrictWeakOrder, IsTotalOrder}
 use Rattle.std.specs.Ordering.{is_lt}
 use Rattle.std.proofs.lemmas.Cmp.{nat_cmp_total, on_total, then_total}
 use Rattle.std.proofs.lemmas.List.Sorted.{ranks_by}
+use Rattle.std.proofs.lemmas.Bool.{and_parts}
 use Rattle.order_kinds.specs.declared.contract.Contract.{Contract}
 use Rattle.order_kinds.specs.declared.side.Side.{Side}
 use Rattle.order_kinds.specs.Same.{same_contract, same_side}
@@ -11,13 +12,14 @@ use Rattle.order_kinds.proofs.PriceOrder.{price_cmp_total}
 use Rattle.zone_graph.specs.Route.{IsIn}
 use Rattle.market_model.specs.declared.event.Event.{Event}
 use Rattle.market_model.specs.Blocks.{StandingBlock, block_line, block_priority_cmp, block_stands_in, is_of_period, standing_block}
-use Rattle.market_model.specs.Lines.{in_order, line, priority_cmp, stands_in}
+use Rattle.market_model.specs.Lines.{line, priority_cmp, stands_in}
 use Rattle.market_model.specs.Orders.{Placed, PlacedBlock, Standing, blocks_placed, is_open, placed, standing}
 use Rattle.market_laws.proofs.Placed.{all_are_sound}
-use Rattle.market_laws.proofs.Tests.{and-true, same_contract-eq}
+use Rattle.market_laws.proofs.Tests.{same_contract-eq}
 use Rattle.market_locality.proofs.Restrict.{filter-filter}
 use Rattle.plain_orders.specs.Histories.{IsSomeHistory}
 use Rattle.plain_orders.specs.Listed.{block_line_of, blocks_of, is_block_of, is_in_block_line, is_in_line, is_order_of, line_of, orders_of}
+use Rattle.zone_graph.specs.InOrder.{in_order}
 
 -- priority is an order in which any two compare
 priority_total : (side : Side) → IsTotalOrder (priority_cmp side)
@@ -57,8 +59,8 @@ line-of_orders events contract side history =
   where
     in_hour : (order : Placed) → IsIn order (placed events) → stands_in events contract side order ≡ true → is_order_of contract.hour order ≡ true
     in_hour order i stands =
-        let both = and-true (is_open events order.name && same_contract order.order.contract contract) (same_side order.order.side side) stands in
-        let front = and-true (is_open events order.name) (same_contract order.order.contract contract) both.0 in
+        let both = and_parts (is_open events order.name && same_contract order.order.contract contract) (same_side order.order.side side) stands in
+        let front = and_parts (is_open events order.name) (same_contract order.order.contract contract) both.0 in
         let same = same_contract-eq order.order.contract contract front.1 in
         let sound = (all_are_sound history.setup events history.fit).orders order i in
         eq-eqb order.name.hour contract.hour (sound.named ∙ ap (λ (c : Contract). c.hour) same)
@@ -74,8 +76,8 @@ line-of_blocks events first last side history =
   where
     in_hour : (block : PlacedBlock) → IsIn block (blocks_placed events) → block_stands_in events first last side block ≡ true → is_block_of first block ≡ true
     in_hour block i stands =
-        let both = and-true (is_open events block.name && is_of_period first last block.order) (same_side block.order.side side) stands in
-        let front = and-true (is_open events block.name) (is_of_period first last block.order) both.0 in
-        let period = and-true (nat_eq block.order.first first) (nat_eq block.order.last last) front.1 in
+        let both = and_parts (is_open events block.name && is_of_period first last block.order) (same_side block.order.side side) stands in
+        let front = and_parts (is_open events block.name) (is_of_period first last block.order) both.0 in
+        let period = and_parts (nat_eq block.order.first first) (nat_eq block.order.last last) front.1 in
         let sound = (all_are_sound history.setup events history.fit).blocks block i in
         eq-eqb block.name.hour first (sound.named ∙ eqb-true block.order.first first period.0)

@@ -1,5 +1,5 @@
 -- The orders, blocks and names of an hour, listed event by event.
-use Rattle.std.proofs.Common.{◌≡◌, ◌∙◌, inl, inr, ℕ, zero, suc, ◌<◌, ◌≤◌, Bool, true, false, cond, List, [], ◌∷◌, ◌++◌, filter, get_or, length, map, nat_eq, eqb-true, Option, Some, None, refl, sym, ap, subst, if◌then◌else◌, arith}
+use Rattle.std.proofs.Common.{◌≡◌, ◌∙◌, ℕ, ◌+◌, ◌<◌, ◌≤◌, Bool, true, false, cond, List, [], ◌∷◌, ◌++◌, filter, get_or, length, map, nat_eq, eqb-true, Option, Some, None, refl, sym, ap, subst, if◌then◌else◌, arith}
 use Rattle.std.proofs.lemmas.Bool.{le-ltb, lt-ltb}
 use Rattle.std.proofs.lemmas.List.{append-nil, map_push}
 use Rattle.std.proofs.lemmas.List.Elements.{filter-append, filter_map-append}
@@ -7,6 +7,7 @@ use Rattle.std.specs.List.{cons_option, filter_map}
 use Rattle.order_kinds.specs.declared.order.OrderName.{OrderName}
 use Rattle.order_kinds.specs.Same.{same_name}
 use Rattle.zone_graph.specs.Route.{IsIn}
+use Rattle.zone_graph.proofs.Places.{item_at_place}
 use Rattle.market_model.specs.declared.event.Event.{Event}
 use Rattle.market_model.specs.declared.event.Event.TheVariants as event
 use Rattle.market_model.specs.Blocks.{standing_block}
@@ -90,11 +91,6 @@ blocks-listed events first = ap (map (standing_block events)) (kept-filter block
 
 -- ---- what is known of them
 
-in-list : {X : Type 0} (xs : List X) (i : ℕ) (x : X) → i < length xs → x ≡ get_or xs i x → IsIn x xs
-in-list [] i x within is = absurd (omega arith)
-in-list (y ∷ xs) zero x within is = inl is
-in-list (y ∷ xs) (suc i) x within is = inr (in-list xs i x (omega arith) is)
-
 -- an order that an event of a history enters by an hour
 pub record OrderAt (events : List Event) (hour : ℕ) (order : Placed) : Type 0 where
   pub is_placed : IsIn order (placed events)
@@ -102,13 +98,13 @@ pub record OrderAt (events : List Event) (hour : ℕ) (order : Placed) : Type 0 
   pub has_place : (size : ℕ) → entered_in events hour < size → order.name.number < size
   pub sound : HasSoundNumbers order.order
   pub stands : (tally : Tally) → Tells events (name_in hour order.name.number) tally
-      → (standing_by tally order ≡ standing events order) × (tally.filled ≤ order.order.quantity.0)
+      → (standing_by tally order ≡ standing events order) × (tally.filled + tally.left ≤ order.order.quantity.0)
 
 pub order-at : (events : List Event) (place : ℕ) (e : Event) (hour : ℕ) (order : Placed) → IsSomeHistory events → place < length events → e ≡ get_or events place e
     → order_given hour e ≡ Some order → OrderAt events hour order
 order-at events place e hour order history within is given =
     let from = from-kept (is_order_of hour) (placed_by e) order given in
-    let here = in-list events place e within is in
+    let here = item_at_place events place e within is in
     let of_hour : order.name.hour ≡ hour = eqb-true order.name.hour hour from.1 in
     let there = IsIn-filter_map placed_by e order events here from.0 in
     record {
@@ -121,13 +117,14 @@ order-at events place e hour order history within is given =
     }
   where
     stands : IsIn order (placed events) → order.name.hour ≡ hour → (tally : Tally) → Tells events (name_in hour order.name.number) tally
-        → (standing_by tally order ≡ standing events order) × (tally.filled ≤ order.order.quantity.0)
+        → (standing_by tally order ≡ standing events order) × (tally.filled + tally.left ≤ order.order.quantity.0)
     stands there of_hour tally tells =
         let told = subst (λ n. Tells events n tally) (same-name order.name hour of_hour) tells in
         let moment_is = told.order_moment order there refl in
         let all = left-filled-taken_off history.setup events history.fit order.name in
         let quantity = entered-order history.setup events history.fit order there in
-        let count = told.filled in (
+        let count = told.filled in
+        let rest = told.left in (
           λ i. record {
             name = order.name;
             caller = order.caller;
@@ -138,7 +135,7 @@ order-at events place e hour order history within is given =
             price = price_now order.order (told.filled i);
             moment = moment_is i;
           },
-          omega (arith, all, quantity, count),
+          omega (arith, all, quantity, count, rest),
         )
 
 -- a block that an event of a history enters by an hour
@@ -150,7 +147,7 @@ pub block-at : (events : List Event) (place : ℕ) (e : Event) (first : ℕ) (bl
     → block_given first e ≡ Some block → BlockAt events first block
 block-at events place e first block history within is given =
     let from = from-kept (is_block_of first) (block_placed_by e) block given in
-    let here = in-list events place e within is in
+    let here = item_at_place events place e within is in
     let of_hour : block.name.hour ≡ first = eqb-true block.name.hour first from.1 in
     let there = IsIn-filter_map block_placed_by e block events here from.0 in
     record {
@@ -200,7 +197,7 @@ pub name-at : (events : List Event) (place : ℕ) (e : Event) (hour : ℕ) (name
     → name_given hour e ≡ Some name → NameAt events hour name
 name-at events place e hour name history within is given =
     let enters = name-enters hour name e given in
-    let here = in-list events place e within is in
+    let here = item_at_place events place e within is in
     record {
       has_place = λ size room. has-place history.setup events history.fit name hour size (times-some name e events here enters.0) enters.1 room;
       left_is = λ tally tells. (subst (λ n. Tells events n tally) (same-name name hour enters.1) tells).left;

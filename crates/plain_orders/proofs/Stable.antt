@@ -1,6 +1,6 @@
 -- A stable sort puts items in the one order in which they are put one after the other.
-use Rattle.std.proofs.Common.{◌≡◌, ◌∙◌, inl, inr, ℕ, zero, suc, ◌<◌, Bool, true, false, cond, not, List, [], ◌∷◌, ◌++◌, append_assoc, add-one, filter, fold, length, get_or, refl, sym, ap, subst, if◌then◌else◌, arith}
-use Rattle.std.proofs.lemmas.Bool.{true≢false}
+use Rattle.std.proofs.Common.{◌≡◌, ◌∙◌, inl, inr, suc, Bool, true, false, cond, not, List, [], ◌∷◌, ◌++◌, append_assoc, add-one, filter, fold, get_or, refl, sym, ap, subst, if◌then◌else◌, arith}
+use Rattle.std.proofs.lemmas.Bool.{and_parts, false_from_ne_true, not-true, true≢false}
 use Rattle.std.proofs.lemmas.List.{append-nil}
 use Rattle.std.proofs.lemmas.List.Elements.{filter-append}
 use Rattle.std.proofs.lemmas.List.Sorted.{sorted_far}
@@ -10,26 +10,9 @@ use Rattle.std.specs.Ordering.{is_lt}
 use Rattle.std.specs.declared.cmp.Ordering.{Ordering}
 use Rattle.zone_graph.specs.Route.{IsIn}
 use Rattle.zone_graph.proofs.Membership.{from_filter}
-use Rattle.market_model.specs.Lines.{in_order, put_in_order}
-use Rattle.market_laws.proofs.Members.{from_put_in_order}
-use Rattle.market_laws.proofs.Tests.{and-true}
-
--- a test that is not true is false
-by_absurd : (b : Bool) → (b ≡ true → ⊥) → b ≡ false
-by_absurd true h = absurd (h refl)
-by_absurd false h = refl
-
-not-true : (b : Bool) → not b ≡ true → b ≡ false
-not-true true h = absurd (true≢false (sym h))
-not-true false h = refl
-
--- where an item stands in a list
-place-of : {X : Type 0} (z : X) (ys : List X) → IsIn z ys → (k : ℕ) × (k < length ys) × ((d : X) → get_or ys k d ≡ z)
-place-of z [] h = absurd h
-place-of z (y ∷ ys) h = elim h [
-  | inl s ↦ (zero, omega arith, λ d. sym s)
-  | inr i ↦ let r = place-of z ys i in (suc r.0, (let less = r.1 in omega arith), r.2)
-]
+use Rattle.zone_graph.proofs.Places.{place_of}
+use Rattle.zone_graph.specs.InOrder.{put_in_order, in_order}
+use Rattle.zone_graph.proofs.InOrder.{from_put_in_order}
 
 module _ {X : Type 0} (cmp : X → X → Ordering) (o : IsStrictWeakOrder (λ (x y : X). is_lt (cmp x y))) where
   -- an item comes before another
@@ -37,7 +20,7 @@ module _ {X : Type 0} (cmp : X → X → Ordering) (o : IsStrictWeakOrder (λ (x
   lt x y = is_lt (cmp x y)
 
   itself : (x : X) → lt x x ≡ false
-  itself x = by_absurd (lt x x) (λ h. true≢false (sym h ∙ o.one_way x x h))
+  itself x = false_from_ne_true (lt x x) (λ h. true≢false (sym h ∙ o.one_way x x h))
 
   tie-itself : (x : X) → ties lt x x ≡ true
   tie-itself x = rw (itself x) refl
@@ -47,7 +30,7 @@ module _ {X : Type 0} (cmp : X → X → Ordering) (o : IsStrictWeakOrder (λ (x
 
   from-tie : (x y : X) → ties lt x y ≡ true → (lt x y ≡ false) × (lt y x ≡ false)
   from-tie x y h =
-      let both = and-true (not (lt x y)) (not (lt y x)) h in (not-true (lt x y) both.0, not-true (lt y x) both.1)
+      let both = and_parts (not (lt x y)) (not (lt y x)) h in (not-true (lt x y) both.0, not-true (lt y x) both.1)
 
   -- what comes after an item comes after all that it comes before
   after : (x y z : X) → lt x y ≡ true → lt z y ≡ false → lt z x ≡ false
@@ -62,7 +45,7 @@ module _ {X : Type 0} (cmp : X → X → Ordering) (o : IsStrictWeakOrder (λ (x
       go false e = absurd (true≢false (sym before ∙ o.chain x z y e not_before))
 
   no-tie : (w x z : X) → ties lt w x ≡ true → lt x z ≡ true → ties lt w z ≡ false
-  no-tie w x z tie less = by_absurd (ties lt w z) (λ h. true≢false (sym less ∙ o.chain x w z (from-tie w x tie).1 (from-tie w z h).0))
+  no-tie w x z tie less = false_from_ne_true (ties lt w z) (λ h. true≢false (sym less ∙ o.chain x w z (from-tie w x tie).1 (from-tie w z h).0))
 
   -- no item comes before one that stands in front of it
   abbrev pub Ascends : List X → Type 0
@@ -73,10 +56,10 @@ module _ {X : Type 0} (cmp : X → X → Ordering) (o : IsStrictWeakOrder (λ (x
   ascends-sorted [] sorted = tt
   ascends-sorted (x ∷ xs) sorted = (
     λ z i.
-        let at = place-of z xs i in
+        let at = place_of z xs x i in
         let far : lt (get_or (x ∷ xs) (suc at.0) x) (get_or (x ∷ xs) 0 x) ≡ false =
         sorted_far lt o (x ∷ xs) sorted 0 (suc at.0) x (omega arith) (let less = at.1 in omega arith) in
-        subst (λ y. lt y x ≡ false) (at.2 x) far,
+        subst (λ y. lt y x ≡ false) at.2 far,
     ascends-sorted xs (λ k d low high.
         rw add-one (rw add-one at (sorted (suc k) d (omega arith) (omega arith)))),
   )

@@ -1,6 +1,6 @@
 -- What each event makes of what the events so far come to.
 use Rattle.std.proofs.Common.{◌≡◌, ◌≢◌, ◌∙◌, inl, inr, ℕ, ◌+◌, ◌-◌, ◌≤◌, ◌&&◌, Bool, true, false, List, [], ◌∷◌, length, Some, None, filter, nat_eq, eq-eqb, refl, sym, ap, subst, if◌then◌else◌, arith}
-use Rattle.std.proofs.lemmas.Bool.{true≢false}
+use Rattle.std.proofs.lemmas.Bool.{true≢false, or_cases}
 use Rattle.order_kinds.specs.declared.contract.Contract.{Contract}
 use Rattle.order_kinds.specs.declared.order.BlockOrder.{BlockOrder}
 use Rattle.order_kinds.specs.declared.order.Kind.TheVariants as kind
@@ -22,7 +22,7 @@ use Rattle.market_laws.proofs.Members.{from_filter_map}
 use Rattle.market_laws.proofs.Names.{block_name-new, names-once, order_name-new, times_entered}
 use Rattle.market_laws.proofs.Placed.{from_picked-more}
 use Rattle.market_laws.proofs.States.{filled-more}
-use Rattle.market_laws.proofs.Tests.{or-true, same_name-eq}
+use Rattle.market_laws.proofs.Tests.{same_name-eq}
 use Rattle.market_laws.proofs.Unique.{entered-none, enters-block_placed, enters-placed, order_is_no_block, times-some}
 use Rattle.market_locality.proofs.States.{blocks_placed-agree, filled-agree, left-agree, placed-agree}
 use Rattle.plain_orders.specs.declared.tally.Tally.{Tally}
@@ -241,7 +241,7 @@ tells-by_leg setup before contract leg hour number tally comes touch tells = go 
     of_orders block i s is =
         let fits : LegFits setup before contract leg = comes.fits in
         let once = names-once setup before comes.fit in
-        elim (or-true (same_name leg.taker (name_in hour number)) (same_name leg.maker (name_in hour number)) is) [
+        elim (or_cases (same_name leg.taker (name_in hour number)) (same_name leg.maker (name_in hour number)) is) [
           | inl t ↦ order_is_no_block before once fits.taker block fits.taker_open.is_placed i
               (fits.taker_open.is_named ∙ same_name-eq leg.taker (name_in hour number) t ∙ sym s)
           | inr m ↦ order_is_no_block before once fits.maker block fits.maker_open.is_placed i

@@ -5,9 +5,10 @@ use Rattle.order_kinds.specs.declared.side.Side.{Side}
 use Rattle.order_kinds.specs.Same.{same_contract, same_side}
 use Rattle.market_model.specs.declared.event.Event.{Event}
 use Rattle.market_model.specs.Blocks.{StandingBlock, block_line, block_priority_cmp, is_of_period, standing_block}
-use Rattle.market_model.specs.Lines.{in_order, line, priority_cmp}
+use Rattle.market_model.specs.Lines.{line, priority_cmp}
 use Rattle.market_model.specs.Orders.{Placed, PlacedBlock, Standing, block_placed_by, blocks_placed, placed, placed_by, standing}
 use Rattle.plain_orders.specs.Histories.{IsSomeHistory}
+use Rattle.zone_graph.specs.InOrder.{in_order}
 
 -- an order, and a block, is named by an hour
 abbrev pub is_order_of : (hour : ℕ) → Placed → Bool

@@ -1,11 +1,8 @@
 -- What the events come to of each order and block of an hour, by its number.
-use Rattle.std.specs.Prelude.{◌≡◌, ◌≢◌, ℕ, ◌+◌, ◌-◌, ◌<◌, ◌≤◌, ◌^◌, List, count_by, length, slice_index_or, if◌then◌else◌, pos, ◌+ℤ◌, ◌-ℤ◌}
+use Rattle.std.specs.Prelude.{◌≡◌, ◌≢◌, ℕ, ◌+◌, ◌-◌, ◌<◌, ◌≤◌, ◌^◌, List, count_by, length, slice_index_or, if◌then◌else◌}
 use Rattle.order_kinds.specs.declared.order.Kind.{Kind}
 use Rattle.order_kinds.specs.declared.order.Kind.TheVariants as kind
 use Rattle.order_kinds.specs.declared.order.OrderName.{OrderName}
-use Rattle.order_kinds.specs.declared.price.Price.{Price}
-use Rattle.order_kinds.specs.declared.side.Side.{Side}
-use Rattle.order_kinds.specs.declared.side.Side.TheVariants.{Buy, Sell}
 use Rattle.order_kinds.specs.Same.{same_name}
 use Rattle.zone_graph.specs.Route.{IsIn}
 use Rattle.market_model.specs.declared.event.Event.{Event}
@@ -130,8 +127,3 @@ standing_by tally order = record {
 
 abbrev pub standing_block_by : Tally → PlacedBlock → StandingBlock
 standing_block_by tally block = record { name = block.name; order = block.order; left = tally.left; moment = tally.moment }
-
--- a price that is moved by so many cents: a sell's up, a buy's down
-abbrev pub moved : Side → Price → (cents : ℕ) → Price
-moved Buy price cents = record { 0 = price.0 -ℤ pos cents }
-moved Sell price cents = record { 0 = price.0 +ℤ pos cents }

@@ -14,8 +14,6 @@ mod placed;
 mod standing;
 mod sums;
 mod tally;
-#[cfg(test)]
-mod tests;
 
 pub use hour::{blocks_of, open_names, orders_of, withdrawals};
 pub use lines::{block_line, block_lines_are_of_blocks, line, lines_are_of_orders};

@@ -2,10 +2,11 @@
 
 ghost use Rattle.std.specs.Prelude.{◌≡◌, IfOk, filter};
 ghost use Rattle.market_model.specs.Blocks.{block_priority_cmp};
-ghost use Rattle.market_model.specs.Lines.{in_order, priority_cmp};
+ghost use Rattle.market_model.specs.Lines.{priority_cmp};
 ghost use Rattle.order_kinds.specs.Same.{same_contract, same_side};
 ghost use Rattle.order_kinds.specs.Side.{price_cmp};
 ghost use Rattle.plain_orders.specs.Listed as listed;
+ghost use Rattle.zone_graph.specs.InOrder.{in_order};
 
 use crate::standing::{StandingBlock, StandingOrder};
 use market_model::{Contract, NoMemory, Price, Side};

@@ -10,7 +10,7 @@ ghost use Rattle.plain_orders.specs.Owned as owned;
 use crate::hour::open_names;
 use crate::placed::{PlacedBlock, PlacedOrder};
 use crate::sums::left;
-use market_model::{Event, Kind, NoMemory, OrderName};
+use market_model::{Event, NoMemory, OrderName};
 use std::alloc::Global;
 
 /// How many orders and blocks may be open by one hour.
@@ -90,7 +90,7 @@ pub fn own_limit(events: &[Event], caller: u32, name: OrderName) -> Option<Place
     ensures { result ≡ refusals.own_limit events.now caller name }
 {
     match open_order(events, name) {
-        Some(placed) if placed.caller == caller && is_limit(placed.order.kind) => Some(placed),
+        Some(placed) if placed.caller == caller && placed.order.kind.is_limit() => Some(placed),
         _ => None,
     }
 }
@@ -103,13 +103,6 @@ pub fn has_own(events: &[Event], caller: u32, name: OrderName) -> bool
     let own_order = matches!(open_order(events, name), Some(placed) if placed.caller == caller);
     let own_block = matches!(open_block(events, name), Some(placed) if placed.caller == caller);
     own_order || own_block
-}
-
-// Whether it is the kind of a plain limit order.
-fn is_limit(kind: Kind) -> bool
-    ensures { result ≡ refusals.is_limit kind }
-{
-    matches!(kind, Kind::Limit)
 }
 
 /// Whether the order or block of this name can rest beside the other open orders and blocks of its

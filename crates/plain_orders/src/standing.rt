@@ -1,16 +1,14 @@
 //! Orders and blocks as they stand after some events.
 
-ghost use Rattle.std.specs.Prelude.{◌≡◌, ◌≤◌, IsTrue};
-ghost use Rattle.iceberg_peak.specs.Peak.{showing_price};
+ghost use Rattle.std.specs.Prelude.{◌≡◌, ◌+◌, ◌^◌, ◌<◌, ◌≤◌};
 ghost use Rattle.market_model.specs.Orders.{price_now, shown_lots};
-ghost use Rattle.order_kinds.specs.Price.{price_in_range};
 ghost use Rattle.plain_orders.specs.Tallies as tallies;
 ghost use Rattle.plain_orders.specs.Histories.{HasSoundNumbers};
 
 use crate::placed::{PlacedBlock, PlacedOrder};
 use crate::tally::Tally;
-use iceberg_peak::number_now;
-use market_model::{BlockOrder, Kind, Lots, Order, OrderName, Price, Side};
+use iceberg_peak::{number_now, price_of_peak, shown};
+use market_model::{BlockOrder, Kind, Order, OrderName, Price};
 use std::marker::Model;
 
 /// An order as it stands after some events, which contracts see as the market's own record of it.
@@ -40,7 +38,7 @@ impl StandingOrder {
     // An order of which so much is filled and left.
     pub(crate) fn new(placed: &PlacedOrder, tally: Tally) -> StandingOrder
         requires sound { HasSoundNumbers placed.now.order }
-        requires most { tally.filled ≤ placed.now.order.quantity.0 }
+        requires most { tally.filled + tally.left ≤ placed.now.order.quantity.0 }
         ensures { result ≡ tallies.standing_by tally placed.now }
     {
         let order = placed.order();
@@ -116,46 +114,27 @@ impl StandingOrder {
 
 // What an order of this kind shows, of which so much is filled and left.
 fn shown_of(kind: Kind, filled: u32, left: u32) -> u32
-    requires { tallies.HasPeak kind }
+    requires peak { tallies.HasPeak kind }
+    requires fits { filled + left < 2 ^ 32 }
     ensures { result ≡ shown_lots kind filled left }
 {
     match kind {
-        Kind::Iceberg { peak, .. } => (peak.0 - filled % peak.0).min(left),
-        Kind::Limit | Kind::Ioc | Kind::Fok => left,
+        Kind::Iceberg { peak, .. } if left > 0 => shown(filled + left, peak.0, filled),
+        Kind::Iceberg { .. } | Kind::Limit | Kind::Ioc | Kind::Fok => left,
     }
 }
 
-// The price of an order of which so much is filled.
+// The price of an order of which so much is filled: of an iceberg that of its showing peak.
 fn price_of(order: &Order, filled: u32) -> Price
     requires sound { HasSoundNumbers order.now }
     requires most { filled ≤ order.now.quantity.0 }
     ensures { result ≡ price_now order.now filled }
 {
     match order.kind {
-        Kind::Iceberg { peak, delta } => peak_price(order, peak, delta, filled),
+        Kind::Iceberg { peak, delta } => {
+            price_of_peak(order.side, order.price, delta, number_now(peak.0, filled))
+        }
         Kind::Limit | Kind::Ioc | Kind::Fok => order.price,
-    }
-}
-
-// The price of the peak of an iceberg that shows, of which so much is filled.
-fn peak_price(order: &Order, peak: Lots, delta: u32, filled: u32) -> Price
-    requires sound { HasSoundNumbers order.now }
-    requires kind { order.now.kind ≡ Kind.Iceberg peak delta }
-    requires most { filled ≤ order.now.quantity.0 }
-    ensures { result ≡ showing_price order.now.side order.now.price peak.0 delta filled }
-{
-    moved(order.side, order.price, delta * number_now(peak.0, filled))
-}
-
-// A price that is moved by so many cents: a sell's up, a buy's down.
-fn moved(side: Side, price: Price, cents: u32) -> Price
-    requires allowed { IsTrue (price_in_range price) }
-    requires most { cents ≤ 3999600 }
-    ensures { result ≡ tallies.moved side price cents }
-{
-    match side {
-        Side::Buy => Price(price.0 - cents as i32),
-        Side::Sell => Price(price.0 + cents as i32),
     }
 }
 
@@ -218,40 +197,5 @@ impl StandingBlock {
         ensures { result ≡ self.now.moment }
     {
         self.moment
-    }
-}
-
-#[cfg(test)]
-impl StandingOrder {
-    // A whole order that stands at a price and a moment.
-    pub(crate) fn sample(
-        name: OrderName,
-        order: &Order,
-        price: Price,
-        moment: u64,
-    ) -> StandingOrder {
-        StandingOrder {
-            name,
-            caller: 0,
-            order: *order,
-            filled: 0,
-            left: order.quantity.0,
-            shown: order.quantity.0,
-            price,
-            moment,
-        }
-    }
-}
-
-#[cfg(test)]
-impl StandingBlock {
-    // A whole block that stands at a moment.
-    pub(crate) fn sample(name: OrderName, order: BlockOrder, moment: u64) -> StandingBlock {
-        StandingBlock {
-            name,
-            order,
-            left: order.quantity.0,
-            moment,
-        }
     }
 }

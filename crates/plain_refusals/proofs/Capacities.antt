@@ -4,8 +4,8 @@ use Rattle.std.proofs.lemmas.Int.{ints}
 use Rattle.std.specs.List.{range_with_len}
 use Rattle.std.specs.Option.{option_and_then, option_map}
 use Rattle.order_kinds.specs.declared.contract.Quarter.{Quarter}
-use Rattle.order_kinds.specs.Period.{quarter_of, range_quarters}
-use Rattle.quarter_capacity.specs.Capacity.{flow_of}
+use Rattle.order_kinds.specs.Period.{EachQuarter, quarter_of, range_quarters}
+use Rattle.quarter_capacity.specs.Capacity.{flow_of, most_offered}
 use Rattle.zone_graph.specs.declared.route.Arc.{Arc}
 use Rattle.zone_graph.specs.Graph.{Graph, HasArc}
 use Rattle.zone_graph.specs.Grid.{arc_between}
@@ -20,7 +20,7 @@ use Rattle.market_model.specs.Room.{lots_of}
 use Rattle.market_model.specs.Rules.{unless}
 use Rattle.market_model.specs.Sweep.{first_answer, or_else}
 use Rattle.market_laws.proofs.Uses.{within_offers}
-use Rattle.plain_capacity.specs.Hour.{Capacity, EachQuarter, IsCapacityOf, IsLegalOver}
+use Rattle.plain_capacity.specs.Hour.{Capacity, IsCapacityOf, IsLegalOver}
 use Rattle.plain_capacity.proofs.RoomLemmas.{room-is}
 use Rattle.plain_refusals.specs.declared.capacity.Asked.{Asked}
 use Rattle.plain_refusals.specs.Asked.{FlowsAtMost, asked_between, below_flow_at, first_below_flow, first_in_hour, first_no_room, is_asked, no_room_at}
@@ -49,16 +49,16 @@ same-in_hour ask other asked hour same = same-from ask other (is_asked asked) ho
 
 -- ---- the capacity of an hour
 
-flow-most : (there back offer : ℕ) → there ≤ offer + back → offer ≤ 1000000 → flow_of there back ≤ℤ pos 1000000
+flow-most : (there back offer : ℕ) → there ≤ offer + back → offer ≤ most_offered → flow_of there back ≤ℤ pos most_offered
 flow-most there back offer covered most = omega (arith, ints)
 
 module _ (graph : Graph) (events : List Event) (hour : ℕ) (capacity : Capacity) (is : IsCapacityOf graph events hour capacity) (asked : Asked) where
   -- no more flows than may be offered
-  pub flows-most : IsLegalOver graph events → FlowsAtMost 1000000 capacity asked.arc
+  pub flows-most : IsLegalOver graph events → FlowsAtMost most_offered capacity asked.arc
   flows-most legal number first last =
       let within = within_offers legal.setup events legal.fit in
       let quarter = quarter_of hour number in
-      subst (λ z. z ≤ℤ pos 1000000) (sym ((is.quarters number first last).flows asked.arc))
+      subst (λ z. z ≤ℤ pos most_offered) (sym ((is.quarters number first last).flows asked.arc))
       (flow-most (allocated events quarter asked.arc) (allocated events quarter (opposite_arc asked.arc)) (offered events quarter asked.arc)
       (within.covered quarter asked.arc) (within.most quarter asked.arc))
 

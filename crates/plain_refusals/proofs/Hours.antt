@@ -5,33 +5,22 @@ use Rattle.std.proofs.lemmas.List.Elements.{filter-append}
 use Rattle.std.specs.List.{find}
 use Rattle.order_kinds.specs.declared.contract.Quarter.{Quarter}
 use Rattle.order_kinds.specs.Period.{block_quarters, hour_quarters, hours_from}
+use Rattle.order_kinds.proofs.Hours.{hours-next, hours-none}
 use Rattle.market_model.specs.Sweep.{first_answer, or_else}
 use Rattle.plain_refusals.specs.declared.capacity.Asked.{Asked}
 use Rattle.plain_refusals.specs.Asked.{first_in_hour, is_asked}
 use Rattle.plain_refusals.proofs.Rules.{first_answer-append}
 
--- an hour and those after it
-onward : (hour last : ℕ) → hour ≤ last → hours_from hour last ≡ hour ∷ hours_from (hour + 1) last
-onward hour last order =
-    let count : last + 1 - hour ≡ suc (last + 1 - (hour + 1)) = omega arith in
-    rw count refl
-
--- none come after the last
-spent : (hour last : ℕ) → last < hour → hours_from hour last ≡ []
-spent hour last order =
-    let count : last + 1 - hour ≡ 0 = omega arith in
-    rw count refl
-
 -- ---- the first hour that passes
 
 pub passing : (p : ℕ → Bool) (hour last : ℕ) → hour ≤ last → p hour ≡ true → find p (hours_from hour last) ≡ Some hour
-passing p hour last order e = rw (onward hour last order, e) refl
+passing p hour last order e = rw (hours-next hour last order, e) refl
 
 pub not_passing : (p : ℕ → Bool) (hour last : ℕ) → hour ≤ last → p hour ≡ false → find p (hours_from hour last) ≡ find p (hours_from (hour + 1) last)
-not_passing p hour last order e = rw (onward hour last order, e) refl
+not_passing p hour last order e = rw (hours-next hour last order, e) refl
 
 pub none_left : (p : ℕ → Bool) (hour last : ℕ) → last < hour → find p (hours_from hour last) ≡ None
-none_left p hour last order = rw (spent hour last order) refl
+none_left p hour last order = rw (hours-none hour last order) refl
 
 -- ---- the first answer of a range
 
@@ -44,7 +33,7 @@ module _ {Y : Type 0} (ask : Quarter → Option Y) (asked : Asked) (hour : ℕ) 
   split : hour ≤ asked.last.hour
       → from_hour ask asked hour ≡ or_else (first_answer ask (filter (is_asked asked) (hour_quarters hour))) (λ _. from_hour ask asked (hour + 1))
   split order =
-      ap (λ hours. first_answer ask (filter (is_asked asked) (flat_map hour_quarters hours))) (onward hour asked.last.hour order)
+      ap (λ hours. first_answer ask (filter (is_asked asked) (flat_map hour_quarters hours))) (hours-next hour asked.last.hour order)
       ∙ ap (first_answer ask) (filter-append (is_asked asked) (hour_quarters hour) (block_quarters (hour + 1) asked.last.hour))
       ∙ first_answer-append ask (filter (is_asked asked) (hour_quarters hour)) (filter (is_asked asked) (block_quarters (hour + 1) asked.last.hour))
 
@@ -57,4 +46,4 @@ module _ {Y : Type 0} (ask : Quarter → Option Y) (asked : Asked) (hour : ℕ) 
   hour_is_silent order e = split order ∙ ap (λ o. or_else o (λ _. from_hour ask asked (hour + 1))) e
 
   pub no_hour_left : asked.last.hour < hour → from_hour ask asked hour ≡ None
-  no_hour_left order = ap (λ hours. first_answer ask (filter (is_asked asked) (flat_map hour_quarters hours))) (spent hour asked.last.hour order)
+  no_hour_left order = ap (λ hours. first_answer ask (filter (is_asked asked) (flat_map hour_quarters hours))) (hours-none hour asked.last.hour order)

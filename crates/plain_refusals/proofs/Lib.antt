@@ -2,4 +2,3 @@ pub mod Rules
 pub mod Quarters
 pub mod Hours
 pub mod Capacities
-pub mod Days

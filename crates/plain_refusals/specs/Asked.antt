@@ -3,7 +3,7 @@
 use Rattle.std.specs.Prelude.{ℕ, ◌&&◌, Bool, not, List, filter, nat_le, Option, pos, int_lt, ◌≤ℤ◌}
 use Rattle.std.specs.Option.{option_map}
 use Rattle.order_kinds.specs.declared.contract.Quarter.{Quarter}
-use Rattle.order_kinds.specs.Period.{hour_quarters, is_not_after, range_quarters}
+use Rattle.order_kinds.specs.Period.{EachQuarter, hour_quarters, is_not_after, range_quarters}
 use Rattle.zone_graph.specs.declared.route.Arc.{Arc}
 use Rattle.zone_graph.specs.Graph.{Graph}
 use Rattle.zone_graph.specs.Grid.{arc_between}
@@ -14,7 +14,7 @@ use Rattle.market_model.specs.Refusals.{below_flow, no_room}
 use Rattle.market_model.specs.Room.{lots_of}
 use Rattle.market_model.specs.Rules.{unless}
 use Rattle.market_model.specs.Sweep.{first_answer}
-use Rattle.plain_capacity.specs.Hour.{Capacity, EachQuarter, flow_in, room_in}
+use Rattle.plain_capacity.specs.Hour.{Capacity, flow_in, room_in}
 use Rattle.plain_refusals.specs.declared.capacity.Asked.{Asked}
 
 -- what is asked over the arc from a zone to a zone, if there is one

@@ -2,9 +2,9 @@
 //! offered, or in which there is less room than is asked for.
 
 ghost use Rattle.std.specs.Prelude.{◌≡◌, ◌≤◌, ◌<◌, IfOk, IfSome};
+ghost use Rattle.quarter_capacity.specs.Capacity.{most_offered};
 ghost use Rattle.zone_graph.specs.Graph.{HasArc};
 ghost use Rattle.market_model.specs.Refusals as refusals;
-ghost use Rattle.order_kinds.specs.Period as periods;
 ghost use Rattle.plain_capacity.specs.Hour as hours;
 ghost use Rattle.plain_refusals.specs.Asked as range;
 
@@ -117,7 +117,7 @@ fn first_below_flow(
 #[tactic(auto, using(crate::proofs::Quarters::answered, crate::proofs::Quarters::not_passed, crate::proofs::Quarters::no_answer, crate::proofs::Quarters::from_first))]
 fn below_flow_in(capacity: &HourCapacity, hour: u32, offer: &Asked) -> Option<Refusal>
     requires border { offer.now.arc.border < hours.size_of capacity.now }
-    requires most { range.FlowsAtMost 1000000 capacity.now offer.now.arc }
+    requires most { range.FlowsAtMost most_offered capacity.now offer.now.arc }
     ensures { result ≡ range.first_in_hour (range.below_flow_at capacity.now offer.now) offer.now hour }
 {
     for number in 1..5 {
@@ -136,7 +136,7 @@ fn below_flow(capacity: &HourCapacity, offer: &Asked, quarter: Quarter) -> Optio
     requires border { offer.now.arc.border < hours.size_of capacity.now }
     requires first { 1 ≤ quarter.number }
     requires last { quarter.number ≤ 4 }
-    requires most { range.FlowsAtMost 1000000 capacity.now offer.now.arc }
+    requires most { range.FlowsAtMost most_offered capacity.now offer.now.arc }
     ensures { result ≡ range.below_flow_at capacity.now offer.now quarter }
 {
     let flow = capacity.flow(offer.arc, quarter.number);
@@ -206,12 +206,5 @@ fn no_room(capacity: &HourCapacity, request: &Asked, quarter: Quarter) -> Option
 fn is_asked(asked: &Asked, quarter: Quarter) -> bool
     ensures { result ≡ range.is_asked asked.now quarter }
 {
-    is_not_after(asked.first, quarter) && is_not_after(quarter, asked.last)
-}
-
-// Whether a quarter is not after another.
-fn is_not_after(one: Quarter, other: Quarter) -> bool
-    ensures { result ≡ periods.is_not_after one other }
-{
-    one.hour < other.hour || (one.hour == other.hour && one.number <= other.number)
+    asked.first.is_not_after(quarter) && quarter.is_not_after(asked.last)
 }

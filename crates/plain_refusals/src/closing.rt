@@ -96,20 +96,9 @@ pub(crate) fn refuse_gate(events: &[Event], command: &Command) -> Option<Refusal
 fn refuse_unless_later(asked: Phase, phase: Phase) -> Option<Refusal>
     ensures { result ≡ rules.unless (phases.is_later asked phase) (Refusal.GateBack phase) }
 {
-    if is_later(asked, phase) {
+    if asked.is_later(phase) {
         None
     } else {
         Some(Refusal::GateBack { phase })
-    }
-}
-
-// Whether a phase comes later than another.
-fn is_later(asked: Phase, now: Phase) -> bool
-    ensures { result ≡ phases.is_later asked now }
-{
-    match (asked, now) {
-        (Phase::Local, Phase::Open) => true,
-        (Phase::Closed, Phase::Open | Phase::Local) => true,
-        _ => false,
     }
 }

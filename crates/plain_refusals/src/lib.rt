@@ -9,7 +9,5 @@ mod capacity;
 mod closing;
 mod late;
 mod orders;
-#[cfg(test)]
-mod tests;
 
 pub use late::{refuse_late, state_comes_second};

@@ -1,13 +1,14 @@
 -- A round, arc by arc.
 use Rattle.std.proofs.Common.{◌≡◌, ◌≢◌, ◌∙◌, ◌+◌, ◌<◌, ◌≤◌, ◌⊎◌, ◌==◌, ◌&&◌, ◌||◌, not, inl, inr, ℕ, Bool, true, false, List, length, get_or, set, nat_lt, Option, Some, None, is_some, if◌then◌else◌, refl, sym, ap, subst, arith, eq-eqb, eqb-true, lt-ltb, ltb-true, get_or-set_same, get_or-set_other}
-use Rattle.std.proofs.lemmas.Bool.{cases_eq, true≢false}
+use Rattle.std.proofs.lemmas.Bool.{cases_eq, not-true, or_cases, true≢false}
 use Rattle.std.proofs.lemmas.List.{length-set}
 use Rattle.std.proofs.lemmas.List.Sums.{sum_by-set}
 use Rattle.zone_graph.specs.declared.route.Arc.{Arc}
 use Rattle.zone_graph.specs.Graph.{Graph, HasArc, border_count, end_of, start_of}
 use Rattle.zone_graph.specs.Pour.{same_arc, same_bool}
+use Rattle.zone_graph.proofs.Arcs.{same_arc-is}
+use Rattle.zone_graph.proofs.Finding.{none_from}
 use Rattle.zone_search.specs.Distance.{arcs_of_distance, distance_at}
-use Rattle.cut_proof.proofs.Arcs.{same_arc-is}
 use Rattle.plain_routes.specs.Rounds.{IsPassed, IsTold, finds, one_if_unfound, unfound}
 
 -- ---- a distance, or none
@@ -25,19 +26,11 @@ at distances zone arcs some = ap arcs_of_distance some
 pub some-of : (o : Option ℕ) (arcs : ℕ) → o ≡ Some arcs → is_some o ≡ true
 some-of o arcs e = ap is_some e
 
-pub none-of : (o : Option ℕ) → is_some o ≡ false → o ≡ None
-none-of None e = refl
-none-of (Some arcs) e = absurd (true≢false e)
-
 pub some-is : (o : Option ℕ) → is_some o ≡ true → (arcs : ℕ) × (o ≡ Some arcs)
 some-is None e = absurd (true≢false (sym e))
 some-is (Some arcs) e = (arcs, refl)
 
-not-true : (b : Bool) → not b ≡ true → b ≡ false
-not-true true e = absurd (true≢false (sym e))
-not-true false e = refl
-
-three : (a b c : Bool) → (a && b && c) ≡ true → (a ≡ true) × (b ≡ true) × (c ≡ true)
+pub three : (a b c : Bool) → (a && b && c) ≡ true → (a ≡ true) × (b ≡ true) × (c ≡ true)
 three true true true e = (refl, refl, refl)
 three true true false e = absurd (true≢false (sym e))
 three true false c e = absurd (true≢false (sym e))
@@ -48,10 +41,6 @@ third true true true e x y = refl
 third true true false e x y = absurd (true≢false e)
 third true false c e x y = absurd (true≢false (sym y))
 third false b c e x y = absurd (true≢false (sym x))
-
-either : (a b : Bool) → (a || b) ≡ true → (a ≡ true) ⊎ (b ≡ true)
-either true b e = inl refl
-either false b e = inr e
 
 module _ (graph : Graph) (room : Arc → ℕ) (round : ℕ) (few : round < 64) (old mid : List (Option ℕ)) where
   -- the zones at the round's distance stay the same
@@ -78,7 +67,7 @@ module _ (graph : Graph) (room : Arc → ℕ) (round : ℕ) (few : round < 64) (
       let parts = three (nat_lt 0 (room arc)) (distance_at mid (end_of graph arc) == round) (not (is_some (get_or mid start None))) finds_it in
       let has_room : 0 < room arc = ltb-true 0 (room arc) parts.0 in
       let there : distance_at old (end_of graph arc) ≡ round = still passed is (end_of graph arc) (eqb-true (distance_at mid (end_of graph arc)) round parts.1) in
-      let none : get_or mid start None ≡ None = none-of (get_or mid start None) (not-true (is_some (get_or mid start None)) parts.2) in
+      let none : get_or mid start None ≡ None = none_from (get_or mid start None) (not-true (is_some (get_or mid start None)) parts.2) in
       record {
         size = length-set mid start (Some (round + 1)) ∙ is.size;
         kept = λ zone arcs before.
@@ -88,7 +77,7 @@ module _ (graph : Graph) (room : Arc → ℕ) (round : ℕ) (few : round < 64) (
           | inl same ↦ (some-inj (sym now ∙ ap (λ z. get_or new z None) same ∙ here), (arc, known, sym same, has_room, there))
           | inr apart ↦ is.given zone arcs before (sym (other zone apart) ∙ now)
         ];
-        left = λ a a_known a_passed a_room a_there. elim (either (passed a) (same_arc arc a) a_passed) [
+        left = λ a a_known a_passed a_room a_there. elim (or_cases (passed a) (same_arc arc a) a_passed) [
           | inl was ↦ elim (cases_eq (start_of graph a) start) [
             | inl same ↦ ap (λ z. is_some (get_or new z None)) same ∙ ap is_some here
             | inr apart ↦ ap is_some (other (start_of graph a) apart) ∙ is.left a a_known was a_room a_there
@@ -119,7 +108,7 @@ module _ (graph : Graph) (room : Arc → ℕ) (round : ℕ) (few : round < 64) (
     size = is.size;
     kept = is.kept;
     given = is.given;
-    left = λ a a_known a_passed a_room a_there. elim (either (passed a) (same_arc arc a) a_passed) [
+    left = λ a a_known a_passed a_room a_there. elim (or_cases (passed a) (same_arc arc a) a_passed) [
       | inl was ↦ is.left a a_known was a_room a_there
       | inr same ↦
           let equal : arc ≡ a = same_arc-is arc a same in
@@ -143,7 +132,7 @@ module _ (graph : Graph) (room : Arc → ℕ) (round : ℕ) (few : round < 64) (
       → IsTold (so_far || found) old new
   told_more so_far true arc new told within e now =
       let parts = three (nat_lt 0 (room arc)) (distance_at mid (end_of graph arc) == round) (not (is_some (get_or mid (start_of graph arc) None))) (sym e) in
-      let none : get_or mid (start_of graph arc) None ≡ None = none-of (get_or mid (start_of graph arc) None) (not-true (is_some (get_or mid (start_of graph arc) None)) parts.2) in
+      let none : get_or mid (start_of graph arc) None ≡ None = none_from (get_or mid (start_of graph arc) None) (not-true (is_some (get_or mid (start_of graph arc) None)) parts.2) in
       let changed = sum_by-set one_if_unfound mid (start_of graph arc) (Some (round + 1)) None within in
       let one : one_if_unfound (get_or mid (start_of graph arc) None) ≡ 1 = ap one_if_unfound none in
       let after : unfound new ≡ unfound (set mid (start_of graph arc) (Some (round + 1))) = ap unfound now in

@@ -6,19 +6,14 @@ use Rattle.zone_graph.specs.Graph.{Graph, IsGraph, end_of, start_of}
 use Rattle.zone_graph.specs.Pour.{opposite_arc}
 use Rattle.zone_graph.specs.Reach.{reaches}
 use Rattle.zone_graph.specs.Route.{IsWay}
+use Rattle.zone_graph.proofs.Arcs.{opposite-start, opposite-end, opposite-twice}
 use Rattle.zone_search.specs.Distance.{AreDistances, arcs_of_distance, directed_room, distance_at}
-use Rattle.zone_search.proofs.Arcs.{opposite-end, opposite-start, opposite-twice}
 use Rattle.zone_search.proofs.Nearest.{way_reached}
+use Rattle.zone_search.proofs.Reached.{both_or_neither}
 use Rattle.cut_proof.proofs.ReachLaws.{reaches-way, way-reaches}
 use Rattle.cut_proof.proofs.Ways.{way_longer}
 use Rattle.plain_routes.specs.Reached.{is_reached}
 use Rattle.plain_routes.proofs.Passes.{at, far, known_or}
-
--- both are true or both are false
-alike : (a b : Bool) → (a ≡ true → b ≡ true) → (b ≡ true → a ≡ true) → a ≡ b
-alike true b there back = sym (there refl)
-alike false true there back = absurd (true≢false (sym (back refl)))
-alike false false there back = refl
 
 some-near : (o : Option ℕ) → is_some o ≡ true → ((arcs : ℕ) → o ≡ Some arcs → arcs < 64) → arcs_of_distance o < 128
 some-near None e short = absurd (true≢false (sym e))
@@ -83,11 +78,11 @@ reached-on graph room zone distances a from (arc ∷ arcs) to way less =
 pub found-reached : (graph : Graph) (room : Arc → ℕ) (towards : Bool) (zone other : ℕ) (distances : List (Option ℕ)) → IsGraph graph
     → AreDistances graph (directed_room room towards) zone distances → is_some (get_or distances other None) ≡ is_reached towards graph room zone other
 found-reached graph room true zone other distances is a =
-    alike (is_some (get_or distances other None)) (reaches graph room other zone)
+    both_or_neither (is_some (get_or distances other None)) (reaches graph room other zone)
     (λ e. let way = way-to graph room zone distances a (distance_at distances other) other refl (near graph room zone other distances a e) in reaches-way graph room other zone way.0 is way.1)
     (λ e. let way = way-reaches graph room other zone is e in near-some (get_or distances other None) (way_reached graph room zone distances other way.0 a way.1))
 found-reached graph room false zone other distances is a =
-    alike (is_some (get_or distances other None)) (reaches graph room zone other)
+    both_or_neither (is_some (get_or distances other None)) (reaches graph room zone other)
     (λ e.
     let way = way-from graph room zone distances a (distance_at distances other) other refl (near graph (λ arc. room (opposite_arc arc)) zone other distances a e) in
     reaches-way graph room zone other way.0 is way.1)

@@ -5,12 +5,7 @@ use Rattle.zone_graph.specs.declared.route.Arc.{Arc}
 use Rattle.zone_graph.specs.Graph.{Graph, HasArc, border_count, end_of, start_of}
 use Rattle.zone_search.specs.Distance.{IsLeastStep, distance_at}
 use Rattle.plain_routes.specs.Steps.{HasStep, is_step}
-
-three : (a b c : Bool) → (a && b && c) ≡ true → (a ≡ true) × (b ≡ true) × (c ≡ true)
-three true true true e = (refl, refl, refl)
-three true true false e = absurd (true≢false (sym e))
-three true false c e = absurd (true≢false (sym e))
-three false b c e = absurd (true≢false (sym e))
+use Rattle.plain_routes.proofs.Passes.{three}
 
 all_three : (a b c : Bool) → a ≡ true → b ≡ true → c ≡ true → (a && b && c) ≡ true
 all_three true true c x y z = z

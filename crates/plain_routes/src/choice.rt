@@ -8,7 +8,7 @@ ghost use Rattle.zone_graph.specs.Route.{best_route as route_of};
 ghost use Rattle.zone_search.specs.Distance.{IsLeastStep, distance_at};
 ghost use Rattle.plain_routes.specs.Steps.{HasStep, is_step as steps_to};
 
-use crate::rounds::{arc_over, distances, is_at};
+use crate::rounds::{distances, is_at};
 use std::alloc::Global;
 use zone_graph::{Arc, Grid, NoMemory, Rooms, Route};
 
@@ -65,11 +65,11 @@ fn least_step(
 {
     let borders = grid.borders();
     for border in 0..borders {
-        let forward = arc_over(border, true);
+        let forward = Arc::over(border, true);
         if is_step(grid, rooms, distances, zone, distance, forward) {
             return forward;
         }
-        let backward = arc_over(border, false);
+        let backward = Arc::over(border, false);
         if is_step(grid, rooms, distances, zone, distance, backward) {
             return backward;
         }

@@ -8,6 +8,3 @@ mod zone_set;
 
 pub use choice::best_route;
 pub use zone_set::{ZoneSet, reached};
-
-#[cfg(test)]
-mod tests;

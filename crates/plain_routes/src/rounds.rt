@@ -50,7 +50,7 @@ fn find_next(
             grid,
             rooms,
             towards,
-            arc_over(border, true),
+            Arc::over(border, true),
             round,
             distances,
         );
@@ -58,7 +58,7 @@ fn find_next(
             grid,
             rooms,
             towards,
-            arc_over(border, false),
+            Arc::over(border, false),
             round,
             distances,
         );
@@ -111,11 +111,4 @@ pub fn is_at(found: Option<u32>, distance: u32) -> bool
         Some(arcs) => arcs == distance,
         None => false,
     }
-}
-
-/// An arc over a border.
-pub fn arc_over(border: u32, forward: bool) -> Arc
-    ensures { result ≡ record { border = border; forward = forward } }
-{
-    Arc { border, forward }
 }

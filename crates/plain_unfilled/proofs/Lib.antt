@@ -2,4 +2,3 @@ pub mod Peaks
 pub mod Crosses
 pub mod Lines
 pub mod Reaches
-pub mod Days

@@ -10,7 +10,7 @@ use Rattle.zone_graph.proofs.Membership.{from_filter, from_map}
 use Rattle.market_model.specs.declared.event.Event.{Event}
 use Rattle.market_model.specs.declared.event.Event.TheVariants as event
 use Rattle.market_model.specs.History.{entered_count, enters}
-use Rattle.market_model.specs.Lines.{in_order, line, priority_cmp, stands_in}
+use Rattle.market_model.specs.Lines.{line, priority_cmp, stands_in}
 use Rattle.market_model.specs.Orders.{Placed, Standing, placed, placed_by, standing}
 use Rattle.history_bounds.proofs.Lefts.{left-most}
 use Rattle.market_laws.proofs.Counts.{length-in_order}
@@ -20,9 +20,7 @@ use Rattle.plain_capacity.specs.Hour.{IsLegalOver}
 use Rattle.plain_orders.specs.Histories.{IsSomeHistory}
 use Rattle.plain_unfilled.specs.Crossing.{AreSound, IsSound}
 use Rattle.zone_graph.specs.Graph.{Graph}
-
-pub history : (graph : Graph) (events : List Event) → IsLegalOver graph events → IsSomeHistory events
-history graph events legal = record { setup = legal.setup; fit = legal.fit }
+use Rattle.zone_graph.specs.InOrder.{in_order}
 
 -- the orders of a line are sound
 pub line-sound : (events : List Event) (contract : Contract) (side : Side) → IsSomeHistory events → AreSound (line events contract side)
@@ -72,9 +70,3 @@ line-few events contract side =
       placed-few events,
       length-filter enters events,
     )
-
--- an item at a place is in the list
-pub at-IsIn : {X : Type 0} (xs : List X) (k : ℕ) (x : X) → k < length xs → x ≡ get_or xs k x → IsIn x xs
-at-IsIn [] k x within is = absurd (let no : ⊥ = omega arith in no)
-at-IsIn (y ∷ xs) zero x within is = inl is
-at-IsIn (y ∷ xs) (suc k) x within is = inr (at-IsIn xs k x (omega arith) is)

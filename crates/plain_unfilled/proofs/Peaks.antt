@@ -1,7 +1,7 @@
 -- The peaks of an iceberg with sound numbers.
-use Rattle.std.proofs.Common.{◌≡◌, ℕ, suc, ◌+◌, ◌-◌, ◌*◌, ◌/◌, ◌<◌, ◌≤◌, ◌&&◌, true, [], ◌∷◌, ◌++◌, sum_by, nat_lt, nat_le, refl, ap, arith, ltb-true}
+use Rattle.std.proofs.Common.{◌≡◌, ℕ, suc, ◌+◌, ◌-◌, ◌*◌, ◌/◌, ◌<◌, ◌≤◌, ◌&&◌, true, [], ◌∷◌, ◌++◌, sum_by, nat_lt, nat_le, refl, ap, arith, ltb-true, w32, FitsSigned}
 use Rattle.std.proofs.Math.Nat.{div-mul-le_self, mul-le-mul, mul-le-mul_left}
-use Rattle.std.proofs.lemmas.Bool.{leb-true}
+use Rattle.std.proofs.lemmas.Bool.{leb-true, and_parts}
 use Rattle.std.proofs.lemmas.List.Sums.{sum_by-append, sum_by-cons}
 use Rattle.std.proofs.lemmas.Nat.{le-div}
 use Rattle.std.specs.List.{range_with_len}
@@ -14,43 +14,17 @@ use Rattle.order_kinds.specs.declared.side.Side.TheVariants.{Buy, Sell}
 use Rattle.order_kinds.specs.Order.{last_peak_price, peak_count, peak_price, peaks_allowed}
 use Rattle.order_kinds.specs.Price.{price_in_range}
 use Rattle.market_laws.proofs.Soundness.{lots_in_range-bounds, order_fault-none}
-use Rattle.market_laws.proofs.Tests.{and-true}
 use Rattle.cut_proof.proofs.ArcSums.{range_more}
 use Rattle.plain_orders.specs.Histories.{HasSoundNumbers}
-use Rattle.plain_orders.specs.Tallies.{moved}
-use Rattle.plain_orders.proofs.Changes.{change-most}
+use Rattle.plain_orders.proofs.Changes.{change-most, peaks-sound, price-fits}
 use Rattle.plain_unfilled.specs.Crossing.{crossing_peak, crossing_peaks}
 
--- the numbers of an iceberg's peaks
-pub record PeaksAreSound (order : Order) (peak : ℕ) : Type 0 where
-  pub some : 1 ≤ peak
-  pub less : peak < order.quantity.0
-  pub few : peak_count order.quantity.0 peak ≤ 100
-  pub most : order.quantity.0 ≤ 9990
-  pub price : price_in_range order.price ≡ true
-
 module _ (order : Order) (peak : Lots) (delta : ℕ) (sound : HasSoundNumbers order) (is : order.kind ≡ kind.Iceberg peak delta) where
-  pub peaks-sound : PeaksAreSound order peak.0
-  peaks-sound =
-      let numbers = order_fault-none order sound.no_fault in
-      let total : ℕ = order.quantity.0 in
-      let allowed : peaks_allowed order.side order.price total peak.0 delta ≡ true = rw is at numbers.peaks in
-      let a = and-true (nat_lt 0 peak.0 && nat_lt peak.0 total && nat_le (peak_count total peak.0) 100) (price_in_range (last_peak_price order.side order.price total peak.0 delta)) allowed in
-      let b = and-true (nat_lt 0 peak.0 && nat_lt peak.0 total) (nat_le (peak_count total peak.0) 100) a.0 in
-      let c = and-true (nat_lt 0 peak.0) (nat_lt peak.0 total) b.0 in
-      record {
-        some = ltb-true 0 peak.0 c.0;
-        less = ltb-true peak.0 total c.1;
-        few = leb-true (peak_count total peak.0) 100 b.1;
-        most = (lots_in_range-bounds order.quantity numbers.quantity).1;
-        price = numbers.price;
-      }
-
   -- the lots before a peak are no more than all
   before-most : (number : ℕ) → number < peak_count order.quantity.0 peak.0 → peak.0 * number ≤ order.quantity.0
   before-most number within =
       let last : number ≤ (order.quantity.0 - 1) / peak.0 = omega arith in
-      let some = peaks-sound.some in
+      let some = (peaks-sound order peak delta sound is).some in
       let all = mul-le-mul_left peak.0 last in
       let parts = div-mul-le_self (order.quantity.0 - 1) peak.0 in
       omega (arith, all, parts, turned peak.0 ((order.quantity.0 - 1) / peak.0))
@@ -59,10 +33,10 @@ module _ (order : Order) (peak : Lots) (delta : ℕ) (sound : HasSoundNumbers or
       turned a b = grind arith
 
   -- how far the price of a peak is from that of the first
-  pub change-within : (number : ℕ) → number < peak_count order.quantity.0 peak.0 → delta * number ≤ 3999600
+  change-within : (number : ℕ) → number < peak_count order.quantity.0 peak.0 → delta * number ≤ 3999600
   change-within number within =
       let before = before-most number within in
-      let some = peaks-sound.some in
+      let some = (peaks-sound order peak delta sound is).some in
       let reached : number ≤ peak.0 * number / peak.0 = le-div number (peak.0 * number) peak.0 some (swapped number peak.0) in
       let grows = mul-le-mul_left delta reached in
       let most = change-most order peak delta (peak.0 * number) sound is before in
@@ -71,10 +45,14 @@ module _ (order : Order) (peak : Lots) (delta : ℕ) (sound : HasSoundNumbers or
       swapped : (a b : ℕ) → a * b ≤ b * a
       swapped a b = grind arith
 
+  -- so its price fits
+  pub price-within : (number : ℕ) → number < peak_count order.quantity.0 peak.0 → FitsSigned w32 (peak_price order.side order.price delta number).0
+  price-within number within = price-fits order.side order.price delta number (peaks-sound order peak delta sound is).price (change-within number within)
+
   -- the lots up to the end of a peak
   pub end-within : (number : ℕ) → number < peak_count order.quantity.0 peak.0 → peak.0 * (number + 1) ≤ 999000
   end-within number within =
-      let peaks = peaks-sound in
+      let peaks = (peaks-sound order peak delta sound is) in
       let few = peaks.few in
       let less = peaks.less in
       let most = peaks.most in
@@ -99,8 +77,3 @@ peaks-more taker order peak delta filled number =
       sum_by-append f (range_with_len 0 number) (number ∷ []),
       sum_by-cons f number [],
     )
-
--- the price of a peak
-pub moved-peak : (side : Side) (price : Price) (delta number : ℕ) → moved side price (delta * number) ≡ peak_price side price delta number
-moved-peak Buy price delta number = refl
-moved-peak Sell price delta number = refl

@@ -3,16 +3,14 @@
 ghost use Rattle.std.specs.Prelude.{◌≡◌, ◌+◌, ◌*◌, ◌^◌, ◌<◌, ◌≤◌, true, length};
 ghost use Rattle.iceberg_peak.specs.Peak as peaks;
 ghost use Rattle.order_kinds.specs.Order as orders;
-ghost use Rattle.order_kinds.specs.Price.{price_in_range};
 ghost use Rattle.zone_graph.specs.Route as routes;
 ghost use Rattle.zone_graph.specs.Pour as pours;
 ghost use Rattle.market_model.specs.Certificate as certificates;
 ghost use Rattle.plain_orders.specs.Histories.{HasSoundNumbers};
-ghost use Rattle.plain_orders.specs.Tallies as tallies;
 ghost use Rattle.plain_unfilled.specs.Crossing as crossing;
 
-use iceberg_peak::number_now;
-use market_model::{Kind, Lots, Order, Price, Side, Zones};
+use iceberg_peak::{number_now, price_of_peak};
+use market_model::{Kind, Lots, Order, Zones};
 use plain_orders::StandingOrder;
 
 /// The lots of the orders of a line that stand in some zones and cross a taker's price: of icebergs
@@ -84,7 +82,7 @@ fn crossing_peaks(order: &Order, peak: Lots, delta: u32, filled: u32, taker: &Or
     let total = order.quantity.0;
     let mut lots = 0;
     for number in 0..number_now(peak.0, total - 1) + 1 {
-        let price = peak_price(order.side, order.price, delta * number);
+        let price = price_of_peak(order.side, order.price, delta, number);
         lots += lots_if(
             taker.side.crosses(taker.price, price),
             peak_left(total, peak.0, filled, number),
@@ -103,16 +101,4 @@ fn peak_left(total: u32, peak: u32, filled: u32, number: u32) -> u32
     (peak * (number + 1))
         .min(total)
         .saturating_sub((peak * number).max(filled))
-}
-
-// The price that is so many cents dearer, of a sell, or cheaper, of a buy.
-fn peak_price(side: Side, price: Price, cents: u32) -> Price
-    requires allowed { price_in_range price ≡ true }
-    requires most { cents ≤ 3999600 }
-    ensures { result ≡ tallies.moved side price cents }
-{
-    match side {
-        Side::Buy => Price(price.0 - cents as i32),
-        Side::Sell => Price(price.0 + cents as i32),
-    }
 }

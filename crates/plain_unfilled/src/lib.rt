@@ -6,8 +6,6 @@
 
 mod crossing;
 mod reason;
-#[cfg(test)]
-mod tests;
 mod unfilled;
 
 pub use reason::Certificate;

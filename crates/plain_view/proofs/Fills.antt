@@ -1,6 +1,6 @@
 -- The trades of a taker, one more at a time.
 use Rattle.std.proofs.Common.{◌≡◌, ◌∙◌, inl, inr, ℕ, ◌+◌, ◌-◌, ◌<◌, ◌≤◌, ◌&&◌, Bool, true, false, List, [], ◌∷◌, ◌++◌, map, min, Some, None, nat_lt, is_some, refl, sym, ap, subst, if◌then◌else◌, arith}
-use Rattle.std.proofs.lemmas.Bool.{ltb-true}
+use Rattle.std.proofs.lemmas.Bool.{ltb-true, and_parts}
 use Rattle.std.proofs.lemmas.List.{append-nil}
 use Rattle.std.proofs.lemmas.List.Sums.{fold-append}
 use Rattle.std.proofs.Math.Seq.{append_snoc}
@@ -17,11 +17,10 @@ use Rattle.zone_graph.specs.Rooms.{room_of}
 use Rattle.zone_graph.specs.Route.{IsIn}
 use Rattle.zone_graph.specs.Steps.{IsRun}
 use Rattle.zone_graph.proofs.Membership.{IsIn-append, from_map}
+use Rattle.zone_graph.proofs.Finding.{from_find}
+use Rattle.zone_graph.proofs.Carrying.{carried-le, carried-room, carried-some, way-room, best_route-route}
 use Rattle.cut_proof.specs.Cut.{HasRoomFor}
-use Rattle.market_laws.proofs.Carrying.{best_route-route, carried-le, carried-room, carried-some, way-room}
-use Rattle.market_laws.proofs.Members.{from_find}
 use Rattle.market_laws.proofs.Repeats.{bind-some, map-some}
-use Rattle.market_laws.proofs.Tests.{and-true}
 use Rattle.route_carrying.proofs.Carrying.{after_leg}
 use Rattle.plain_view.specs.declared.filling.Fill.{Fill}
 use Rattle.plain_view.specs.declared.maker.Maker.{Maker}
@@ -56,8 +55,8 @@ next_fill-is graph side zone depth fill is e = by (nat_lt 0 depth.left) refl e
         let some_left : 0 < depth.left = ltb-true 0 depth.left left in
         let found = bind-some (fill_with graph depth.room side zone depth.left) (find (can_fill graph depth.room side zone) depth.makers) fill f in
         let maker = from_find (can_fill graph depth.room side zone) found.0 depth.makers found.1 in
-        let front = and-true (nat_lt 0 found.0.left && crosses_any side found.0) (is_some (route_with graph depth.room side zone found.0)) maker.1 in
-        let first = and-true (nat_lt 0 found.0.left) (crosses_any side found.0) front.0 in
+        let front = and_parts (nat_lt 0 found.0.left && crosses_any side found.0) (is_some (route_with graph depth.room side zone found.0)) maker.1 in
+        let first = and_parts (nat_lt 0 found.0.left) (crosses_any side found.0) front.0 in
         let some_shown : 0 < found.0.left = ltb-true 0 found.0.left first.0 in
         let route = map-some (fill_over depth.room depth.left found.0) (route_with graph depth.room side zone found.0) fill found.2 in
         let best = best_route-route graph depth.room (seller_zone side zone found.0) (buyer_zone side zone found.0) route.0 is route.1 in

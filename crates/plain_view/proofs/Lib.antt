@@ -9,7 +9,6 @@ pub mod Peaks
 pub mod Places
 pub mod Reach
 pub mod RoomsAfter
-pub mod QuietDays
 pub mod RowLemmas
 pub mod Start
 pub mod Views

@@ -1,6 +1,6 @@
 -- The line of a history of a taker: what is left of the line, in the same order.
 use Rattle.std.proofs.Common.{◌≡◌, ◌∙◌, ◌<◌, Bool, true, false, ◌&&◌, cond, List, [], ◌∷◌, ◌++◌, filter, map, refl, sym, ap, arith}
-use Rattle.std.proofs.lemmas.Bool.{lt-ltb, ltb-true}
+use Rattle.std.proofs.lemmas.Bool.{lt-ltb, ltb-true, and_parts, and_from}
 use Rattle.std.proofs.lemmas.List.{append-nil}
 use Rattle.std.proofs.lemmas.List.Elements.{filter-append}
 use Rattle.std.specs.Ordering.{nat_cmp, ordering_then}
@@ -12,14 +12,14 @@ use Rattle.order_kinds.specs.Side.{opposite, price_cmp}
 use Rattle.zone_graph.specs.Route.{IsIn}
 use Rattle.zone_graph.proofs.Membership.{from_filter}
 use Rattle.market_model.specs.declared.event.Event.{Event}
-use Rattle.market_model.specs.Lines.{in_order, line, priority_cmp, stands_in, time_cmp}
+use Rattle.market_model.specs.Lines.{line, priority_cmp, stands_in, time_cmp}
 use Rattle.market_model.specs.Orders.{Placed, Standing, is_open, left, placed, standing}
 use Rattle.market_laws.proofs.Members.{IsIn-in_order}
-use Rattle.market_laws.proofs.Tests.{and-intro, and-true}
 use Rattle.market_locality.proofs.Restrict.{filter-filter, filter-same}
 use Rattle.plain_orders.proofs.LineLaws.{filter-map, priority_weak}
 use Rattle.plain_view.proofs.Kept.{IsAfter, line-of_kind, now, now-price}
 use Rattle.plain_view.proofs.Ordered.{filter-in_order, map-in_order}
+use Rattle.zone_graph.specs.InOrder.{in_order}
 
 opposed : (side : Side) → same_side (opposite side) side ≡ false
 opposed Buy = refl
@@ -49,18 +49,18 @@ module _ (events : List Event) (contract : Contract) (side : Side) (taker : Plac
 
   stays_open : (p : Placed) → IsIn p (placed events) → stands_in V contract side p ≡ true → stands_in events contract side p ≡ true
   stays_open p i stands =
-      let both = and-true (is_open V p.name && same_contract p.order.contract contract) (same_side p.order.side side) stands in
-      let front = and-true (is_open V p.name) (same_contract p.order.contract contract) both.0 in
+      let both = and_parts (is_open V p.name && same_contract p.order.contract contract) (same_side p.order.side side) stands in
+      let front = and_parts (is_open V p.name) (same_contract p.order.contract contract) both.0 in
       let some : 0 < left V p.name = ltb-true 0 (left V p.name) front.0 in
       let most = after.closed p i in
-      and-intro (is_open events p.name && same_contract p.order.contract contract) (same_side p.order.side side)
-      (and-intro (is_open events p.name) (same_contract p.order.contract contract) (lt-ltb 0 (left events p.name) (omega (arith, some, most))) front.1) both.1
+      and_from (is_open events p.name && same_contract p.order.contract contract) (same_side p.order.side side)
+      (and_from (is_open events p.name) (same_contract p.order.contract contract) (lt-ltb 0 (left events p.name) (omega (arith, some, most))) front.1) both.1
 
   only_open : (p : Placed) → IsIn p standers → stands_in V contract side p ≡ is_open V p.name
   only_open p i =
       let stands = (from_filter (stands_in events contract side) p (placed events) i).1 in
-      let both = and-true (is_open events p.name && same_contract p.order.contract contract) (same_side p.order.side side) stands in
-      let front = and-true (is_open events p.name) (same_contract p.order.contract contract) both.0 in
+      let both = and_parts (is_open events p.name && same_contract p.order.contract contract) (same_side p.order.side side) stands in
+      let front = and_parts (is_open events p.name) (same_contract p.order.contract contract) both.0 in
       ap (λ b. is_open V p.name && same_contract p.order.contract contract && b) both.1
       ∙ ap (λ b. is_open V p.name && b && true) front.1
       ∙ and-true-true (is_open V p.name)

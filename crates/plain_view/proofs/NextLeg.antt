@@ -1,6 +1,6 @@
 -- The next leg of a taker of any quantity is its next trade.
 use Rattle.std.proofs.Common.{◌≡◌, ◌∙◌, inl, inr, ℕ, ◌<◌, Bool, true, false, ◌&&◌, cond, List, [], ◌∷◌, ◌++◌, filter, map, min, nat_lt, Option, Some, None, is_some, refl, sym, ap, if◌then◌else◌}
-use Rattle.std.proofs.lemmas.Bool.{ltb-true}
+use Rattle.std.proofs.lemmas.Bool.{ltb-true, and_parts}
 use Rattle.std.specs.List.{find}
 use Rattle.std.specs.Option.{option_and_then, option_map}
 use Rattle.order_kinds.specs.declared.contract.Contract.{Contract}
@@ -15,6 +15,7 @@ use Rattle.zone_graph.specs.Graph.{Graph, HasArc, IsGraph}
 use Rattle.zone_graph.specs.Reach.{reaches}
 use Rattle.zone_graph.specs.Route.{IsIn, best_route, carried}
 use Rattle.zone_graph.proofs.BestRoute.{best_route-rooms}
+use Rattle.zone_graph.proofs.Finding.{find-filter, find-map, from_find}
 use Rattle.market_model.specs.declared.event.Event.{Event}
 use Rattle.market_model.specs.declared.event.Event.TheVariants as event
 use Rattle.market_model.specs.Lines as lines
@@ -24,36 +25,18 @@ use Rattle.market_model.specs.Room.{room}
 use Rattle.market_model.specs.Taking.{leg_over, next_leg, trade}
 use Rattle.market_model.specs.View.{any_price, unlimited_taker}
 use Rattle.market_laws.proofs.Legs.{opposite-opposite}
-use Rattle.market_laws.proofs.Members.{from_find}
-use Rattle.market_laws.proofs.Tests.{and-true, same_name-refl}
+use Rattle.market_laws.proofs.Tests.{same_name-refl}
 use Rattle.market_locality.proofs.Restrict.{find-same}
 use Rattle.route_carrying.proofs.Carrying.{carried-rooms}
+use Rattle.plain_matching.proofs.SameRooms.{best_route-arcs}
+use Rattle.plain_matching.proofs.Zones.{on}
 use Rattle.plain_view.specs.declared.filling.Fill.{Fill}
 use Rattle.plain_view.specs.declared.maker.Maker.{Maker}
 use Rattle.plain_view.specs.Depth.{Depth, buyer_zone, can_fill, crosses_any, fill_over, fill_with, leg_of, next_fill, route_with, seller_zone}
 use Rattle.plain_view.proofs.Kept.{IsAfter, line-of_kind, now, now-price, now-shown}
 use Rattle.plain_view.proofs.LineAfter.{line-after}
-use Rattle.plain_view.proofs.Reach.{best_route-arcs}
 
 -- ---- searches
-
-find-map : {X Y : Type 0} (p : Y → Bool) (f : X → Y) (xs : List X) → find p (map f xs) ≡ option_map f (find (λ x. p (f x)) xs)
-find-map p f [] = refl
-find-map {X} {Y} p f (x ∷ xs) = go (p (f x)) (find-map p f xs)
-  where
-    go : (b : Bool) → find p (map f xs) ≡ option_map f (find (λ y. p (f y)) xs)
-        → cond b (Some (f x)) (find p (map f xs)) ≡ option_map f (cond b (Some x) (find (λ y. p (f y)) xs))
-    go true rest = refl
-    go false rest = rest
-
-find-filtered : {X : Type 0} (p q : X → Bool) (xs : List X) → find p (filter q xs) ≡ find (λ x. q x && p x) xs
-find-filtered p q [] = refl
-find-filtered {X} p q (x ∷ xs) = go (q x) (p x) refl (find-filtered p q xs)
-  where
-    go : (a b : Bool) → p x ≡ b → find p (filter q xs) ≡ find (λ y. q y && p y) xs
-        → find p (cond a (x ∷ filter q xs) (filter q xs)) ≡ cond (a && b) (Some x) (find (λ y. q y && p y) xs)
-    go true b e rest = ap (λ t. cond t (Some x) (find p (filter q xs))) e ∙ ap (cond b (Some x)) rest
-    go false b e rest = rest
 
 find-last : {X : Type 0} (p : X → Bool) (xs : List X) (y : X) → ((x : X) → IsIn x xs → p x ≡ false) → find p (xs ++ y ∷ []) ≡ cond (p y) (Some y) None
 find-last p [] y none = refl
@@ -64,10 +47,6 @@ find-last p (x ∷ xs) y none = ap (λ b. cond b (Some x) (find p (xs ++ y ∷ [
 -- a maker that an order of the line is now
 abbrev pub maker_now : List Event → Standing → Maker
 maker_now V s = record { name = s.name; zone = s.order.zone; price = s.price; left = left V s.name }
-
--- an order, on a side
-on : Side → Standing → Standing
-on side own = record own { order = record (own.order) { side = side } }
 
 seller-on : (side : Side) (own other : Standing) (maker : Maker) → other.order.zone ≡ maker.zone
     → lines.seller_zone (on (opposite side) own) other ≡ seller_zone side own.order.zone maker
@@ -161,7 +140,7 @@ module _ (graph : Graph) (is : IsGraph graph) (events : List Event) (contract : 
       ∙ ap (find (can_trade graph rooms own)) (line-after events contract side (taker_of name contract side zone) refl V after)
       ∙ find-map (can_trade graph rooms own) (now V) (filter (λ (s : Standing). is_open V s.name) (line events contract side))
       ∙ ap (option_map (now V)) (
-      find-filtered (λ s. can_trade graph rooms own (now V s)) (λ (s : Standing). is_open V s.name) (line events contract side)
+      find-filter (λ s. can_trade graph rooms own (now V s)) (λ (s : Standing). is_open V s.name) (line events contract side)
       ∙ find-same (λ (s : Standing). is_open V s.name && can_trade graph rooms own (now V s)) (λ s. can_fill graph depth.room side zone (maker_now V s)) (line events contract side) same-test)
 
   maker-found : find (can_fill graph depth.room side zone) depth.makers ≡ option_map (maker_now V) (find (λ s. can_fill graph depth.room side zone (maker_now V s)) (line events contract side))
@@ -182,8 +161,8 @@ module _ (graph : Graph) (is : IsGraph graph) (events : List Event) (contract : 
       go None e = refl
       go (Some s) e =
           let found = from_find (λ t. can_fill graph depth.room side zone (maker_now V t)) s (line events contract side) e in
-          let front = and-true (nat_lt 0 (left V s.name) && crosses_any side (maker_now V s)) (is_some (route_with graph depth.room side zone (maker_now V s))) found.1 in
-          let first = and-true (nat_lt 0 (left V s.name)) (crosses_any side (maker_now V s)) front.0 in
+          let front = and_parts (nat_lt 0 (left V s.name) && crosses_any side (maker_now V s)) (is_some (route_with graph depth.room side zone (maker_now V s))) found.1 in
+          let first = and_parts (nat_lt 0 (left V s.name)) (crosses_any side (maker_now V s)) front.0 in
           same-trade s found.0 (ltb-true 0 (left V s.name) first.0)
 
   taker-found : open_order V name ≡ cond (nat_lt 0 (left V name)) (Some (taker_of name contract side zone)) None

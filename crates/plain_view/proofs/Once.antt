@@ -13,12 +13,13 @@ use Rattle.order_kinds.specs.Same.{same_name}
 use Rattle.zone_graph.specs.Pour.{lots_if}
 use Rattle.zone_graph.specs.Route.{IsIn}
 use Rattle.market_model.specs.declared.event.Event.{Event}
-use Rattle.market_model.specs.Lines.{in_order, line, priority_cmp, put_in_order, stands_in}
+use Rattle.market_model.specs.Lines.{line, priority_cmp, stands_in}
 use Rattle.market_model.specs.Orders.{Placed, Standing, placed, placed_by, standing, taken_off_by}
 use Rattle.market_model.specs.View.{hidden_withdrawn}
 use Rattle.market_laws.proofs.Names.{enters_as, times_entered}
 use Rattle.market_laws.proofs.Tests.{same_name-eq, same_name-refl}
 use Rattle.market_laws.proofs.Unique.{enters-placed}
+use Rattle.zone_graph.specs.InOrder.{put_in_order, in_order}
 
 -- a sum over a list in order is that over the list
 sum-put : {X : Type 0} (f : X → ℕ) (cmp : X → X → Ordering) (ys : List X) (x : X) → sum_by f (put_in_order cmp ys x) ≡ f x + sum_by f ys

@@ -5,9 +5,9 @@ use Rattle.std.specs.Ordering.{is_lt}
 use Rattle.std.specs.declared.cmp.Ordering.{Ordering}
 use Rattle.zone_graph.specs.Route.{IsIn}
 use Rattle.zone_graph.proofs.Membership.{from_filter}
-use Rattle.market_model.specs.Lines.{in_order, put_in_order}
-use Rattle.market_laws.proofs.Members.{from_put_in_order}
 use Rattle.plain_orders.proofs.Stable.{Ascends, ascends-put, before_too}
+use Rattle.zone_graph.specs.InOrder.{put_in_order, in_order}
+use Rattle.zone_graph.proofs.InOrder.{from_put_in_order}
 
 module _ {X : Type 0} (cmp : X → X → Ordering) (o : IsStrictWeakOrder (λ (x y : X). is_lt (cmp x y))) where
   -- an item that comes before all others stands in front

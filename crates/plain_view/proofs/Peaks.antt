@@ -7,6 +7,7 @@ use Rattle.order_kinds.specs.declared.order.Order.{Order}
 use Rattle.order_kinds.specs.Order.{peak_price}
 use Rattle.iceberg_peak.proofs.PeakLemmas.{filled-within_peak, peak_number-stays}
 use Rattle.market_model.specs.Orders.{ends_peak, price_now, shown_lots}
+use Rattle.plain_matching.proofs.Orders.{of_kind}
 
 -- no peak ends before all that shows is filled
 pub peak-open : (k : Kind) (filled left taken : ℕ) → 1 ≤ taken → taken < shown_lots k filled left → ends_peak k (filled + taken) ≡ false
@@ -16,10 +17,6 @@ peak-open (kind.Iceberg peak delta) filled left taken some fewer =
 peak-open kind.Limit filled left taken some fewer = refl
 peak-open kind.Ioc filled left taken some fewer = refl
 peak-open kind.Fok filled left taken some fewer = refl
-
--- the price stays until then
-of_kind : Kind → Order → Order
-of_kind k order = record order { kind = k }
 
 price-of_kind : (k : Kind) (order : Order) (filled left taken : ℕ) → taken < shown_lots k filled left → price_now (of_kind k order) (filled + taken) ≡ price_now (of_kind k order) filled
 unfolding of_kind

@@ -1,7 +1,7 @@
 -- Lists that are changed place by place.
 use Rattle.std.proofs.Common.{◌≡◌, ◌∙◌, ℕ, zero, suc, ◌+◌, ◌<◌, List, [], ◌∷◌, ◌++◌, drop, get_or, length, map, take, add-one, refl, sym, ap, subst, arith, slice_set}
 use Rattle.zone_graph.specs.Route.{IsIn}
-use Rattle.plain_capacity.proofs.Carries.{IsIn-at}
+use Rattle.zone_graph.proofs.Places.{at_place}
 
 -- the items up to a place are changed
 abbrev pub changed_to : {X : Type 0} → (X → X) → List X → ℕ → List X
@@ -31,4 +31,4 @@ pub at-now : {X : Type 0} (f : X → X) (xs ys : List X) (i : ℕ) (d : X) → i
 at-now f xs ys i d within are = ap (λ zs. get_or zs i d) are ∙ at-place f xs i d within
 
 pub at-now-in : {X : Type 0} (f : X → X) (xs ys : List X) (i : ℕ) (d : X) → i < length xs → ys ≡ changed_to f xs i → IsIn (get_or ys i d) xs
-at-now-in f xs ys i d within are = subst (λ x. IsIn x xs) (sym (at-now f xs ys i d within are)) (IsIn-at xs i d within)
+at-now-in f xs ys i d within are = subst (λ x. IsIn x xs) (sym (at-now f xs ys i d within are)) (at_place xs i d within)

@@ -9,20 +9,14 @@ use Rattle.order_kinds.specs.Same.{same_side}
 use Rattle.zone_graph.specs.declared.route.Arc.{Arc}
 use Rattle.zone_graph.specs.Graph.{Graph, HasArc, HasZone, IsGraph}
 use Rattle.zone_graph.specs.Route.{IsIn, best_route}
-use Rattle.market_laws.proofs.Carrying.{best_route-route}
-use Rattle.market_laws.proofs.Members.{from_find}
+use Rattle.zone_graph.proofs.Finding.{from_find}
+use Rattle.zone_graph.proofs.Carrying.{best_route-route}
 use Rattle.market_locality.proofs.Restrict.{find-same}
 use Rattle.cut_proof.proofs.Ways.{way_has_arc}
 use Rattle.plain_routes.specs.declared.zone_set.ZoneSet.{ZoneSet}
 use Rattle.plain_routes.specs.Reached.{has_zone, is_reached}
 use Rattle.plain_view.specs.declared.maker.Maker.{Maker}
 use Rattle.plain_view.specs.Depth.{AreInZones, buyer_zone, can_fill, crosses_any, fill_with, is_in_reach, next_fill, route_with, seller_zone}
-
--- the arcs of a best route are the graph's
-pub best_route-arcs : (graph : Graph) (room : Arc → ℕ) (from to : ℕ) (route : List Arc) → IsGraph graph → best_route graph room from to ≡ Some route
-    → (arc : Arc) → IsIn arc route → HasArc graph arc
-best_route-arcs graph room from to route is found arc i =
-    way_has_arc graph room from to route arc (best_route-route graph room from to route is found).way i
 
 pub seller-known : (graph : Graph) (side : Side) (zone : ℕ) (maker : Maker) → HasZone graph zone → HasZone graph maker.zone → HasZone graph (seller_zone side zone maker)
 seller-known graph Buy zone maker own other = own

@@ -1,7 +1,7 @@
 -- The rooms after a leg that they have room for.
 use Rattle.std.proofs.Common.{◌≡◌, ◌∙◌, ◌⊎◌, inl, inr, ℕ, ◌+◌, ◌-◌, ◌≤◌, Bool, true, false, ◌&&◌, not, List, [], ◌∷◌, fold, map, min, ℤ, pos, negsuc, ◌-ℤ◌, ◌*◌, ◌||◌, nat_eq, eq-eqb, refl, sym, ap, subst, if◌then◌else◌, arith}
 use Rattle.std.proofs.lemmas.Int.{ints}
-use Rattle.std.proofs.lemmas.Bool.{true≢false}
+use Rattle.std.proofs.lemmas.Bool.{true≢false, and_parts, and_from}
 use Rattle.std.specs.List.{list_any}
 use Rattle.order_kinds.specs.declared.contract.Contract.{Contract}
 use Rattle.order_kinds.specs.declared.contract.Part.{Part}
@@ -13,6 +13,7 @@ use Rattle.zone_graph.specs.declared.route.Arc.{Arc}
 use Rattle.zone_graph.specs.Pour.{lots_if, opposite_arc, room_after, uses}
 use Rattle.zone_graph.specs.Route.{IsIn}
 use Rattle.zone_graph.proofs.Membership.{from_map}
+use Rattle.zone_graph.proofs.Arcs.{IsIn-uses, if_free, opposite-twice}
 use Rattle.market_model.specs.declared.event.Event.{Event}
 use Rattle.market_model.specs.declared.event.Event.TheVariants as event
 use Rattle.market_model.specs.declared.event.Leg.{Leg}
@@ -20,24 +21,13 @@ use Rattle.market_model.specs.Capacity.{allocated, allocated_by, offered}
 use Rattle.market_model.specs.History.{and_then}
 use Rattle.market_model.specs.Room.{halt_by, is_halted, is_open_phase, phase_by, least, lots_of, phase_of, quarter_room, room}
 use Rattle.market_laws.proofs.Capacities.{allocated-more, last_said-more, offered-more}
-use Rattle.market_laws.proofs.Uses.{IsWithinOffers, contract_has-is, free, quarter_room-le, room-le, uses-is}
-use Rattle.zone_search.proofs.Arcs.{opposite-twice}
+use Rattle.market_laws.proofs.Uses.{IsWithinOffers, contract_has-is, free, lots_of-is, lots_of-remaining, quarter_room-le, room-le}
 use Rattle.quarter_capacity.specs.Capacity.{flow_of, remaining_of}
 use Rattle.order_kinds.specs.declared.phase.Phase.TheVariants as phase
-use Rattle.market_laws.proofs.Tests.{and-true, and-intro}
 
 -- a border is not halted and the hour is open
 abbrev is_free : List Event → Arc → Quarter → Bool
 is_free events arc quarter = is_open_phase (phase_of events quarter.hour) && not (is_halted events arc.border quarter.hour)
-
-lots_of-is : (z : ℤ) (more less : ℕ) → z ≡ pos more -ℤ pos less → lots_of z ≡ more - less
-lots_of-is (pos n) more less e = omega (arith, ints)
-lots_of-is (negsuc n) more less e = omega (arith, ints)
-
-lots_of-remaining : (offer there back : ℕ) → lots_of (remaining_of offer (flow_of there back)) ≡ offer + back - there
-lots_of-remaining offer there back =
-    let same : remaining_of offer (flow_of there back) ≡ pos (offer + back) -ℤ pos there = omega (arith, ints) in
-    lots_of-is (remaining_of offer (flow_of there back)) (offer + back) there same
 
 quarter_room-is : (events : List Event) (arc : Arc) (quarter : Quarter)
     → quarter_room events arc quarter ≡ (if is_free events arc quarter then free events quarter arc else 0)
@@ -58,7 +48,7 @@ pub quarter-of_contract : (contract : Contract) (quarter : Quarter) → IsIn qua
 quarter-of_contract contract quarter i =
     let x = from_map (quarter_of contract.hour) quarter (quarters contract.part) i in
     subst (λ (q : Quarter). contract_has contract q ≡ true) (sym x.2)
-    (and-intro (nat_eq contract.hour contract.hour) (covers contract.part x.0) (eq-eqb contract.hour contract.hour refl) (any-in x.0 (quarters contract.part) x.1))
+    (and_from (nat_eq contract.hour contract.hour) (covers contract.part x.0) (eq-eqb contract.hour contract.hour refl) (any-in x.0 (quarters contract.part) x.1))
 
 -- a contract has a quarter
 some_quarter : (p : Part) → (first : ℕ) × (rest : List ℕ) × (quarters p ≡ first ∷ rest)
@@ -78,10 +68,6 @@ least-shift : (f g : Quarter → ℕ) (more less : ℕ) (q : Quarter) (qs : List
     → ((x : Quarter) → IsIn x (q ∷ qs) → g x ≡ (f x + more) - less) → least (map g (q ∷ qs)) ≡ (least (map f (q ∷ qs)) + more) - less
 least-shift f g more less q qs each = fold-shift f g more less (f q) (g q) qs (each q (inl refl)) (λ x i. each x (inr i))
 
-if_free : (b : Bool) (lots most : ℕ) → (b ≡ true → lots ≤ most) → lots_if b lots ≤ most
-if_free true lots most h = h refl
-if_free false lots most h = omega arith
-
 module _ (events : List Event) (contract : Contract) (leg : Leg) (within : IsWithinOffers events) (some : 1 ≤ leg.lots)
     (has : (arc : Arc) → IsIn arc leg.route → leg.lots ≤ room events (contract_quarters contract) arc) where
   abbrev traded : Event
@@ -89,8 +75,8 @@ module _ (events : List Event) (contract : Contract) (leg : Leg) (within : IsWit
 
   uses-free : (quarter : Quarter) (arc : Arc) → allocated_by quarter arc traded ≤ free events quarter arc
   uses-free quarter arc = if_free (contract_has contract quarter && uses leg.route arc) leg.lots (free events quarter arc) (λ h.
-      let both = and-true (contract_has contract quarter) (uses leg.route arc) h in
-      let most = has arc (uses-is leg.route arc both.1) in
+      let both = and_parts (contract_has contract quarter) (uses leg.route arc) h in
+      let most = has arc (IsIn-uses leg.route arc both.1) in
       let in_quarter = room-le events (contract_quarters contract) arc quarter (contract_has-is contract quarter both.0) in
       let in_free = quarter_room-le events arc quarter in omega arith)
 
@@ -135,7 +121,7 @@ module _ (events : List Event) (contract : Contract) (leg : Leg) (within : IsWit
           back : (u : Bool) → uses leg.route (opposite_arc arc) ≡ u → 0 ≡ (0 + lots_if u leg.lots) - lots_if (uses leg.route arc) leg.lots
           back false u = omega arith
           back true u =
-              let most = has (opposite_arc arc) (uses-is leg.route (opposite_arc arc) u) in
+              let most = has (opposite_arc arc) (IsIn-uses leg.route (opposite_arc arc) u) in
               let in_quarter = room-le events (contract_quarters contract) (opposite_arc arc) quarter i in
               let none : quarter_room events (opposite_arc arc) quarter ≡ 0 =
               quarter_room-is events (opposite_arc arc) quarter ∙ ap (λ b. if b then free events quarter (opposite_arc arc) else 0) e in

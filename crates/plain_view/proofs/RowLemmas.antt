@@ -1,7 +1,7 @@
 -- The rows that trades make, one after the other, are those of the market's definition.
 use Rattle.std.proofs.Common.{◌≡◌, ◌∙◌, ℕ, ◌+◌, Bool, true, false, ◌||◌, List, [], ◌∷◌, ◌++◌, fold, map, sum_by, append_assoc, refl, sym, ap, if◌then◌else◌, arith}
-use Rattle.std.proofs.lemmas.Bool.{true≢false}
-use Rattle.std.proofs.lemmas.List.{append-nil}
+use Rattle.std.proofs.lemmas.Bool.{or_parts, true≢false}
+use Rattle.std.proofs.lemmas.List.{append-nil, map_push}
 use Rattle.std.proofs.lemmas.List.Sums.{sum_by_push}
 use Rattle.std.specs.List.{list_any}
 use Rattle.order_kinds.specs.declared.order.OrderName.{OrderName}
@@ -23,10 +23,6 @@ same_name-sym a b = go (same_name a b) (same_name b a) refl refl
     go false false e f = refl
     go true false e f = absurd (true≢false (sym (same_name-refl b) ∙ ap (same_name b) (sym (same_name-eq a b e)) ∙ f))
     go false true e f = absurd (true≢false (sym (same_name-refl a) ∙ ap (same_name a) (sym (same_name-eq b a f)) ∙ e))
-
-or-false : (a b : Bool) → (a || b) ≡ false → (a ≡ false) × (b ≡ false)
-or-false true b h = absurd (true≢false h)
-or-false false b h = (refl, h)
 
 -- the lots of the legs of a maker
 abbrev lots_with : List Leg → OrderName → ℕ
@@ -73,12 +69,8 @@ rows-more legs leg (first ∷ kept) =
 pub rows-same : (name : OrderName) (lots : ℕ) (rows : List MakerRow) → list_any (is_row_of name) rows ≡ false → map (with_lots name lots) rows ≡ rows
 rows-same name lots [] none = refl
 rows-same name lots (row ∷ rows) none =
-    let both = or-false (same_name row.maker name) (list_any (is_row_of name) rows) none in
+    let both = or_parts (same_name row.maker name) (list_any (is_row_of name) rows) none in
     rw both.0 (ap (λ rs. row ∷ rs) (rows-same name lots rows both.1))
-
-map-append-one : {X Y : Type 0} (f : X → Y) (xs : List X) (x : X) → map f (xs ++ x ∷ []) ≡ map f xs ++ f x ∷ []
-map-append-one f [] x = refl
-map-append-one f (y ∷ xs) x = ap (λ ys. f y ∷ ys) (map-append-one f xs x)
 
 any-append-one : {X : Type 0} (p : X → Bool) (xs : List X) (x : X) → list_any p (xs ++ x ∷ []) ≡ (list_any p xs || (p x || false))
 any-append-one p [] x = refl
@@ -105,8 +97,8 @@ covers-more legs kept leg covers name = go (has_maker leg.maker kept) refl
         by false f = refl
         by true f = absurd (true≢false (sym e ∙ ap (λ n. has_maker n kept) (same_name-eq leg.maker name f) ∙ absent))
     go false e absent =
-        let both = or-false (has_maker name kept) (same_name leg.maker name || false) (sym (any-append-one (λ (other : Leg). same_name other.maker name) kept leg) ∙ absent) in
-        none both.0 (or-false (same_name leg.maker name) false both.1).0
+        let both = or_parts (has_maker name kept) (same_name leg.maker name || false) (sym (any-append-one (λ (other : Leg). same_name other.maker name) kept leg) ∙ absent) in
+        none both.0 (or_parts (same_name leg.maker name) false both.1).0
 
 module _ (taker : OrderName) where
   fill-more : (legs kept : List Leg) (fill : Fill) → Covers legs kept
@@ -126,7 +118,7 @@ module _ (taker : OrderName) where
           ∙ ap (λ (n : ℕ). map (named_row (legs ++ leg_of taker fill ∷ [])) kept ++ record { maker = fill.maker; row = record { price = fill.price; lots = n } } ∷ [])
           (sym (lots_with-more legs (leg_of taker fill) fill.maker ∙ ap (λ b. lots_with legs fill.maker + lots_if b fill.lots) (same_name-refl fill.maker)
           ∙ (let zero_lots = covers fill.maker e in omega (arith, zero_lots))))
-          ∙ sym (map-append-one (named_row (legs ++ leg_of taker fill ∷ [])) kept (leg_of taker fill))
+          ∙ sym (map_push (named_row (legs ++ leg_of taker fill ∷ [])) kept (leg_of taker fill))
 
   rows-fold : (legs kept : List Leg) (fills : List Fill) → Covers legs kept
       → fold with_fill (map (named_row legs) kept) fills ≡ map (named_row (legs ++ map (leg_of taker) fills)) (fold keep_first kept (map (leg_of taker) fills))

@@ -9,7 +9,5 @@ mod filling;
 mod local_view;
 mod maker;
 mod rows;
-#[cfg(test)]
-mod tests;
 
 pub use local_view::view;

@@ -1,5 +1,5 @@
 use Rattle.std.proofs.Common.{subst, sym}
-use Rattle.plain_matching.proofs.Places.{item-IsIn}
+use Rattle.zone_graph.proofs.Places.{item_at_place}
 use Rattle.plain_blocks.specs.Meeting.{Meet}
 use Rattle.plain_blocks.proofs.deal.deal_with_first.Goals as goal
 
@@ -7,5 +7,5 @@ pub deal-requires : goal.deal-requires
 deal-requires c = record {
   meet = subst (λ events. Meet c.args.grid.now events c.args.own.now c.other-item.result) (sym c.loop-other.invariant.same)
       (c.requires.meets.each c.other-item.result
-      (item-IsIn c.args.line.now c.loop-other.other-index c.other-item.result c.loop-other-test.true c.other-item.is));
+      (item_at_place c.args.line.now c.loop-other.other-index c.other-item.result c.loop-other-test.true c.other-item.is));
 }

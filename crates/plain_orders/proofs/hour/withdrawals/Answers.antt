@@ -1,17 +1,11 @@
-use Rattle.std.proofs.Common.{◌∙◌, ◌≡◌, ◌+◌, List, ap, arith, filter, length, map, refl, sym, take, Some, None}
+use Rattle.std.proofs.Common.{◌∙◌, ◌≡◌, ◌+◌, ap, arith, filter, length, map, refl, sym, take, Some, None}
 use Rattle.std.specs.Vec.{vec_len}
-use Rattle.order_kinds.specs.declared.order.OrderName.{OrderName}
-use Rattle.market_model.specs.declared.event.Event.{Event}
-use Rattle.market_model.specs.declared.event.Event.TheVariants as event
-use Rattle.market_model.specs.Orders.{is_open, left, name_given}
+use Rattle.market_model.specs.Orders.{is_open, name_given}
+use Rattle.market_laws.proofs.Changes.{withdrawn}
 use Rattle.plain_orders.proofs.Histories.{at_place}
 use Rattle.plain_orders.proofs.Listing.{filtered-listed-more, filtered-same, listed-same, name-at, told-at}
 use Rattle.plain_orders.proofs.hour.withdrawals.Goals as goal
 use Rattle.plain_orders.proofs.hour.withdrawals.Goals.{in-Some+then-lots-gt0+in_ok-push-in-Some, in-Some+else-lots-gt0, in-None}
-
--- what is left of an order or block is withdrawn
-abbrev withdrawn : List Event → OrderName → Event
-withdrawn events name = event.Withdrawn name (left events name)
 
 pub index-requires : goal.index-requires
 index-requires c =

@@ -2,12 +2,12 @@ use Rattle.std.proofs.Common.{◌≡◌, ◌∙◌, ap, filter, rules}
 use Rattle.std.proofs.lemmas.List.{take_all}
 use Rattle.std.proofs.lemmas.Fn.{always_returns_same}
 use Rattle.std.specs.Ordering.{is_lt}
-use Rattle.market_model.specs.Lines.{in_order}
 use Rattle.market_model.specs.Blocks.{StandingBlock, block_priority_cmp}
 use Rattle.plain_orders.specs.Listed.{is_in_block_line}
 use Rattle.plain_orders.proofs.LineLaws.{block_priority_weak}
 use Rattle.plain_orders.proofs.Stable.{sorted-in_order}
 use Rattle.plain_orders.proofs.lines.block_line.Goals as goal
+use Rattle.zone_graph.specs.InOrder.{in_order}
 
 pub returns : goal.returns
 returns c =

@@ -2,12 +2,13 @@ use Rattle.std.proofs.Common.{◌≡◌, ◌∙◌, ap, filter, rules}
 use Rattle.std.proofs.lemmas.List.{take_all}
 use Rattle.std.proofs.lemmas.Fn.{always_returns_same}
 use Rattle.std.specs.Ordering.{is_lt}
-use Rattle.market_model.specs.Lines.{in_order, priority_cmp}
+use Rattle.market_model.specs.Lines.{priority_cmp}
 use Rattle.market_model.specs.Orders.{Standing}
 use Rattle.plain_orders.specs.Listed.{is_in_line}
 use Rattle.plain_orders.proofs.LineLaws.{priority_weak}
 use Rattle.plain_orders.proofs.Stable.{sorted-in_order}
 use Rattle.plain_orders.proofs.lines.line.Goals as goal
+use Rattle.zone_graph.specs.InOrder.{in_order}
 
 pub returns : goal.returns
 returns c =

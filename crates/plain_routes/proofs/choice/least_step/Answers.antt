@@ -7,5 +7,5 @@ use Rattle.plain_routes.proofs.choice.least_step.Goals as goal
 pub loop-border-preserved : goal.loop-border-preserved
 loop-border-preserved c =
     none_more c.args.grid.now c.loop-border.border (is_step c.args.grid.now (room_of c.args.rooms.now) c.args.distances.now c.args.zone c.args.distance)
-    c.arc_over-forward.result c.arc_over-backward.result c.arc_over-forward.ensures c.arc_over-backward.ensures
+    c.over-forward.result c.over-backward.result c.over-forward.ensures c.over-backward.ensures
     (sym c.is_step.ensures ∙ c.if-is_step.false) (sym c.is_step-in-loop-border.ensures ∙ c.if-is_step-2.false) c.loop-border.invariant

@@ -3,8 +3,8 @@ use Rattle.zone_graph.specs.declared.route.Arc.{Arc}
 use Rattle.zone_graph.specs.Graph.{Graph, HasArc, border_count, start_of}
 use Rattle.zone_graph.specs.Grid.{IsGrid}
 use Rattle.zone_graph.specs.Rooms.{room_of}
+use Rattle.zone_graph.proofs.GridLemmas.{start_within}
 use Rattle.zone_search.specs.Distance.{directed_room}
-use Rattle.cut_proof.proofs.ReachLaws.{start_within}
 use Rattle.plain_routes.proofs.Passes.{border_passed, border_told}
 use Rattle.plain_routes.proofs.rounds.find_next.Goals as goal
 
@@ -22,13 +22,13 @@ loop-border-preserved c =
     let half_size : length c.find_over-forward.new.distances ≡ 64 = omega arith in
     record {
       passed = border_passed c.args.grid.now room c.args.round c.requires.round c.args.distances.now c.loop-border.distances c.find_over-forward.new.distances c.find_over-backward.new.distances
-          c.loop-border.border c.arc_over.result c.arc_over-in-loop-border.result c.find_over-forward.result c.find_over-backward.result
-          c.arc_over.ensures c.arc_over-in-loop-border.ensures known places size half_size
+          c.loop-border.border c.over.result c.over-in-loop-border.result c.find_over-forward.result c.find_over-backward.result
+          c.over.ensures c.over-in-loop-border.ensures known places size half_size
           c.find_over-forward.ensures.found c.find_over-forward.ensures.distances c.find_over-backward.ensures.found c.find_over-backward.ensures.distances
           c.loop-border.invariant.passed;
       told = border_told c.args.grid.now room c.args.round c.requires.round c.args.distances.now c.loop-border.distances c.find_over-forward.new.distances c.find_over-backward.new.distances
-          c.loop-border.border c.arc_over.result c.arc_over-in-loop-border.result c.find_over-forward.result c.find_over-backward.result
-          c.arc_over.ensures c.arc_over-in-loop-border.ensures known places size half_size
+          c.loop-border.border c.over.result c.over-in-loop-border.result c.find_over-forward.result c.find_over-backward.result
+          c.over.ensures c.over-in-loop-border.ensures known places size half_size
           c.find_over-forward.ensures.found c.find_over-forward.ensures.distances c.find_over-backward.ensures.found c.find_over-backward.ensures.distances
           c.loop-border.found c.loop-border.invariant.told;
     }

@@ -1,12 +1,12 @@
 use Rattle.std.proofs.Common.{◌∙◌, ap, sum_by, sym}
 use Rattle.std.proofs.lemmas.List.{take_all}
+use Rattle.zone_graph.proofs.Places.{item_at_place}
 use Rattle.plain_unfilled.specs.Crossing.{lots_inside}
 use Rattle.plain_unfilled.proofs.Crosses.{inside-sum}
-use Rattle.plain_unfilled.proofs.Lines.{at-IsIn}
 use Rattle.plain_unfilled.proofs.crossing.crossing_lots_inside.Goals as goal
 
 pub lots_inside-requires : goal.lots_inside-requires
-lots_inside-requires c = c.requires.sound.each c.other-item.result (at-IsIn c.args.line.now c.loop-other.other-index c.other-item.result c.loop-other-test.true c.other-item.is)
+lots_inside-requires c = c.requires.sound.each c.other-item.result (item_at_place c.args.line.now c.loop-other.other-index c.other-item.result c.loop-other-test.true c.other-item.is)
 
 pub returns-clause-lots : goal.returns-clause-lots
 returns-clause-lots c =

@@ -2,31 +2,26 @@ use Rattle.std.proofs.Common.{◌≡◌, ◌∙◌, ◌<◌, ◌≤◌, refl, ap
 use Rattle.order_kinds.specs.Order.{peak_count}
 use Rattle.order_kinds.specs.Side.{crosses}
 use Rattle.zone_graph.specs.Pour.{lots_if}
+use Rattle.plain_orders.proofs.Changes.{peaks-sound}
 use Rattle.plain_unfilled.specs.Crossing.{crossing_peak, crossing_peaks}
 use Rattle.plain_unfilled.proofs.Crosses.{lots_if-most}
-use Rattle.plain_unfilled.proofs.Peaks.{change-within, moved-peak, peaks-more, peaks-sound}
+use Rattle.plain_unfilled.proofs.Peaks.{peaks-more, price-within}
 use Rattle.plain_unfilled.proofs.crossing.crossing_peaks.Goals as goal
 
 pub loop-number-init : goal.loop-number-init
 unfolding crossing_peaks
 loop-number-init c = record { lots = refl; most = omega arith }
 
-pub overflow_mul-delta : goal.overflow_mul-delta
-overflow_mul-delta c =
+pub price_of_peak-price-requires : goal.price_of_peak-price-requires
+price_of_peak-price-requires c =
     let within : c.loop-number.number < peak_count c.args.order.now.quantity.0 c.args.peak.0 = omega arith in
-    omega (arith, change-within c.args.order.now c.args.peak c.args.delta c.requires.sound c.requires.kind c.loop-number.number within)
-
-pub peak_price-price-requires-clause-most : goal.peak_price-price-requires-clause-most
-peak_price-price-requires-clause-most c =
-    let within : c.loop-number.number < peak_count c.args.order.now.quantity.0 c.args.peak.0 = omega arith in
-    change-within c.args.order.now c.args.peak c.args.delta c.requires.sound c.requires.kind c.loop-number.number within
+    price-within c.args.order.now c.args.peak c.args.delta c.requires.sound c.requires.kind c.loop-number.number within
 
 pub loop-number-preserved : goal.loop-number-preserved
 loop-number-preserved c =
     let order = c.args.order.now in
     let taker = c.args.taker.now in
-    let price = c.peak_price-price.ensures ∙ moved-peak order.side order.price c.args.delta c.loop-number.number in
-    let crossing = c.crosses.ensures ∙ ap (crosses taker.side taker.price) price in
+    let crossing = c.crosses.ensures ∙ ap (crosses taker.side taker.price) c.price_of_peak-price.ensures in
     let here : c.lots_if-lots.result ≡ crossing_peak taker order c.args.peak.0 c.args.delta c.args.filled c.loop-number.number =
     c.lots_if-lots.ensures ∙ ap₂ lots_if crossing c.peak_left.ensures.lots in
     let most : c.lots_if-lots.result ≤ c.peak_left.result = omega (arith, c.lots_if-lots.ensures, lots_if-most c.crosses.result c.peak_left.result) in
