@@ -6,6 +6,3 @@
 mod requests;
 
 pub use requests::{test_offer, test_request};
-
-#[cfg(test)]
-mod tests;

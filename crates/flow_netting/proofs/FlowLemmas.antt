@@ -5,14 +5,9 @@ use Rattle.std.proofs.lemmas.Int.{ints}
 use Rattle.quarter_capacity.specs.Row.{Row, flow, offered, with_offered, with_taken}
 use Rattle.zone_graph.specs.declared.route.Arc.{Arc}
 use Rattle.zone_graph.specs.Pour.{lots_if, same_arc, same_bool}
+use Rattle.zone_graph.proofs.Places.{at_any}
 use Rattle.flow_netting.specs.Border.{Border, idle_border, row_in}
 use Rattle.flow_netting.specs.Flows.{added_by, border_at, flow_at, offered_at, row_at}
-
--- an item that is there is the same whatever stands for one that is not
-pub get_or-any : {X : Type 0} (xs : List X) (i : ℕ) (d e : X) → i < length xs → get_or xs i d ≡ get_or xs i e
-get_or-any [] i d e within = absurd (let no : ⊥ = omega arith in no)
-get_or-any (x ∷ xs) zero d e within = refl
-get_or-any (x ∷ xs) (suc i) d e within = get_or-any xs i d e (omega arith)
 
 -- a list with one border put in place
 pub border_at-set : (borders : List Border) (i j : ℕ) (border : Border) → i < length borders
@@ -50,7 +45,7 @@ pub flow_at-set : (borders : List Border) (arc other : Arc) (d border : Border) 
 flow_at-set borders arc other d border number lots counts within taken =
     ap (λ row. flow row other.forward) (row_at-set borders arc other border number within)
     ∙ by (arc.border == other.border) refl counts
-    (taken ∙ ap (λ b. if counts then with_taken (row_in b number) arc.forward lots else row_in b number) (get_or-any borders arc.border d idle_border within))
+    (taken ∙ ap (λ b. if counts then with_taken (row_in b number) arc.forward lots else row_in b number) (at_any borders arc.border d idle_border within))
   where
     by : (b : Bool) → (arc.border == other.border) ≡ b → (c : Bool)
         → row_in border number ≡ (if c then with_taken (row_at borders arc number) arc.forward lots else row_at borders arc number)
@@ -91,7 +86,7 @@ offered_at-set borders arc other d border number lots counts within offered_now 
     by true e =
         ap (λ row. offered row other.forward)
         (offered_now
-        ∙ ap (λ b. if counts then with_offered (row_in b number) arc.forward lots else row_in b number) (get_or-any borders arc.border d idle_border within)
+        ∙ ap (λ b. if counts then with_offered (row_in b number) arc.forward lots else row_in b number) (at_any borders arc.border d idle_border within)
         ∙ ap (λ k. if counts then with_offered (row_in (border_at borders k) number) arc.forward lots else row_in (border_at borders k) number) (eqb-true arc.border other.border e))
         ∙ offered_if (row_at borders other number) arc.forward other.forward counts lots
     by false e = refl

@@ -8,10 +8,10 @@ use Rattle.std.proofs.lemmas.List.FromFn.{filter_of_map_range_with_len_more}
 use Rattle.std.proofs.lemmas.List.Sums.{fold_push}
 use Rattle.zone_graph.specs.declared.route.Arc.{Arc}
 use Rattle.zone_graph.specs.Pour.{same_bool}
+use Rattle.zone_graph.proofs.Places.{at_any}
 use Rattle.market_model.specs.Room.{least}
 use Rattle.flow_netting.specs.Border.{Border, idle_border}
 use Rattle.flow_netting.specs.Flows.{border_at}
-use Rattle.flow_netting.proofs.FlowLemmas.{get_or-any}
 
 -- the least of some numbers, if there are any
 abbrev pub least_of : List ℕ → Option ℕ
@@ -69,15 +69,6 @@ least-not_traded trades lots numbers off =
 
 -- ---- rooms that are written border by border
 
--- the rooms of the two arcs of a border, written one after the other
-pub two_rooms : (same forward : Bool) (old mid new : ℕ) (room : Bool → ℕ)
-    → mid ≡ (if same && same_bool true forward then room true else old)
-    → new ≡ (if same && same_bool false forward then room false else mid)
-    → new ≡ (if same then room forward else old)
-two_rooms true true old mid new room first second = second ∙ first
-two_rooms true false old mid new room first second = second
-two_rooms false forward old mid new room first second = second ∙ first
-
 pub two_rooms-most : (same forward : Bool) (old mid new a b most : ℕ) → same ≡ true → a ≤ most → b ≤ most
     → mid ≡ (if same && same_bool true forward then a else old)
     → new ≡ (if same && same_bool false forward then b else mid)
@@ -96,7 +87,7 @@ module _ (place : ℕ) (arc : Arc) (mid new : ℕ) (so_far : arc.border < place 
   written_more borders border room within is written before = by (place == arc.border) refl written
     where
       by : (b : Bool) → (place == arc.border) ≡ b → new ≡ (if b then room border else mid) → new ≡ room (border_at borders arc.border)
-      by true e h = h ∙ ap room (is ∙ get_or-any borders place border idle_border within ∙ ap (border_at borders) (eqb-true place arc.border e))
+      by true e h = h ∙ ap room (is ∙ at_any borders place border idle_border within ∙ ap (border_at borders) (eqb-true place arc.border e))
       by false e h =
           let apart : place ≡ arc.border → ⊥ = eqb-false place arc.border e in
           h ∙ before (omega arith)

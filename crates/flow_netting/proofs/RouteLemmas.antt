@@ -7,64 +7,13 @@ use Rattle.zone_graph.specs.declared.route.Arc.{Arc}
 use Rattle.zone_graph.specs.Pour.{lots_if, opposite_arc, same_arc, same_bool, uses}
 use Rattle.zone_graph.specs.Route.{AreDifferent, IsIn}
 use Rattle.zone_graph.proofs.Membership.{IsIn-map}
+use Rattle.zone_graph.proofs.Places.{at_place}
+use Rattle.zone_graph.proofs.Arcs.{same_arc-border, eqb-symm, same_arc-symm, is_fresh, never_both, lots_if-or}
 use Rattle.flow_netting.specs.Flows.{added_by}
-
-pub IsIn-get_or : {X : Type 0} (xs : List X) (i : ℕ) (d : X) → i < length xs → IsIn (get_or xs i d) xs
-IsIn-get_or [] i d within = absurd (let no : ⊥ = omega arith in no)
-IsIn-get_or (x ∷ xs) zero d within = inl refl
-IsIn-get_or (x ∷ xs) (suc i) d within = inr (IsIn-get_or xs i d (omega arith))
 
 -- ---- the same arc
 
-first_true : (a b : Bool) → (a && b) ≡ true → a ≡ true
-first_true true b e = refl
-first_true false b e = e
-
-pub same_arc-border : (a b : Arc) → same_arc a b ≡ true → a.border ≡ b.border
-same_arc-border a b e = eqb-true a.border b.border (first_true (a.border == b.border) (same_bool a.forward b.forward) e)
-
-same_bool-symm : (a b : Bool) → same_bool a b ≡ same_bool b a
-same_bool-symm true true = refl
-same_bool-symm true false = refl
-same_bool-symm false true = refl
-same_bool-symm false false = refl
-
--- two numbers are equal in either order
-eqb-symm : (a b : ℕ) → (a == b) ≡ (b == a)
-eqb-symm a b = grind arith
-
-same_arc-symm : (a b : Arc) → same_arc a b ≡ same_arc b a
-same_arc-symm a b =
-    ap (λ c. c && same_bool a.forward b.forward) (eqb-symm a.border b.border)
-    ∙ ap (λ c. (b.border == a.border) && c) (same_bool-symm a.forward b.forward)
-
--- no arc of a route is over the border of one that comes before it
-pub is_fresh : (route : List Arc) (i : ℕ) (d other : Arc) → AreDifferent (map (λ arc. arc.border) route) → i < length route
-    → other.border ≡ (get_or route i d).border → uses (take i route) other ≡ false
-is_fresh [] i d other differ within border = absurd (let no : ⊥ = omega arith in no)
-is_fresh (arc ∷ route) zero d other differ within border = refl
-is_fresh (arc ∷ route) (suc i) d other differ within border =
-    by (same_arc other arc) refl (is_fresh route i d other differ.1 (omega arith) border)
-  where
-    by : (b : Bool) → same_arc other arc ≡ b → uses (take i route) other ≡ false → (b || uses (take i route) other) ≡ false
-    by true same rest =
-        let again : IsIn (get_or route i d).border (map (λ a. a.border) route) =
-        IsIn-map (λ a. a.border) (get_or route i d) route (IsIn-get_or route i d (omega arith)) in
-        absurd (differ.0 (subst (λ border. IsIn border (map (λ a. a.border) route)) (sym border ∙ same_arc-border other arc same) again))
-    by false same rest = rest
-
 -- ---- one more arc of a route
-
-never_both : (x y : Bool) → (y ≡ true → x ≡ false) → (x && y) ≡ false
-never_both true true apart = apart refl
-never_both true false apart = refl
-never_both false y apart = refl
-
-lots_if-or : (x y : Bool) (lots : ℕ) → (x && y) ≡ false → lots_if (x || y) lots ≡ lots_if x lots + lots_if y lots
-lots_if-or true true lots apart = cc
-lots_if-or true false lots apart = omega arith
-lots_if-or false true lots apart = omega arith
-lots_if-or false false lots apart = omega arith
 
 net_sum : (old mid new : ℤ) (a b c a' b' c' : ℕ) → c ≡ a + b → c' ≡ a' + b'
     → mid ≡ old +ℤ (pos a -ℤ pos a') → new ≡ mid +ℤ (pos b -ℤ pos b') → new ≡ old +ℤ (pos c -ℤ pos c')

@@ -6,6 +6,7 @@ ghost use Rattle.quarter_capacity.specs.Row as rows;
 ghost use Rattle.flow_netting.specs.Border.{EachQuarter, idle_border, row_in, set_room};
 ghost use Rattle.market_model.specs.Room.{least, lots_of};
 ghost use Rattle.flow_netting.specs.QuarterSet.{has, quarters_in};
+ghost use Rattle.quarter_capacity.specs.Capacity.{most_offered, most_remaining};
 
 use crate::quarter_set::QuarterSet;
 use quarter_capacity::{BelowFlow, QuarterRow};
@@ -68,7 +69,7 @@ impl BorderFlows {
     pub fn offer(&mut self, forward: bool, number: u32, lots: u32) -> Result<(), BelowFlow>
         requires first { 1 ≤ number }
         requires last { number ≤ 4 }
-        requires most { lots ≤ 1000000 }
+        requires most { lots ≤ most_offered }
         ensures rows { OnOk result (EachQuarter (λ quarter. row_in self.new quarter ≡ (if quarter == number then rows.with_offered (row_in self.old quarter) forward lots else row_in self.old quarter))) }
         ensures halted { self.new.halted ≡ self.old.halted }
         ensures enough { OnOk result (rows.flow (row_in self.old number) forward ≤ℤ pos lots) }
@@ -118,7 +119,7 @@ impl BorderFlows {
     /// The room in a direction over the quarters of a set, in an hour that is open or not.
     pub fn room(&self, is_open: bool, forward: bool, set: QuarterSet) -> u32
         ensures room { result ≡ set_room is_open self.now forward set }
-        ensures most { result ≤ 2000000 }
+        ensures most { result ≤ most_remaining }
     {
         if trades(is_open, self.is_halted()) {
             self.least_remaining(forward, set)
@@ -130,7 +131,7 @@ impl BorderFlows {
     // The least that remains in a direction in the quarters of a set, and 0 where it has none.
     fn least_remaining(&self, forward: bool, set: QuarterSet) -> u32
         ensures least { result ≡ least (map (λ number. lots_of (rows.remaining (row_in self.now number) forward)) (quarters_in set)) }
-        ensures most { result ≤ 2000000 }
+        ensures most { result ≤ most_remaining }
     {
         let mut least = None;
         for number in 1..5 {
@@ -149,10 +150,10 @@ fn trades(is_open: bool, is_halted: bool) -> bool
 
 // The lesser of so many lots and the least so far, if they count.
 fn lesser(least: Option<u32>, counts: bool, lots: u32) -> Option<u32>
-    requires most { lots ≤ 2000000 }
-    requires least { unwrap_or least 0 ≤ 2000000 }
+    requires most { lots ≤ most_remaining }
+    requires least { unwrap_or least 0 ≤ most_remaining }
     ensures value { result ≡ (if counts then Some (option_map_or (λ so_far. min so_far lots) least lots) else least) }
-    ensures most { unwrap_or result 0 ≤ 2000000 }
+    ensures most { unwrap_or result 0 ≤ most_remaining }
 {
     if !counts {
         return least;

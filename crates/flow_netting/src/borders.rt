@@ -8,6 +8,7 @@ ghost use Rattle.zone_graph.specs.Rooms as rooms;
 ghost use Rattle.flow_netting.specs.Border.{EachQuarter, row_in, set_room};
 ghost use Rattle.flow_netting.specs.Flows as flows;
 ghost use Rattle.flow_netting.specs.QuarterSet.{has};
+ghost use Rattle.quarter_capacity.specs.Capacity.{most_offered, most_remaining};
 
 use crate::border::BorderFlows;
 use crate::quarter_set::QuarterSet;
@@ -19,7 +20,7 @@ pub fn offer(borders: &mut [BorderFlows], arc: Arc, number: u32, lots: u32) -> R
     requires border { arc.border < length borders.old }
     requires first { 1 ≤ number }
     requires last { number ≤ 4 }
-    requires most { lots ≤ 1000000 }
+    requires most { lots ≤ most_offered }
     ensures offers { OnOk result (flows.InEachQuarter (λ other quarter. flows.offered_at borders.new other quarter ≡ (if same_arc arc other && (quarter == number) then lots else flows.offered_at borders.old other quarter))) }
     ensures flows { flows.SameFlows borders.old borders.new }
     ensures halts { flows.SameHalts borders.old borders.new }
@@ -85,7 +86,7 @@ pub fn write_rooms(borders: &[BorderFlows], is_open: bool, set: QuarterSet, into
     requires size { length into.old ≡ length borders.now }
     ensures size { length into.new ≡ length into.old }
     ensures rooms { (arc : Arc) → arc.border < length borders.now → rooms.room_of into.new arc ≡ set_room is_open (flows.border_at borders.now arc.border) arc.forward set }
-    ensures most { (arc : Arc) → arc.border < length borders.now → rooms.room_of into.new arc ≤ 2000000 }
+    ensures most { (arc : Arc) → arc.border < length borders.now → rooms.room_of into.new arc ≤ most_remaining }
 {
     for (place, border) in borders.iter().enumerate() {
         write_border(border, place as u32, is_open, set, into);
@@ -97,15 +98,8 @@ fn write_border(border: &BorderFlows, number: u32, is_open: bool, set: QuarterSe
     requires { number < length into.old }
     ensures size { length into.new ≡ length into.old }
     ensures rooms { (arc : Arc) → rooms.room_of into.new arc ≡ (if number == arc.border then set_room is_open border.now arc.forward set else rooms.room_of into.old arc) }
-    ensures most { (arc : Arc) → arc.border ≡ number → rooms.room_of into.new arc ≤ 2000000 }
+    ensures most { (arc : Arc) → arc.border ≡ number → rooms.room_of into.new arc ≤ most_remaining }
 {
-    into.set(arc_over(number, true), border.room(is_open, true, set));
-    into.set(arc_over(number, false), border.room(is_open, false, set));
-}
-
-// An arc over a border.
-fn arc_over(border: u32, forward: bool) -> Arc
-    ensures { result ≡ record { border = border; forward = forward } }
-{
-    Arc { border, forward }
+    into.set(Arc::over(number, true), border.room(is_open, true, set));
+    into.set(Arc::over(number, false), border.room(is_open, false, set));
 }

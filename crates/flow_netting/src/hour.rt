@@ -8,6 +8,7 @@ ghost use Rattle.zone_graph.specs.Rooms as rooms;
 ghost use Rattle.market_model.specs.Room.{is_open_phase};
 ghost use Rattle.flow_netting.specs.Flows as flows;
 ghost use Rattle.flow_netting.specs.QuarterSet.{has};
+ghost use Rattle.quarter_capacity.specs.Capacity.{most_remaining, most_offered};
 
 use crate::border::{BorderFlows, idle_borders};
 use crate::borders;
@@ -74,7 +75,7 @@ impl HourFlows {
         requires first { 1 ≤ number }
         requires last { number ≤ 4 }
         ensures value { pos result ≡ flows.remaining_of self.now arc number }
-        ensures most { result ≤ 2000000 }
+        ensures most { result ≤ most_remaining }
     {
         self.borders.as_slice()[arc.border as usize]
             .row(number)
@@ -88,8 +89,8 @@ impl HourFlows {
         requires last { number ≤ 4 }
         ensures value { result ≡ flows.flow_of self.now arc number }
         ensures most { result ≤ℤ pos (flows.offered_of self.now arc number) }
-        ensures greatest { result ≤ℤ pos 1000000 }
-        ensures least { neg_ℤ (pos 1000000) ≤ℤ result }
+        ensures greatest { result ≤ℤ pos most_offered }
+        ensures least { neg_ℤ (pos most_offered) ≤ℤ result }
     {
         self.borders.as_slice()[arc.border as usize]
             .row(number)
@@ -102,7 +103,7 @@ impl HourFlows {
         requires { length into.old ≡ flows.border_count self.now }
         ensures size { length into.new ≡ length into.old }
         ensures rooms { (arc : Arc) → arc.border < flows.border_count self.now → rooms.room_of into.new arc ≡ flows.room_of self.now set arc }
-        ensures most { (arc : Arc) → arc.border < flows.border_count self.now → rooms.room_of into.new arc ≤ 2000000 }
+        ensures most { (arc : Arc) → arc.border < flows.border_count self.now → rooms.room_of into.new arc ≤ most_remaining }
     {
         borders::write_rooms(self.borders.as_slice(), is_open(self.phase), set, into);
     }
@@ -148,7 +149,7 @@ impl HourFlows {
         requires border { arc.border < flows.border_count self.old }
         requires first { 1 ≤ number }
         requires last { number ≤ 4 }
-        requires most { lots ≤ 1000000 }
+        requires most { lots ≤ most_offered }
         ensures offers { OnOk result (flows.InEachQuarter (λ other quarter. flows.offered_of self.new other quarter ≡ (if same_arc arc other && (quarter == number) then lots else flows.offered_of self.old other quarter))) }
         ensures flows { flows.SameFlows self.old.borders self.new.borders }
         ensures halts { flows.SameHalts self.old.borders self.new.borders }

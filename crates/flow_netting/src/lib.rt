@@ -12,8 +12,6 @@ mod border;
 mod borders;
 mod hour;
 mod quarter_set;
-#[cfg(test)]
-mod tests;
 
 pub use hour::HourFlows;
 pub use quarter_set::QuarterSet;

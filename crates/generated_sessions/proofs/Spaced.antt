@@ -5,9 +5,9 @@ use Rattle.std.proofs.lemmas.Bool.Decides.{nat_tests}
 use Rattle.std.proofs.lemmas.List.Elements.{All-cons, All-append, All-weaker}
 use Rattle.std.proofs.lemmas.List.Splits.{slice_split_none, slice_split_at}
 use Rattle.std.proofs.lemmas.List.Sums.{AllPass-from_list_all}
+use Rattle.std.proofs.lemmas.Bool.{and_parts}
 use Rattle.market_text.specs.Text.{words_of, is_passed_over}
 use Rattle.text_grammar.specs.Lines.{IsLine}
-use Rattle.text_grammar.proofs.LinesRead.{both}
 use Rattle.load_maker.specs.Lines.{spaced}
 use Rattle.generated_sessions.proofs.Words.{is_plain_byte, is_plain}
 
@@ -42,17 +42,17 @@ word_is_line word plain =
 -- of words
 pub words_of_spaced : (word : List ℕ) (words : List (List ℕ)) → list_all is_plain (word ∷ words) ≡ true
     → words_of (spaced (word ∷ words)) ≡ word ∷ words
-words_of_spaced word [] plain = slice_split_none (λ byte. byte == 32) word (no_spaces word (both _ _ plain).0)
+words_of_spaced word [] plain = slice_split_none (λ byte. byte == 32) word (no_spaces word (and_parts _ _ plain).0)
 words_of_spaced word (next ∷ words) plain =
-    slice_split_at (λ byte. byte == 32) word 32 (spaced (next ∷ words)) (no_spaces word (both _ _ plain).0) refl
-    ∙ ap (λ (parts : List (List ℕ)). word ∷ parts) (words_of_spaced next words (both (is_plain word) _ plain).1)
+    slice_split_at (λ byte. byte == 32) word 32 (spaced (next ∷ words)) (no_spaces word (and_parts _ _ plain).0) refl
+    ∙ ap (λ (parts : List (List ℕ)). word ∷ parts) (words_of_spaced next words (and_parts (is_plain word) _ plain).1)
 
 pub spaced_is_line : (word : List ℕ) (words : List (List ℕ)) → list_all is_plain (word ∷ words) ≡ true
     → IsLine (spaced (word ∷ words))
-spaced_is_line word [] plain = word_is_line word (both _ _ plain).0
+spaced_is_line word [] plain = word_is_line word (and_parts _ _ plain).0
 spaced_is_line word (next ∷ words) plain =
-    All-append (λ byte. ¬ (byte ≡ 10)) word (32 ∷ spaced (next ∷ words)) (word_is_line word (both _ _ plain).0)
-    (All-cons (λ byte. ¬ (byte ≡ 10)) 32 (spaced (next ∷ words)) (λ ten. omega arith) (spaced_is_line next words (both (is_plain word) _ plain).1))
+    All-append (λ byte. ¬ (byte ≡ 10)) word (32 ∷ spaced (next ∷ words)) (word_is_line word (and_parts _ _ plain).0)
+    (All-cons (λ byte. ¬ (byte ≡ 10)) 32 (spaced (next ∷ words)) (λ ten. omega arith) (spaced_is_line next words (and_parts (is_plain word) _ plain).1))
 
 -- a line that begins with a `t` counts
 pub counts : (bytes : List ℕ) → is_passed_over (116 ∷ bytes) ≡ false

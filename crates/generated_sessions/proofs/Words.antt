@@ -5,12 +5,12 @@ use Rattle.std.specs.Fmt.{digits}
 use Rattle.std.specs.List.{list_all, range_with_len}
 use Rattle.std.proofs.lemmas.List.FromFn.{length-range_with_len, get_or-range_with_len}
 use Rattle.std.proofs.lemmas.List.Sums.{AllPass-from_list_all}
+use Rattle.std.proofs.lemmas.Bool.{and_parts}
 use Rattle.order_kinds.specs.Contract.{hour_text, quarter_text}
 use Rattle.order_kinds.specs.Price.{lots_text, price_text}
 use Rattle.market_spelling.specs.Hours.{hour_of, contract_of, quarter_of}
 use Rattle.market_spelling.specs.Numbers.{number_of, digit_of, whole_of, quantity_of, cents_of, price_of}
 use Rattle.market_spelling.specs.Words.{is_name, parts_around, arc_of}
-use Rattle.text_grammar.proofs.LinesRead.{both}
 use Rattle.load_maker.specs.Commands.{offered_arc}
 use Rattle.load_maker.specs.Lines.{zone_name, trader_name}
 
@@ -32,7 +32,7 @@ is_read read word = is_plain word && is_some (read word)
 
 pub read_from_test : {A : Type 0} (read : List ℕ → Option A) (word : List ℕ) → is_read read word ≡ true → IsRead read word
 read_from_test read word passes =
-    let tests = both (is_plain word) (is_some (read word)) passes in
+    let tests = and_parts (is_plain word) (is_some (read word)) passes in
     record { plain = tests.0; some = tests.1 }
 
 -- a word that is a name
@@ -122,7 +122,7 @@ zones = refl
 
 pub zone_word : (zone : ℕ) → zone < 12 → IsNameWord (zone_name zone)
 zone_word zone to =
-    let tests = both (is_plain (zone_name zone)) (is_name (zone_name zone)) (at_each is_zone 0 12 zone zones (omega arith) (omega arith)) in
+    let tests = and_parts (is_plain (zone_name zone)) (is_name (zone_name zone)) (at_each is_zone 0 12 zone zones (omega arith) (omega arith)) in
     record { plain = tests.0; name = tests.1 }
 
 -- the arcs that are offered

@@ -10,7 +10,5 @@ mod line;
 mod names;
 mod refusal;
 mod spelling;
-#[cfg(test)]
-mod tests;
 
 pub use line::print_entry;

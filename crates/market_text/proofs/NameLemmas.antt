@@ -8,6 +8,7 @@ use Rattle.market_text.proofs.Lists.{map-push}
 use Rattle.std.specs.List.{position, position_or_len, list_any}
 use Rattle.std.proofs.lemmas.List.{length-map}
 use Rattle.std.proofs.lemmas.Bool.Decides.{nat_tests}
+use Rattle.zone_graph.proofs.Again.{list_any-no_position}
 
 -- the first place of an item of a mapped list
 pub position_or_len-map : {A B : Type 0} (p : B → Bool) (f : A → B) (xs : List A) → position_or_len p (map f xs) ≡ position_or_len (λ x. p (f x)) xs
@@ -32,16 +33,12 @@ absent p (x ∷ xs) h = by (p x) h (absent p xs)
     by true past rest = absurd (omega arith)
     by false past rest = rest (omega arith)
 
--- a name that no place is found for is not among the names
-pub absent_from_place : {A : Type 0} (p : A → Bool) (xs : List A) → position p xs ≡ None → list_any p xs ≡ false
-absent_from_place p xs h = absent p xs (none_past_end (position_or_len p xs) (length xs) h)
-
 -- the names of a set to which a name is added that is not there
 pub declared : {V : Type 0} (bytes : V → List ℕ) (keys : List V) (key : V) (names : List (List ℕ)) (name : List ℕ)
     → map bytes keys ≡ names → bytes key ≡ name → place_of names name ≡ None
     → map bytes (insert_key (λ a b. pointwise nat_eq (bytes a) (bytes b)) keys key) ≡ names ++ name ∷ []
 declared bytes keys key names name as_names as_name none =
-    let absent_key = absent_from_place (λ k. pointwise nat_eq (bytes key) (bytes k)) keys
+    let absent_key = list_any-no_position (λ k. pointwise nat_eq (bytes key) (bytes k)) keys
     (sym (position-map (pointwise nat_eq (bytes key)) bytes keys)
     ∙ ap (λ n. place_of (map bytes keys) n) as_name ∙ ap (λ ns. place_of ns name) as_names ∙ none) in
     ap (λ b. map bytes (if b then keys else keys ++ key ∷ [])) absent_key

@@ -6,6 +6,7 @@ use Rattle.std.proofs.lemmas.List.FromFn.{fill_by_all}
 use Rattle.std.proofs.lemmas.List.Elements.{All-append, All-replicate}
 use Rattle.std.proofs.Math.Seq.{get_or-append_seam}
 use Rattle.std.proofs.lemmas.Bool.Decides.{nat_tests}
+use Rattle.std.proofs.lemmas.Bool.{and_parts}
 use Rattle.zone_graph.specs.Name.{IsName}
 use Rattle.contract_calendar.specs.Day.{DeliveryDay}
 use Rattle.market_model.specs.declared.command.Command.{Command}
@@ -236,11 +237,6 @@ is_session reader hours zones callers commands r is_hours some_day begun same_zo
       few = r.few_turns;
     })
 
--- both tests hold
-both : (a b : Bool) → (a && b) ≡ true → (a ≡ true) × (b ≡ true)
-both true b is = (refl, is)
-both false b is = absurd cc
-
 -- an option of which the test says that there is no value
 none_from_test : {A : Type 0} (option : Option A) → is_none option ≡ true → option ≡ None
 none_from_test None is = refl
@@ -250,8 +246,8 @@ none_from_test (Some value) is = absurd cc
 tests_of_name : (a : Bool) (names : List (List ℕ)) (name : List ℕ) → (a && is_name name && is_none (place_of names name)) ≡ true
     → (a ≡ true) × IsName name × (place_of names name ≡ None)
 tests_of_name a names name is =
-    let parts = both (a && is_name name) (is_none (place_of names name)) is in
-    let first = both a (is_name name) parts.0 in
+    let parts = and_parts (a && is_name name) (is_none (place_of names name)) is in
+    let first = and_parts a (is_name name) parts.0 in
     (first.0, name_from_test name first.1, none_from_test (place_of names name) parts.1)
 
 -- what a zone that may be added is
@@ -260,7 +256,7 @@ pub allowed_zone : (reader : Reader) (name : List ℕ) → may_add_zone reader n
 unfolding may_add_zone
 allowed_zone reader name is =
     let tests = tests_of_name _ reader.zones name is in
-    let few = both _ (nat_lt (length reader.zones) 64) tests.0 in
+    let few = and_parts _ (nat_lt (length reader.zones) 64) tests.0 in
     (ltb-true (length reader.zones) 64 few.1, tests.1, tests.2)
 
 -- what a caller that may be added is
@@ -269,7 +265,7 @@ pub allowed_caller : (reader : Reader) (name : List ℕ) → may_add_caller read
 unfolding may_add_caller
 allowed_caller reader name is =
     let tests = tests_of_name _ reader.callers name is in
-    let few = both (nat_lt 0 (length reader.zones)) (nat_lt (length reader.callers) 64) tests.0 in
+    let few = and_parts (nat_lt 0 (length reader.zones)) (nat_lt (length reader.callers) 64) tests.0 in
     (ltb-true (length reader.callers) 64 few.1, tests.1, tests.2)
 
 -- a zone is added

@@ -61,7 +61,7 @@ followed reader line text [] step some is = absurd (omega arith)
 followed reader line text (next ∷ more) step some is = ap (after_line (λ read. text_from read (line + 1) (next ∷ more)) line) is
 
 -- there is a line, if only what follows the last line feed
-some_line : (bytes : List ℕ) → 1 ≤ length (lines_of bytes)
+pub some_line : (bytes : List ℕ) → 1 ≤ length (lines_of bytes)
 some_line bytes = let count = length-slice_split (λ byte. byte == 10) bytes in omega arith
 
 -- the lines after one that is not bad

@@ -16,12 +16,7 @@ use contract_calendar::Day;
 use market_model::{Caller, Callers, NoMemory, Role, Setup, Word};
 use market_spelling::{Heading, read_date, read_heading, spells_name};
 use std::alloc::Global;
-
-/// The most bidding zones of a session.
-pub const MOST_ZONES: usize = 64;
-
-/// The most borders of a session.
-pub const MOST_BORDERS: usize = 128;
+use zone_graph::{MOST_BORDERS, MOST_ZONES};
 
 /// The most callers of a session.
 pub const MOST_CALLERS: usize = 64;

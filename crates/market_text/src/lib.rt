@@ -16,10 +16,3 @@ mod words;
 
 pub use fault::TextFault;
 pub use session::{PerCaller, Session, Turns, read_session};
-
-#[cfg(test)]
-mod command_tests;
-#[cfg(test)]
-mod line_tests;
-#[cfg(test)]
-mod tests;

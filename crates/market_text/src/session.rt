@@ -19,7 +19,7 @@ pub type PerCaller = Sequence<Commands>;
 pub type Turns = Sequence<u32>;
 
 /// A session: what is fixed for it, and the commands that its callers give.
-#[derive(Debug, Drop, PartialEq, Eq)]
+#[derive(Drop)]
 pub struct Session {
     /// The delivery day, the zones, the borders and the callers. A caller's room is the number of
     /// its commands.

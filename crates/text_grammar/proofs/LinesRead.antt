@@ -1,7 +1,7 @@
 -- What a line is that is taken.
 use Rattle.std.proofs.Common.{◌≡◌, ℕ, ℤ, ◌+◌, ◌<◌, ◌≤◌, ◌==◌, ◌&&◌, nat_lt, nat_le, not, Bool, true, false, List, [], ◌∷◌, length, refl, arith, Option, Some, None, is_none, is_some}
 use Rattle.std.specs.List.{list_any}
-use Rattle.std.proofs.lemmas.Bool.{eqb-true}
+use Rattle.std.proofs.lemmas.Bool.{eqb-true, and_parts}
 use Rattle.std.proofs.lemmas.Bool.Decides.{nat_tests}
 use Rattle.contract_calendar.specs.Day.{DeliveryDay}
 use Rattle.market_model.specs.declared.command.Command.{Command}
@@ -19,11 +19,6 @@ use Rattle.market_text.specs.Steps.{header_step, command_step, entry_step, clock
 -- nothing is no value
 clash : {A : Type 0} (value : A) → None ≡ Some value → ⊥
 clash value none = cc
-
--- both tests hold
-pub both : (a b : Bool) → (a && b) ≡ true → (a ≡ true) × (b ≡ true)
-both true b is = (refl, is)
-both false b is = absurd cc
 
 -- the heading of a line
 pub record HeadingRead (reader : Reader) (row : List (List ℕ)) : Type 0 where
@@ -91,11 +86,11 @@ pub zone_facts : (reader : Reader) (name : List ℕ) → may_add_zone reader nam
     → (is_some reader.day ≡ true) × (length reader.borders ≡ 0) × (length reader.callers ≡ 0)
 unfolding may_add_zone
 zone_facts reader name is =
-    let absent = both _ (is_none (place_of reader.zones name)) is in
-    let named = both _ (is_name name) absent.0 in
-    let few = both _ (nat_lt (length reader.zones) 64) named.0 in
-    let callers = both _ (length reader.callers == 0) few.0 in
-    let borders = both _ (length reader.borders == 0) callers.0 in
+    let absent = and_parts _ (is_none (place_of reader.zones name)) is in
+    let named = and_parts _ (is_name name) absent.0 in
+    let few = and_parts _ (nat_lt (length reader.zones) 64) named.0 in
+    let callers = and_parts _ (length reader.callers == 0) few.0 in
+    let borders = and_parts _ (length reader.borders == 0) callers.0 in
     (borders.0, eqb-true (length reader.borders) 0 borders.1, eqb-true (length reader.callers) 0 callers.1)
 
 -- a border
@@ -144,9 +139,9 @@ pub join_facts : (reader : Reader) (one other : ℕ) → may_join reader one oth
     → (length reader.callers ≡ 0) × (length reader.borders < 128) × (¬ (one ≡ other)) × (list_any (joins_zones one other) reader.borders ≡ false)
 unfolding may_join
 join_facts reader one other is =
-    let absent = both _ (not (list_any (joins_zones one other) reader.borders)) is in
-    let apart = both _ (not (one == other)) absent.0 in
-    let few = both _ (nat_lt (length reader.borders) 128) apart.0 in
+    let absent = and_parts _ (not (list_any (joins_zones one other) reader.borders)) is in
+    let apart = and_parts _ (not (one == other)) absent.0 in
+    let few = and_parts _ (nat_lt (length reader.borders) 128) apart.0 in
     (eqb-true (length reader.callers) 0 few.0, below few.1, differ apart.1, negated (list_any (joins_zones one other) reader.borders) absent.1)
   where
     below : nat_lt (length reader.borders) 128 ≡ true → length reader.borders < 128
@@ -181,9 +176,9 @@ caller_read role reader words read is = by (only_word words) refl
 pub caller_facts : (reader : Reader) (name : List ℕ) → may_add_caller reader name ≡ true → 1 ≤ length reader.zones
 unfolding may_add_caller
 caller_facts reader name is =
-    let absent = both _ (is_none (place_of reader.callers name)) is in
-    let named = both _ (is_name name) absent.0 in
-    let few = both (nat_lt 0 (length reader.zones)) (nat_lt (length reader.callers) 64) named.0 in
+    let absent = and_parts _ (is_none (place_of reader.callers name)) is in
+    let named = and_parts _ (is_name name) absent.0 in
+    let few = and_parts (nat_lt 0 (length reader.zones)) (nat_lt (length reader.callers) 64) named.0 in
     above few.0
   where
     above : nat_lt 0 (length reader.zones) ≡ true → 1 ≤ length reader.zones

@@ -13,6 +13,7 @@ use Rattle.market_text.specs.declared.reader.Reader.{Reader}
 use Rattle.market_text.specs.declared.session.Session.{Session}
 use Rattle.market_text.specs.Steps.{nothing_read, session_of}
 use Rattle.market_text.specs.Text.{lines_of, line_step, end_of_text, or_line, text_from, session_of_text, IsAnswer}
+use Rattle.market_text.proofs.TextLemmas.{some_line}
 use Rattle.text_grammar.specs.Contents.{session_of_contents}
 use Rattle.text_grammar.specs.Grammar.{IsSessionText, CanGoOn, IsBadNext, IsBadEnd, IsFirstBadLine}
 use Rattle.text_grammar.specs.Laws.{IsAnswerByGrammar}
@@ -167,10 +168,6 @@ is_next : (front : List (List ℕ)) (line : List ℕ) (rest : List (List ℕ)) �
 is_next front line rest are =
     let within : length front < length (front ++ line ∷ rest) = let h = length-append front (line ∷ rest) in omega arith in
     subst IsLine (get_or_at front line rest line (length front) refl) (are (length front) line within)
-
--- there is a part, if only what follows the last line feed
-some_line : (bytes : List ℕ) → 1 ≤ length (lines_of bytes)
-some_line bytes = let count = length-slice_split (λ byte. byte == 10) bytes in omega arith
 
 -- the answer to a text by its parts
 text_is : (bytes : List ℕ) (all : List (List ℕ)) → lines_of bytes ≡ all → session_of_text bytes ≡ text_from nothing_read 1 all

@@ -1,8 +1,9 @@
 use Rattle.std.proofs.Common.{◌∙◌, ◌<◌, length, get_or, arith, false}
 use Rattle.zone_graph.specs.declared.route.Arc.{Arc}
+use Rattle.zone_graph.proofs.Places.{at_place}
 use Rattle.flow_netting.specs.Flows.{flow_at, offered_at}
 use Rattle.flow_netting.specs.QuarterSet.{has}
-use Rattle.flow_netting.proofs.RouteLemmas.{IsIn-get_or, flow_more, left_on_next}
+use Rattle.flow_netting.proofs.RouteLemmas.{flow_more, left_on_next}
 use Rattle.flow_netting.proofs.borders.carry.Goals as goal
 
 -- what stands for an arc that is not there
@@ -13,7 +14,7 @@ pub take_in-requires-clause-border : goal.take_in-requires-clause-border
 take_in-requires-clause-border c =
     let within : c.loop-arc.arc-index < length c.args.route.now = omega arith in
     let there : (get_or c.args.route.now c.loop-arc.arc-index no_arc).border < length c.args.borders.now =
-    c.requires.borders.there _ (IsIn-get_or c.args.route.now c.loop-arc.arc-index no_arc within) in
+    c.requires.borders.there _ (at_place c.args.route.now c.loop-arc.arc-index no_arc within) in
     omega arith
 
 pub take_in-requires-clause-room : goal.take_in-requires-clause-room
@@ -26,7 +27,7 @@ take_in-requires-clause-room c = λ number first last counts.
     (flow_at c.args.borders.now arc number) (flow_at c.loop-arc.borders arc number) counts
     (c.loop-arc.invariant.offers arc number first last)
     (c.loop-arc.invariant.flows arc number first last)
-    (c.requires.room arc (IsIn-get_or c.args.route.now c.loop-arc.arc-index no_arc within) number first last counts)
+    (c.requires.room arc (at_place c.args.route.now c.loop-arc.arc-index no_arc within) number first last counts)
 
 pub loop-arc-preserved : goal.loop-arc-preserved
 loop-arc-preserved c =

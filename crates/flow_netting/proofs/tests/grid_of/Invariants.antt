@@ -1,6 +1,0 @@
-use Rattle.std.proofs.Common.{◌≡◌, length}
-use Rattle.flow_netting.proofs.tests.grid_of.Given as goal
-
--- a zone for each name so far
-abbrev pub invariant-loop-name : goal.invariant-loop-name
-invariant-loop-name l = length l.zones ≡ l.name-index
