@@ -17,11 +17,244 @@ mkdir -p "$crate/src" "$crate/specs" "$crate/proofs"
 (cd "$top" && tar cf - --exclude=out crates crates.txt HANDLES) | tar xf - -C "$scratch"
 echo 'print_entries: journal_print market_model zone_graph order_kinds' >>"$scratch/crates.txt"
 
-# The setup and what shows that the entries are its own are those of the crate's tests.
+# The setup, the entries, and what shows that they are its own.
 {
-    sed -e '/^#\[test\]/,$d' -e '/^\/\/ Prints a reply/,/^}/d' -e '/Abort;/d' \
-        -e 's/^use super::print_entry/use journal_print::print_entry/' \
-        -e '1s/.*/#![tactic(auto)]/' "$top/crates/journal_print/src/tests.rt"
+    cat <<'ENTRIES'
+#![tactic(auto)]
+
+ghost use Rattle.std.specs.Prelude.{IsTrue, All};
+ghost use Rattle.zone_graph.specs.Name.{IsName};
+ghost use Rattle.market_model.specs.Naming.{HasZone, HasArcs, IsNamed, IsEventIn, IsRefusalIn, IsReplyIn, IsEntryIn};
+
+use journal_print::print_entry;
+use market_model::{
+    Caller, Callers, Command, Entry, Event, Events, Leg, Refusal, Reply, Role, Rows, Setup, ViewRow,
+};
+use order_kinds::{
+    BlockOrder, Contract, Kind, Lots, Order, OrderName, Part, Phase, Price, Quarter, Side,
+};
+use std::alloc::Global;
+use std::test::Fail;
+use zone_graph::{Arc, Names, NoMemory, Pairs, Route, Word, Zones, is_name};
+
+// Whether all zones have names.
+fn has_zone_names(setup: &Setup) -> bool
+    ensures { IsTrue result → All IsName setup.now.zones }
+{
+    setup
+        .zones
+        .as_slice()
+        .iter()
+        .all(|zone| is_name(zone.bytes()))
+}
+
+// Whether all callers have names.
+fn has_caller_names(setup: &Setup) -> bool
+    ensures { IsTrue result → All (λ caller. IsName caller.name) setup.now.callers }
+{
+    setup
+        .callers
+        .as_slice()
+        .iter()
+        .all(|caller| is_name(caller.name.bytes()))
+}
+
+// Whether all borders join zones of the setup.
+fn has_border_ends(setup: &Setup) -> bool
+    ensures { IsTrue result
+        → All (λ ends. HasZone setup.now ends.0 × HasZone setup.now ends.1) setup.now.borders }
+{
+    let zones = setup.zones.len();
+    setup.borders.as_slice().iter().all(|ends| (ends.0 as usize) < zones
+        && (ends.1 as usize) < zones)
+}
+
+// Whether zones and callers have names, and borders join zones of the setup.
+fn is_named(setup: &Setup) -> bool
+    ensures { IsTrue result → IsNamed setup.now }
+{
+    has_zone_names(setup) && has_caller_names(setup) && has_border_ends(setup)
+}
+
+// Whether a route uses borders of the setup alone.
+fn has_arcs(setup: &Setup, route: &Route) -> bool
+    ensures { IsTrue result → HasArcs setup.now route.now }
+{
+    let borders = setup.borders.len();
+    route
+        .as_slice()
+        .iter()
+        .all(|arc| (arc.border as usize) < borders)
+}
+
+// Whether an event names borders of the setup alone.
+fn is_event_in(setup: &Setup, event: &Event) -> bool
+    ensures { IsTrue result → IsEventIn setup.now event.now }
+{
+    let borders = setup.borders.len();
+    match event {
+        Event::Leg { leg, .. } => has_arcs(setup, &leg.route),
+        Event::BlockLeg { leg, .. } => has_arcs(setup, &leg.route),
+        Event::Granted { arc, .. } => (arc.border as usize) < borders,
+        Event::Offered { arc, .. } => (arc.border as usize) < borders,
+        Event::Halted { border, .. } => (*border as usize) < borders,
+        Event::Resumed { border, .. } => (*border as usize) < borders,
+        Event::Entered { .. } => true,
+        Event::EnteredBlock { .. } => true,
+        Event::Gated { .. } => true,
+        Event::Withdrawn { .. } => true,
+        Event::Reduced { .. } => true,
+    }
+}
+
+// Whether events name borders of the setup alone.
+fn are_events_in(setup: &Setup, events: &Events) -> bool
+    ensures { IsTrue result → All (IsEventIn setup.now) events.now }
+{
+    events
+        .as_slice()
+        .iter()
+        .all(|event| is_event_in(setup, event))
+}
+
+// Whether all zones are the setup's.
+fn has_zones(setup: &Setup, zones: &Zones) -> bool
+    ensures { IsTrue result → All (HasZone setup.now) zones.now }
+{
+    let count = setup.zones.len();
+    zones.as_slice().iter().all(|zone| (*zone as usize) < count)
+}
+
+// Whether a reply names zones and borders of the setup alone.
+fn is_reply_in(setup: &Setup, reply: &Reply) -> bool
+    ensures { IsTrue result → IsReplyIn setup.now reply.now }
+{
+    match reply {
+        Reply::Done(events) => are_events_in(setup, events),
+        Reply::Seen(_) => true,
+        Reply::Refused(Refusal::Unfilled { zones, .. }) => has_zones(setup, zones),
+        Reply::Refused(Refusal::BasketUnfilled { zones, .. }) => has_zones(setup, zones),
+        Reply::Refused(_) => true,
+    }
+}
+
+// Whether an entry is of the setup's.
+fn is_entry_in(setup: &Setup, entry: &Entry) -> bool
+    ensures { IsTrue result → IsEntryIn setup.now entry.now }
+{
+    (entry.caller as usize) < setup.callers.len() && is_reply_in(setup, &entry.reply)
+}
+
+fn caller(alloc: Global, name: &[u8], role: Role) -> Result<Caller, NoMemory> {
+    Ok(Caller {
+        name: Word::new(alloc, name)?,
+        role,
+        room: 16,
+    })
+}
+
+// Two zones and a border, three traders and an operator.
+fn two_zones(alloc: Global) -> Result<Setup, NoMemory> {
+    let mut zones = Names::new(alloc);
+    zones.push(Word::new(alloc, b"DE")?)?;
+    zones.push(Word::new(alloc, b"FR")?)?;
+    let mut borders = Pairs::new(alloc);
+    borders.push((0, 1))?;
+    let mut callers = Callers::new(alloc);
+    callers.push(caller(alloc, b"ann", Role::Trader)?)?;
+    callers.push(caller(alloc, b"bob", Role::Trader)?)?;
+    callers.push(caller(alloc, b"cat", Role::Trader)?)?;
+    callers.push(caller(alloc, b"tso", Role::Operator)?)?;
+    Ok(Setup {
+        hours: 24,
+        zones,
+        borders,
+        callers,
+    })
+}
+
+
+const H10_1: OrderName = OrderName {
+    hour: 10,
+    number: 1,
+};
+
+const H10_2: OrderName = OrderName {
+    hour: 10,
+    number: 2,
+};
+
+const H12_1: OrderName = OrderName {
+    hour: 12,
+    number: 1,
+};
+
+const H12_2: OrderName = OrderName {
+    hour: 12,
+    number: 2,
+};
+
+const ARC: Arc = Arc {
+    border: 0,
+    forward: true,
+};
+
+const BACK: Arc = Arc {
+    border: 0,
+    forward: false,
+};
+
+fn quarter(hour: u32, number: u32) -> Quarter {
+    Quarter { hour, number }
+}
+
+fn entered(name: OrderName, part: Part) -> Event {
+    Event::Entered {
+        name,
+        caller: 0,
+        order: Order {
+            contract: Contract {
+                hour: name.hour,
+                part,
+            },
+            zone: 0,
+            side: Side::Sell,
+            price: Price(4000),
+            quantity: Lots(40),
+            kind: Kind::Limit,
+        },
+    }
+}
+
+fn trade(
+    alloc: Global,
+    taker: OrderName,
+    maker: OrderName,
+    lots: u32,
+    cents: i32,
+    arcs: &[Arc],
+) -> Result<Leg, NoMemory> {
+    Ok(Leg {
+        taker,
+        maker,
+        lots,
+        price: Price(cents),
+        route: Route::from(Vec::from_slice(alloc, arcs)?),
+    })
+}
+
+fn leg(hour: u32, leg: Leg) -> Event {
+    let contract = Contract {
+        hour,
+        part: Part::Hour,
+    };
+    Event::Leg { contract, leg }
+}
+
+fn done<const N: usize>(alloc: Global, events: [Event; N]) -> Result<Reply, NoMemory> {
+    Ok(Reply::Done(Events::from(Vec::from_array(alloc, events)?)))
+}
+ENTRIES
     cat <<'PROGRAM'
 use std::env;
 
