@@ -18,10 +18,10 @@ use Rattle.cut_proof.proofs.ArcSums.{sum_parts}
 use Rattle.cut_proof.proofs.Crossing.{entering_after, leaving_after}
 use Rattle.market_model.specs.declared.event.Event.{Event}
 use Rattle.market_model.specs.declared.event.Event.TheVariants as event
-use Rattle.market_model.specs.Certificate.{room_across}
+use Rattle.market_model.specs.Certificate.{crosses_left, crossing_lots, room_across}
 use Rattle.market_model.specs.History.{and_then}
 use Rattle.market_model.specs.Lines.{buyer_zone, line, seller_zone, stands_in}
-use Rattle.market_model.specs.Orders.{Placed, Standing, filled, is_open, left, names, placed, placed_by, standing}
+use Rattle.market_model.specs.Orders.{Placed, filled, is_open, left, names, placed, placed_by, standing}
 use Rattle.market_model.specs.Room.{room}
 use Rattle.market_laws.proofs.Balances.{names-maker}
 use Rattle.market_laws.proofs.Lines.{same_contract-refl, same_side-refl}
@@ -32,29 +32,25 @@ use Rattle.market_laws.proofs.Tests.{same_name-eq, same_name-refl}
 use Rattle.market_laws.proofs.Unique.{one_order}
 use Rattle.certified_maximum.specs.FlowPlan.{bound_with}
 use Rattle.certified_maximum.specs.Rooms.{route_leg}
-use Rattle.certified_maximum.proofs.CrossingPeaks.{crosses-fall, crosses_left, while_left}
+use Rattle.certified_maximum.proofs.CrossingPeaks.{crosses-fall, while_left}
 use Rattle.certified_maximum.proofs.Duality.{sum_same_in}
 use Rattle.certified_maximum.proofs.Takers.{CanTake, IsTakersLeg, rooms-after}
 
--- what is left of a resting order and crosses a taker's price
-abbrev pub left_crossing : (taker : Order) → Standing → ℕ
-left_crossing taker other = crosses_left taker other.order other.filled other.left
-
--- the bound of a set of zones, of what is left
+-- the bound of a set of zones after some events
 abbrev pub left_bound : Graph → List Event → Order → (zones : List ℕ) → ℕ
 left_bound graph V taker zones =
-    bound_with graph (room V (contract_quarters taker.contract)) taker.side (line V taker.contract (opposite taker.side)) (left_crossing taker) zones
+    bound_with graph (room V (contract_quarters taker.contract)) taker.side (line V taker.contract (opposite taker.side)) (crossing_lots taker) zones
 
 -- the same, of one that entered: where it stands in the line, and in the zones
 abbrev counted : (taker : Order) → (zones : List ℕ) → List Event → Placed → ℕ
-counted taker zones V p = lots_if (stands_in V taker.contract (opposite taker.side) p) (lots_if (has p.order.zone zones) (left_crossing taker (standing V p)))
+counted taker zones V p = lots_if (stands_in V taker.contract (opposite taker.side) p) (lots_if (has p.order.zone zones) (crossing_lots taker (standing V p)))
 
 -- what crosses in some zones is the sum over those that entered
 crossing-sum : (V : List Event) (taker : Order) (zones : List ℕ)
-    → sum_by (left_crossing taker) (filter (λ s. has s.order.zone zones) (line V taker.contract (opposite taker.side))) ≡ sum_by (counted taker zones V) (placed V)
+    → sum_by (crossing_lots taker) (filter (λ s. has s.order.zone zones) (line V taker.contract (opposite taker.side))) ≡ sum_by (counted taker zones V) (placed V)
 crossing-sum V taker zones =
-    sum-filter (left_crossing taker) (λ s. has s.order.zone zones) (line V taker.contract (opposite taker.side))
-    ∙ sum-line V taker.contract (opposite taker.side) (λ s. lots_if (has s.order.zone zones) (left_crossing taker s))
+    sum-filter (crossing_lots taker) (λ s. has s.order.zone zones) (line V taker.contract (opposite taker.side))
+    ∙ sum-line V taker.contract (opposite taker.side) (λ s. lots_if (has s.order.zone zones) (crossing_lots taker s))
 
 other_side : (side : Side) → same_side side (opposite side) ≡ false
 other_side Buy = refl
@@ -119,8 +115,8 @@ module _ (graph : Graph) (is_graph : IsGraph graph) (V : List Event) (can : CanT
       let before : counted taker.order zones V maker ≡ lots_if (has maker.order.zone zones) (crosses_left taker.order maker.order had was) =
       ap (λ b. lots_if b (lots_if (has maker.order.zone zones) (crosses_left taker.order maker.order had was))) (of_line V ∙ next.maker_open.is_left) in
       let after : counted taker.order zones (and_then V traded) maker ≡ lots_if (has maker.order.zone zones) (while_left (was - lots) (crosses_left taker.order maker.order (had + lots) (was - lots))) =
-      ap (λ b. lots_if b (lots_if (has maker.order.zone zones) (left_crossing taker.order (standing (and_then V traded) maker)))) (of_line (and_then V traded))
-      ∙ both_if (is_open (and_then V traded) maker.name) (has maker.order.zone zones) (left_crossing taker.order (standing (and_then V traded) maker))
+      ap (λ b. lots_if b (lots_if (has maker.order.zone zones) (crossing_lots taker.order (standing (and_then V traded) maker)))) (of_line (and_then V traded))
+      ∙ both_if (is_open (and_then V traded) maker.name) (has maker.order.zone zones) (crossing_lots taker.order (standing (and_then V traded) maker))
       ∙ ap (λ n. lots_if (has maker.order.zone zones) (while_left n (crosses_left taker.order maker.order (filled (and_then V traded) maker.name) n))) (left-named maker.name true maker_named)
       ∙ ap (λ n. lots_if (has maker.order.zone zones) (while_left (was - lots) (crosses_left taker.order maker.order n (was - lots)))) (filled-named maker.name true maker_named) in
       before
@@ -139,9 +135,9 @@ module _ (graph : Graph) (is_graph : IsGraph graph) (V : List Event) (can : CanT
   -- the taker stands in another line
   counted-taker : (W : List Event) → counted taker.order zones W taker ≡ 0
   counted-taker W =
-      ap (λ b. lots_if (is_open W taker.name && same_contract taker.order.contract taker.order.contract && b) (lots_if (has taker.order.zone zones) (left_crossing taker.order (standing W taker))))
+      ap (λ b. lots_if (is_open W taker.name && same_contract taker.order.contract taker.order.contract && b) (lots_if (has taker.order.zone zones) (crossing_lots taker.order (standing W taker))))
       (other_side taker.order.side)
-      ∙ ap (λ b. lots_if b (lots_if (has taker.order.zone zones) (left_crossing taker.order (standing W taker)))) (and-false (is_open W taker.name && same_contract taker.order.contract taker.order.contract))
+      ∙ ap (λ b. lots_if b (lots_if (has taker.order.zone zones) (crossing_lots taker.order (standing W taker)))) (and-false (is_open W taker.name && same_contract taker.order.contract taker.order.contract))
 
   counted-step : (p : Placed) → IsIn p (placed V) → counted taker.order zones V p ≡ counted taker.order zones (and_then V traded) p + lots_if (same_name p.name maker.name) in_zones
   counted-step p i = by (same_name p.name maker.name) refl
@@ -169,8 +165,8 @@ module _ (graph : Graph) (is_graph : IsGraph graph) (V : List Event) (can : CanT
               counted-other p (ap (λ b. b || same_name next.leg.maker p.name) (ap (λ n. same_name n p.name) next.taker_is ∙ t) ∙ of_maker)
 
   -- the leg takes what it counts in the zones from what crosses there
-  crossing-falls : sum_by (left_crossing taker.order) (filter (λ s. has s.order.zone zones) (line V taker.order.contract (opposite taker.order.side)))
-      ≡ sum_by (left_crossing taker.order) (filter (λ s. has s.order.zone zones) (line (and_then V traded) taker.order.contract (opposite taker.order.side))) + in_zones
+  crossing-falls : sum_by (crossing_lots taker.order) (filter (λ s. has s.order.zone zones) (line V taker.order.contract (opposite taker.order.side)))
+      ≡ sum_by (crossing_lots taker.order) (filter (λ s. has s.order.zone zones) (line (and_then V traded) taker.order.contract (opposite taker.order.side))) + in_zones
   crossing-falls =
       let own = crossing-sum V taker.order zones in
       let then_sum = crossing-sum (and_then V traded) taker.order zones in

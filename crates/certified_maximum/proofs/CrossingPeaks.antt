@@ -18,6 +18,7 @@ use Rattle.order_kinds.specs.Order.{peak_count, peak_price}
 use Rattle.order_kinds.specs.Side.{crosses, opposite}
 use Rattle.zone_graph.specs.Pour.{lots_if}
 use Rattle.cut_proof.proofs.ArcSums.{sum_nothing, sum_parts}
+use Rattle.market_model.specs.Certificate.{crosses_left}
 use Rattle.market_model.specs.Orders.{price_now, shown_lots}
 
 -- ---- peaks by their numbers
@@ -183,16 +184,6 @@ further_peak Sell own price delta number further least none_at =
 abbrev pub HasPeaks : Kind → Type 0
 HasPeaks (kind.Iceberg peak delta) = 1 ≤ peak.0
 HasPeaks _ = Unit {0}
-
--- what crosses of an order of which so much is filled and left: of an iceberg the lots of the peaks
--- that are left and cross
-abbrev pub crosses_left : (taker order : Order) → (filled left : ℕ) → ℕ
-crosses_left taker order filled left = by_kind order.kind
-  where
-    by_kind : Kind → ℕ
-    by_kind (kind.Iceberg peak delta) =
-        peaks_crossing (λ number. crosses taker.side taker.price (peak_price order.side order.price delta number)) (filled + left) peak.0 filled
-    by_kind _ = lots_if (crosses taker.side taker.price order.price) left
 
 -- of an order of which nothing is left nothing stands in a line
 abbrev pub while_left : (left lots : ℕ) → ℕ

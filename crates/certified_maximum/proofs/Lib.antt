@@ -9,4 +9,3 @@ pub mod Refused
 pub mod RoomsTaken
 pub mod Runs
 pub mod Takers
-pub mod WholeIcebergs

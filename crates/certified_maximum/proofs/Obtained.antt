@@ -1,24 +1,22 @@
 -- What an order obtains as it enters is its whole quantity, or the bound of the zones in reach.
-use Rattle.std.proofs.Common.{◌≡◌, ◌∙◌, ◌⊎◌, inl, inr, ℕ, ◌+◌, true, List, [], ◌∷◌, filter, fold, None, refl, sym, ap, subst, arith}
+use Rattle.std.proofs.Common.{◌≡◌, ◌∙◌, ◌⊎◌, inl, inr, ℕ, ◌+◌, true, List, [], ◌∷◌, fold, None, refl, sym, ap, subst, arith}
 use Rattle.order_kinds.specs.declared.order.Kind.{Kind}
 use Rattle.order_kinds.specs.declared.order.Kind.TheVariants as kind
 use Rattle.order_kinds.specs.declared.order.Order.{Order}
 use Rattle.order_kinds.specs.declared.order.OrderName.{OrderName}
-use Rattle.order_kinds.specs.Order.{order_fault, peak_price}
+use Rattle.order_kinds.specs.Order.{order_fault}
 use Rattle.order_kinds.specs.Period.{contract_quarters}
-use Rattle.order_kinds.specs.Side.{crosses, opposite}
 use Rattle.zone_graph.specs.Graph.{Graph}
 use Rattle.zone_graph.specs.Route.{IsIn, has}
-use Rattle.zone_graph.proofs.Membership.{IsIn-right, from_filter}
+use Rattle.zone_graph.proofs.Membership.{IsIn-right}
 use Rattle.market_model.specs.declared.event.Event.{Event}
 use Rattle.market_model.specs.declared.event.Event.TheVariants as event
 use Rattle.market_model.specs.declared.setup.Setup.{Setup}
-use Rattle.market_model.specs.Certificate.{bound_of, crossing_lots, room_across, unfilled_zones, zones_in_reach}
+use Rattle.market_model.specs.Certificate.{bound_of, unfilled_zones, zones_in_reach}
 use Rattle.market_model.specs.Entering.{after_taking, legs_taken, name_of_next, rest_of, with_order}
 use Rattle.market_model.specs.Grid.{graph_of}
 use Rattle.market_model.specs.History.{and_then}
-use Rattle.market_model.specs.Lines.{line}
-use Rattle.market_model.specs.Orders.{Placed, Standing, filled, left, placed, placed_by, standing}
+use Rattle.market_model.specs.Orders.{Placed, left, placed, placed_by}
 use Rattle.market_model.specs.Room.{room}
 use Rattle.market_model.specs.Taking.{next_leg}
 use Rattle.market_model.specs.WellFormed.{FitAfter, IsHistory, IsMarketSetup, OrderEnters}
@@ -30,16 +28,13 @@ use Rattle.market_laws.proofs.Placed.{all_are_sound}
 use Rattle.market_laws.proofs.Repeats.{fit-more, fold-and_then, run-end}
 use Rattle.market_laws.proofs.Soundness.{order_fault-none, peak-some}
 use Rattle.market_laws.proofs.States.{filled-more, taken_off-more}
-use Rattle.market_laws.proofs.Trades.{from_line}
 use Rattle.market_laws.proofs.Unique.{entered-none, entered-order}
 use Rattle.market_laws.proofs.Uses.{within_offers}
 use Rattle.certified_maximum.specs.Takings.{HasNoDelta, obtained}
-use Rattle.certified_maximum.proofs.BoundsFall.{left_bound, left_crossing}
-use Rattle.certified_maximum.proofs.CrossingPeaks.{HasPeaks, peaks_crossing}
-use Rattle.certified_maximum.proofs.Duality.{sum_same_in}
+use Rattle.certified_maximum.proofs.BoundsFall.{left_bound}
+use Rattle.certified_maximum.proofs.CrossingPeaks.{HasPeaks}
 use Rattle.certified_maximum.proofs.Runs.{HasTaken, ended, own_reached, taken-by}
 use Rattle.certified_maximum.proofs.Takers.{CanTake}
-use Rattle.certified_maximum.proofs.WholeIcebergs.{IsIceberg, iceberg-whole}
 
 -- an order with sound numbers has peaks of a lot at least
 pub sound-peaks : (order : Order) → order_fault order ≡ None → HasPeaks order.kind
@@ -59,31 +54,10 @@ fit-can_take setup V fit = record {
   peaks = λ p i. sound-peaks p.order ((all_are_sound setup V fit).orders p i).sound;
 }
 
--- what crosses of an open order of a well-formed history, told by its quantity, is what is left of it
--- and crosses
-crossing-left : (setup : Setup) (V : List Event) → FitAfter setup [] V → (taker : Order) (s : Standing) → IsIn s (line V taker.contract (opposite taker.side))
-    → crossing_lots taker s ≡ left_crossing taker s
-crossing-left setup V fit taker s i =
-    let in_line = from_line V taker.contract (opposite taker.side) s i in
-    subst (λ (x : Standing). crossing_lots taker x ≡ left_crossing taker x) (sym in_line.is) (go in_line.order in_line.order.order.kind refl
-    (λ iceberg. iceberg-whole setup V fit in_line.order in_line.is_open.is_placed iceberg in_line.is_open.is_left))
-  where
-    go : (p : Placed) (k : Kind) → p.order.kind ≡ k → (IsIceberg p.order.kind → filled V p.name + left V p.name ≡ p.order.quantity.0)
-        → crossing_lots taker (standing V p) ≡ left_crossing taker (standing V p)
-    go p kind.Limit is = rw is (λ whole. refl)
-    go p kind.Ioc is = rw is (λ whole. refl)
-    go p kind.Fok is = rw is (λ whole. refl)
-    go p (kind.Iceberg peak delta) is = rw is (λ whole.
-        ap (λ total. peaks_crossing (λ number. crosses taker.side taker.price (peak_price p.order.side p.order.price delta number)) total peak.0 (filled V p.name)) (sym (whole tt)))
-
-pub bound-left : (setup : Setup) (events : List Event) (caller : ℕ) (order : Order) (zones : List ℕ) → FitAfter setup [] (with_order events caller order)
+pub bound-left : (setup : Setup) (events : List Event) (caller : ℕ) (order : Order) (zones : List ℕ)
     → bound_of (graph_of setup) events caller order zones ≡ left_bound (graph_of setup) (with_order events caller order) order zones
 unfolding bound_of
-bound-left setup events caller order zones fit =
-    let start = with_order events caller order in
-    let across = room_across (graph_of setup) (room start (contract_quarters order.contract)) order.side zones in
-    ap (λ n. n + across) (sum_same_in (crossing_lots order) (left_crossing order) (filter (λ (s : Standing). has s.order.zone zones) (line start order.contract (opposite order.side)))
-    (λ s i. crossing-left setup start fit order s (from_filter (λ (s : Standing). has s.order.zone zones) s (line start order.contract (opposite order.side)) i).0))
+bound-left setup events caller order zones = refl
 
 module _ (setup : Setup) (is_setup : IsMarketSetup setup) (events : List Event) (history : IsHistory setup events) (caller : ℕ) (order : Order)
     (enters : OrderEnters setup events (name_of_next events order) caller order) (flat : HasNoDelta order.kind) where
@@ -157,7 +131,7 @@ module _ (setup : Setup) (is_setup : IsMarketSetup setup) (events : List Event) 
             let no_more : left_bound graph Vend order zones ≡ 0 =
             ap (λ V. left_bound graph Vend order (zones_in_reach graph (room V (contract_quarters order.contract)) order.side order.zone)) (sym ends) ∙ nothing in
             let from = taken.from_bound zones_have_own in
-            let told = bound-left setup events caller order zones fit_start in
+            let told = bound-left setup events caller order zones in
             inr (omega (arith, from, no_more, told))
       ]
 

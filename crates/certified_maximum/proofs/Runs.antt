@@ -27,7 +27,7 @@ use Rattle.cut_proof.proofs.ReachLaws.{beyond-has, has-beyond, has-towards, no_r
 use Rattle.market_model.specs.declared.event.Event.{Event}
 use Rattle.market_model.specs.declared.event.Event.TheVariants as event
 use Rattle.market_model.specs.declared.event.Leg.{Leg}
-use Rattle.market_model.specs.Certificate.{room_across, zones_in_reach}
+use Rattle.market_model.specs.Certificate.{crossing_lots, room_across, zones_in_reach}
 use Rattle.market_model.specs.History.{and_then}
 use Rattle.market_model.specs.Lines.{buyer_zone, can_trade, line, partner, rooms_for, seller_zone}
 use Rattle.market_model.specs.Orders.{Placed, Standing, is_open, left, open_order, placed, price_now, standing}
@@ -40,7 +40,7 @@ use Rattle.market_laws.proofs.Tests.{same_name-eq, same_name-refl}
 use Rattle.market_laws.proofs.Trades.{from_line, partner-is}
 use Rattle.market_laws.proofs.Unique.{one_order}
 use Rattle.certified_maximum.specs.Takings.{HasNoDelta, lots_traded}
-use Rattle.certified_maximum.proofs.BoundsFall.{bound-falls, left_bound, left_crossing}
+use Rattle.certified_maximum.proofs.BoundsFall.{bound-falls, left_bound}
 use Rattle.certified_maximum.proofs.CrossingPeaks.{crosses-none}
 use Rattle.certified_maximum.proofs.Takers.{CanTake, IsTakersLeg, can-after, placed-after, takers-leg}
 
@@ -146,17 +146,17 @@ module _ (graph : Graph) (is_graph : IsGraph graph) (taker : Placed) (flat : Has
     unfolding partner
     nothing_left none =
         let inside = filter (λ (s : Standing). has s.order.zone reached) (line V taker.order.contract (opposite taker.order.side)) in
-        let crossing : sum_by (left_crossing taker.order) inside ≡ 0 = sum_nothing (left_crossing taker.order) inside each in
+        let crossing : sum_by (crossing_lots taker.order) inside ≡ 0 = sum_nothing (crossing_lots taker.order) inside each in
         omega (arith, crossing, across taker.order.side refl)
       where
-        each : (s : Standing) → IsIn s (filter (λ (s : Standing). has s.order.zone reached) (line V taker.order.contract (opposite taker.order.side))) → left_crossing taker.order s ≡ 0
+        each : (s : Standing) → IsIn s (filter (λ (s : Standing). has s.order.zone reached) (line V taker.order.contract (opposite taker.order.side))) → crossing_lots taker.order s ≡ 0
         each s i =
             let found = from_filter (λ (s : Standing). has s.order.zone reached) s (line V taker.order.contract (opposite taker.order.side)) i in
             let in_line = from_line V taker.order.contract (opposite taker.order.side) s found.0 in
             let trades_not = find-none (can_trade graph rooms own) (line V taker.order.contract (opposite taker.order.side)) none s found.0 in
             let price_not : crosses taker.order.side own.price s.price ≡ false = first_false (crosses taker.order.side own.price s.price)
             (ap (λ b. crosses taker.order.side own.price s.price && b) (sym (in_reach s found.1)) ∙ trades_not) in
-            subst (λ (x : Standing). left_crossing taker.order x ≡ 0) (sym in_line.is)
+            subst (λ (x : Standing). crossing_lots taker.order x ≡ 0) (sym in_line.is)
             (crosses-none taker.order in_line.order.order (standing V in_line.order).filled (standing V in_line.order).left in_line.on_side
             (subst (λ price. crosses taker.order.side price (standing V in_line.order).price ≡ false) (price-flat taker.order own.filled flat)
             (subst (λ (x : Standing). crosses taker.order.side own.price x.price ≡ false) in_line.is price_not)))

@@ -22,17 +22,21 @@ use Rattle.market_model.specs.Lines.{line}
 use Rattle.market_model.specs.Orders.{Standing}
 use Rattle.market_model.specs.Room.{room}
 
--- the lots of a resting order that cross a taker's price: of an iceberg those of each peak that is
--- left and crosses, hidden ones too; of any other order all that is left, where its price crosses
-abbrev pub crossing_lots : (taker : Order) → Standing → ℕ
-crossing_lots taker other = by_kind other.order.kind
+-- the lots of an order that cross a taker's price, where so much of it is filled and left: of an
+-- iceberg, whose lots go from what is filled up to what is filled and left, those of each peak that
+-- crosses, hidden ones too; of any other order all that is left, where its price crosses
+abbrev pub crosses_left : (taker order : Order) → (filled left : ℕ) → ℕ
+crosses_left taker order filled left = by_kind order.kind
   where
     by_kind : Kind → ℕ
     by_kind (kind.Iceberg peak delta) = sum_by
-        (λ number. lots_if (crosses taker.side taker.price (peak_price other.order.side other.order.price delta number))
-        (peak_left other.order.quantity.0 peak.0 other.filled number))
-        (range_with_len 0 (peak_count other.order.quantity.0 peak.0))
-    by_kind _ = lots_if (crosses taker.side taker.price other.price) other.left
+        (λ number. lots_if (crosses taker.side taker.price (peak_price order.side order.price delta number)) (peak_left (filled + left) peak.0 filled number))
+        (range_with_len 0 (peak_count (filled + left) peak.0))
+    by_kind _ = lots_if (crosses taker.side taker.price order.price) left
+
+-- the lots of a resting order that cross a taker's price
+abbrev pub crossing_lots : (taker : Order) → Standing → ℕ
+crossing_lots taker other = crosses_left taker other.order other.filled other.left
 
 -- what crosses of the opposite orders that stand in some zones
 abbrev pub crossing_inside : List Event → (taker : Order) → (zones : List ℕ) → ℕ

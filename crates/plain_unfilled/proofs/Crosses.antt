@@ -1,5 +1,5 @@
 -- What crosses, order by order.
-use Rattle.std.proofs.Common.{◌≡◌, ◌∙◌, ℕ, ◌==◌, ◌||◌, ◌≤◌, Bool, true, false, List, [], ◌∷◌, filter, sum_by, refl, sym, ap, ap₂, arith}
+use Rattle.std.proofs.Common.{◌≡◌, ◌∙◌, ℕ, ◌+◌, ◌==◌, ◌||◌, ◌≤◌, Bool, true, false, List, [], ◌∷◌, filter, sum_by, refl, sym, ap, ap₂, arith}
 use Rattle.std.specs.List.{list_any}
 use Rattle.order_kinds.specs.declared.order.Kind.TheVariants as kind
 use Rattle.order_kinds.specs.declared.order.Order.{Order}
@@ -22,7 +22,7 @@ has-any zone (other ∷ zones) = ap (λ b. (other == zone) || b) (has-any zone z
 
 -- an iceberg crosses by its peaks
 pub iceberg-is : (taker : Order) (other : Standing) (peak : Lots) (delta : ℕ) → other.order.kind ≡ kind.Iceberg peak delta
-    → crossing_lots taker other ≡ crossing_peaks taker other.order peak.0 delta other.filled (peak_count other.order.quantity.0 peak.0)
+    → crossing_lots taker other ≡ crossing_peaks taker other.order peak.0 delta other.filled other.left (peak_count (other.filled + other.left) peak.0)
 unfolding crossing_peaks
 iceberg-is taker other peak delta is = rw is refl
 
@@ -38,11 +38,13 @@ unfolding crossing_in
 inside-is events taker zones orders is = ap (λ l. sum_by (crossing_lots taker) (filter (λ (other : Standing). has other.order.zone zones) l)) is
 
 -- an iceberg crosses by its peaks, as it is read
-pub iceberg-by : (taker : Order) (other : Standing) (order : Order) (filled lots : ℕ) (peak : Lots) (delta : ℕ) → order ≡ other.order → filled ≡ other.filled
-    → order.kind ≡ kind.Iceberg peak delta → lots ≡ crossing_peaks taker order peak.0 delta filled (peak_count order.quantity.0 peak.0) → lots ≡ crossing_lots taker other
-iceberg-by taker other order filled lots peak delta same so_filled is by_peaks =
+pub iceberg-by : (taker : Order) (other : Standing) (order : Order) (filled left lots : ℕ) (peak : Lots) (delta : ℕ) → order ≡ other.order → filled ≡ other.filled
+    → left ≡ other.left → order.kind ≡ kind.Iceberg peak delta → lots ≡ crossing_peaks taker order peak.0 delta filled left (peak_count (filled + left) peak.0)
+    → lots ≡ crossing_lots taker other
+iceberg-by taker other order filled left lots peak delta same so_filled so_left is by_peaks =
     by_peaks
-    ∙ ap₂ (λ (o : Order) (f : ℕ). crossing_peaks taker o peak.0 delta f (peak_count o.quantity.0 peak.0)) same so_filled
+    ∙ ap (λ (o : Order). crossing_peaks taker o peak.0 delta filled left (peak_count (filled + left) peak.0)) same
+    ∙ ap₂ (λ (f l : ℕ). crossing_peaks taker other.order peak.0 delta f l (peak_count (f + l) peak.0)) so_filled so_left
     ∙ sym (iceberg-is taker other peak delta (sym (ap (λ (o : Order). o.kind) same) ∙ is))
 
 -- no more than all

@@ -1,5 +1,5 @@
 -- The lines of a legal history.
-use Rattle.std.proofs.Common.{◌≡◌, ℕ, suc, zero, ◌<◌, ◌≤◌, cond, List, [], ◌∷◌, filter, get_or, inl, inr, length, map, sym, subst, arith}
+use Rattle.std.proofs.Common.{◌+◌, ◌≤◌, cond, List, [], ◌∷◌, filter, length, map, sym, subst, arith}
 use Rattle.std.proofs.lemmas.List.{length-map}
 use Rattle.std.proofs.lemmas.List.Sums.{count_by-le-length, length-filter}
 use Rattle.std.specs.List.{cons_option}
@@ -11,15 +11,16 @@ use Rattle.market_model.specs.declared.event.Event.{Event}
 use Rattle.market_model.specs.declared.event.Event.TheVariants as event
 use Rattle.market_model.specs.History.{entered_count, enters}
 use Rattle.market_model.specs.Lines.{line, priority_cmp, stands_in}
-use Rattle.market_model.specs.Orders.{Placed, Standing, placed, placed_by, standing}
+use Rattle.market_model.specs.Orders.{Placed, Standing, filled, left, placed, placed_by, standing}
 use Rattle.history_bounds.proofs.Lefts.{left-most}
+use Rattle.market_laws.proofs.Balances.{covered}
 use Rattle.market_laws.proofs.Counts.{length-in_order}
 use Rattle.market_laws.proofs.Members.{from_in_order}
+use Rattle.market_laws.proofs.Names.{names-once}
 use Rattle.market_laws.proofs.Placed.{all_are_sound}
-use Rattle.plain_capacity.specs.Hour.{IsLegalOver}
+use Rattle.market_laws.proofs.Unique.{entered-order}
 use Rattle.plain_orders.specs.Histories.{IsSomeHistory}
 use Rattle.plain_unfilled.specs.Crossing.{AreSound, IsSound}
-use Rattle.zone_graph.specs.Graph.{Graph}
 use Rattle.zone_graph.specs.InOrder.{in_order}
 
 -- the orders of a line are sound
@@ -27,6 +28,12 @@ pub line-sound : (events : List Event) (contract : Contract) (side : Side) → I
 unfolding line
 line-sound events contract side history = record { each = each }
   where
+    part : (order : Placed) → IsIn order (placed events) → filled events order.name + left events order.name ≤ order.order.quantity.0
+    part order i =
+        let all = entered-order events order (names-once history.setup events history.fit) i in
+        let covers = covered history.setup events history.fit order.name in
+        omega (arith, all, covers)
+
     each : (order : Standing) → IsIn order (in_order (priority_cmp side) (map (standing events) (filter (stands_in events contract side) (placed events)))) → IsSound order
     each order i =
         let listed = from_in_order (priority_cmp side) order (map (standing events) (filter (stands_in events contract side) (placed events))) i in
@@ -36,6 +43,7 @@ line-sound events contract side history = record { each = each }
         subst (λ (s : Standing). IsSound s) (sym from.2) (record {
           numbers = record { no_fault = sound.sound };
           most = left-most history.setup events history.fit from.0.name;
+          within = part from.0 there.0;
         })
 
 -- no more orders are placed than orders and blocks entered

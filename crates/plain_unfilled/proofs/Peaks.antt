@@ -1,19 +1,13 @@
 -- The peaks of an iceberg with sound numbers.
-use Rattle.std.proofs.Common.{◌≡◌, ℕ, suc, ◌+◌, ◌-◌, ◌*◌, ◌/◌, ◌<◌, ◌≤◌, ◌&&◌, true, [], ◌∷◌, ◌++◌, sum_by, nat_lt, nat_le, refl, ap, arith, ltb-true, w32, FitsSigned}
+use Rattle.std.proofs.Common.{◌≡◌, ℕ, suc, ◌+◌, ◌-◌, ◌*◌, ◌/◌, ◌<◌, ◌≤◌, [], ◌∷◌, ◌++◌, sum_by, ap, arith, w32, FitsSigned}
 use Rattle.std.proofs.Math.Nat.{div-mul-le_self, mul-le-mul, mul-le-mul_left}
-use Rattle.std.proofs.lemmas.Bool.{leb-true, and_parts}
 use Rattle.std.proofs.lemmas.List.Sums.{sum_by-append, sum_by-cons}
 use Rattle.std.proofs.lemmas.Nat.{le-div}
 use Rattle.std.specs.List.{range_with_len}
 use Rattle.order_kinds.specs.declared.order.Kind.TheVariants as kind
 use Rattle.order_kinds.specs.declared.order.Order.{Order}
 use Rattle.order_kinds.specs.declared.price.Lots.{Lots}
-use Rattle.order_kinds.specs.declared.price.Price.{Price}
-use Rattle.order_kinds.specs.declared.side.Side.{Side}
-use Rattle.order_kinds.specs.declared.side.Side.TheVariants.{Buy, Sell}
-use Rattle.order_kinds.specs.Order.{last_peak_price, peak_count, peak_price, peaks_allowed}
-use Rattle.order_kinds.specs.Price.{price_in_range}
-use Rattle.market_laws.proofs.Soundness.{lots_in_range-bounds, order_fault-none}
+use Rattle.order_kinds.specs.Order.{peak_count, peak_price}
 use Rattle.cut_proof.proofs.ArcSums.{range_more}
 use Rattle.plain_orders.specs.Histories.{HasSoundNumbers}
 use Rattle.plain_orders.proofs.Changes.{change-most, peaks-sound, price-fits}
@@ -61,12 +55,19 @@ module _ (order : Order) (peak : Lots) (delta : ℕ) (sound : HasSoundNumbers or
       let product : peak.0 * (number + 1) ≤ 9990 * 100 = mul-le-mul one all in
       product
 
+-- a part of an order has no more peaks than all of it
+pub part-fewer : (part total peak : ℕ) → 1 ≤ peak → part ≤ total → peak_count part peak ≤ peak_count total peak
+part-fewer part total peak some less =
+    let own = div-mul-le_self (part - 1) peak in
+    let fewer : (part - 1) / peak ≤ (total - 1) / peak = le-div ((part - 1) / peak) (total - 1) peak some (omega (arith, own, less)) in
+    omega (arith, fewer)
+
 -- one peak more
-pub peaks-more : (taker order : Order) (peak delta filled number : ℕ)
-    → crossing_peaks taker order peak delta filled (number + 1) ≡ crossing_peaks taker order peak delta filled number + crossing_peak taker order peak delta filled number
+pub peaks-more : (taker order : Order) (peak delta filled left number : ℕ)
+    → crossing_peaks taker order peak delta filled left (number + 1) ≡ crossing_peaks taker order peak delta filled left number + crossing_peak taker order peak delta filled left number
 unfolding crossing_peaks
-peaks-more taker order peak delta filled number =
-    let f : ℕ → ℕ = crossing_peak taker order peak delta filled in
+peaks-more taker order peak delta filled left number =
+    let f : ℕ → ℕ = crossing_peak taker order peak delta filled left in
     let one : number + 1 ≡ suc number = omega arith in
     let start : 0 + number ≡ number = omega arith in
     omega (

@@ -63,42 +63,52 @@ fn crossing_lots(other: &StandingOrder, taker: &Order) -> u32
     let order = other.order();
     match order.kind {
         Kind::Iceberg { peak, delta } => {
-            crossing_peaks(&order, peak, delta, other.filled(), taker)
+            crossing_peaks(&order, peak, delta, other.filled(), other.left(), taker)
         }
         Kind::Limit | Kind::Ioc | Kind::Fok => lots_if(
-            taker.side.crosses(taker.price, other.price()),
+            taker.side.crosses(taker.price, order.price),
             other.left(),
         ),
     }
 }
 
-// The lots of the peaks of an iceberg that are left and cross a taker's price.
-fn crossing_peaks(order: &Order, peak: Lots, delta: u32, filled: u32, taker: &Order) -> u32
+// The lots of the peaks of an iceberg, of which so much is filled and left, that cross a taker's
+// price.
+fn crossing_peaks(
+    order: &Order,
+    peak: Lots,
+    delta: u32,
+    filled: u32,
+    left: u32,
+    taker: &Order,
+) -> u32
     requires sound { HasSoundNumbers order.now }
     requires kind { order.now.kind ≡ Kind.Iceberg peak delta }
-    ensures lots { result ≡ crossing.crossing_peaks taker.now order.now peak.0 delta filled (orders.peak_count order.now.quantity.0 peak.0) }
+    requires within { filled + left ≤ order.now.quantity.0 }
+    ensures lots { result ≡ crossing.crossing_peaks taker.now order.now peak.0 delta filled left (orders.peak_count (filled + left) peak.0) }
     ensures most { result ≤ 999000 }
 {
-    let total = order.quantity.0;
+    let end = filled + left;
     let mut lots = 0;
-    for number in 0..number_now(peak.0, total - 1) + 1 {
+    for number in 0..number_now(peak.0, end.saturating_sub(1)) + 1 {
         let price = price_of_peak(order.side, order.price, delta, number);
         lots += lots_if(
             taker.side.crosses(taker.price, price),
-            peak_left(total, peak.0, filled, number),
+            peak_left(end, peak.0, filled, number),
         );
     }
     lots
 }
 
-// The lots that are left of the peak of this number, counted from 0.
-fn peak_left(total: u32, peak: u32, filled: u32, number: u32) -> u32
+// The lots that are left of the peak of this number, counted from 0, of an iceberg whose last lot is
+// the one before `end`.
+fn peak_left(end: u32, peak: u32, filled: u32, number: u32) -> u32
     requires number { number < 100 }
-    requires end { peak * (number + 1) ≤ 999000 }
-    ensures lots { result ≡ peaks.peak_left total peak filled number }
-    ensures most { result ≤ total }
+    requires last { peak * (number + 1) ≤ 999000 }
+    ensures lots { result ≡ peaks.peak_left end peak filled number }
+    ensures most { result ≤ end }
 {
     (peak * (number + 1))
-        .min(total)
+        .min(end)
         .saturating_sub((peak * number).max(filled))
 }
