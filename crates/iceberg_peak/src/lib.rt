@@ -16,4 +16,4 @@ mod peak;
 pub use laws::{
     filled_peak_makes_way_for_the_next, open_iceberg_shows_something, peaks_hold_what_is_left,
 };
-pub use peak::{number_now, price_now, price_of_peak, shown};
+pub use peak::{left_of_peak, number_now, price_now, price_of_peak, shown};

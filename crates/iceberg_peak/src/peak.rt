@@ -1,6 +1,6 @@
 //! The number, the lots and the price of the peak that shows.
 
-ghost use Rattle.std.specs.Prelude.{◌≡◌, ◌-◌, ◌<◌, ◌≤◌, FitsSigned, IsTrue};
+ghost use Rattle.std.specs.Prelude.{◌≡◌, ◌-◌, ◌%◌, ◌<◌, ◌≤◌, FitsSigned, IsTrue};
 ghost use Rattle.std.specs.Int.{w32};
 ghost use Rattle.order_kinds.specs.Order.{peak_number, peak_price};
 ghost use Rattle.order_kinds.specs.Price.{price_in_range};
@@ -18,6 +18,14 @@ pub fn number_now(peak: u32, filled: u32) -> u32
     filled / peak
 }
 
+/// The lots that are left of the peak that shows after `filled` lots, where that is a whole one.
+pub fn left_of_peak(peak: u32, filled: u32) -> u32
+    requires { 1 ≤ peak }
+    ensures { result ≡ peak - filled % peak }
+{
+    peak - filled % peak
+}
+
 /// The lots that show of an iceberg of `total` lots after `filled` of them: what is left of the
 /// peak, or of the order where that is less.
 pub fn shown(total: u32, peak: u32, filled: u32) -> u32
@@ -25,7 +33,7 @@ pub fn shown(total: u32, peak: u32, filled: u32) -> u32
     requires some_left { filled < total }
     ensures { result ≡ peak_shown peak filled (total - filled) }
 {
-    (peak - filled % peak).min(total - filled)
+    left_of_peak(peak, filled).min(total - filled)
 }
 
 /// The price of the peak of this number, counted from 0, of an iceberg whose first peak has the

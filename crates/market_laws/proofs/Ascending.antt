@@ -1,7 +1,7 @@
 -- A list in order ascends: no item of it goes before one that stands in front of it. So what is found
 -- first in it is found before all that go behind.
 use Rattle.std.proofs.Common.{◌≡◌, ◌∙◌, inl, inr, Bool, true, false, cond, List, [], ◌∷◌, fold, Option, Some, None, refl, sym, ap, if◌then◌else◌}
-use Rattle.std.proofs.lemmas.Bool.{true≢false}
+use Rattle.std.proofs.lemmas.Bool.{false_from_ne_true, true≢false}
 use Rattle.std.specs.Cmp.{IsStrictWeakOrder}
 use Rattle.std.specs.List.{find}
 use Rattle.std.specs.Ordering.{is_lt}
@@ -11,18 +11,13 @@ use Rattle.market_model.specs.Sweep.{first_answer, or_else}
 use Rattle.zone_graph.specs.InOrder.{put_in_order, in_order}
 use Rattle.zone_graph.proofs.InOrder.{from_put_in_order}
 
--- a test that is not true is false
-pub by_absurd : (b : Bool) → (b ≡ true → ⊥) → b ≡ false
-by_absurd true h = absurd (h refl)
-by_absurd false h = refl
-
 module _ {X : Type 0} (cmp : X → X → Ordering) (o : IsStrictWeakOrder (λ (x y : X). is_lt (cmp x y))) where
   -- an item comes before another
   abbrev pub lt : X → X → Bool
   lt x y = is_lt (cmp x y)
 
   pub itself : (x : X) → lt x x ≡ false
-  itself x = by_absurd (lt x x) (λ h. true≢false (sym h ∙ o.one_way x x h))
+  itself x = false_from_ne_true (lt x x) (λ h. true≢false (sym h ∙ o.one_way x x h))
 
   -- what comes after an item comes after all that it comes before
   pub after : (x y z : X) → lt x y ≡ true → lt z y ≡ false → lt z x ≡ false

@@ -3,7 +3,6 @@ pub mod Found
 pub mod Histories
 pub mod LineLaws
 pub mod Listing
-pub mod Moments
 pub mod Stable
 pub mod Taken
 pub mod Tells

@@ -21,15 +21,7 @@ use Rattle.plain_orders.specs.Histories.{IsSomeHistory}
 use Rattle.plain_orders.specs.Listed.{block_line_of, blocks_of, is_block_of, is_in_block_line, is_in_line, is_order_of, line_of, orders_of}
 use Rattle.zone_graph.specs.InOrder.{in_order}
 
--- priority is an order in which any two compare
-priority_total : (side : Side) → IsTotalOrder (priority_cmp side)
-priority_total side =
-    then_total (on_total (λ (s : Standing). s.price) (price_cmp_total side))
-    (then_total (on_total (λ (s : Standing). s.moment) nat_cmp_total) (on_total (λ (s : Standing). s.name.number) nat_cmp_total))
-
-pub priority_weak : (side : Side) → IsStrictWeakOrder (λ (a b : Standing). is_lt (priority_cmp side a b))
-priority_weak side = ranks_by (priority_total side) (λ (s : Standing). s)
-
+-- priority of blocks is an order in which any two compare
 block_priority_total : (side : Side) → IsTotalOrder (block_priority_cmp side)
 block_priority_total side =
     then_total (on_total (λ (s : StandingBlock). s.order.price) (price_cmp_total side))

@@ -1,5 +1,5 @@
 -- The orders, blocks and names of an hour, listed event by event.
-use Rattle.std.proofs.Common.{◌≡◌, ◌∙◌, ℕ, ◌+◌, ◌<◌, ◌≤◌, Bool, true, false, cond, List, [], ◌∷◌, ◌++◌, filter, get_or, length, map, nat_eq, eqb-true, Option, Some, None, refl, sym, ap, subst, if◌then◌else◌, arith}
+use Rattle.std.proofs.Common.{◌≡◌, ◌∙◌, ℕ, ◌<◌, ◌≤◌, Bool, true, false, cond, List, [], ◌∷◌, ◌++◌, filter, get_or, length, map, nat_eq, eqb-true, Option, Some, None, refl, sym, ap, subst, if◌then◌else◌, arith}
 use Rattle.std.proofs.lemmas.Bool.{le-ltb, lt-ltb}
 use Rattle.std.proofs.lemmas.List.{append-nil, map_push}
 use Rattle.std.proofs.lemmas.List.Elements.{filter-append, filter_map-append}
@@ -17,13 +17,14 @@ use Rattle.market_laws.proofs.Balances.{left-filled-taken_off}
 use Rattle.market_laws.proofs.Members.{IsIn-filter_map}
 use Rattle.market_laws.proofs.Names.{enters_as}
 use Rattle.market_laws.proofs.Placed.{all_are_sound, picked-same}
+use Rattle.market_laws.proofs.Names.{names-once}
 use Rattle.market_laws.proofs.Tests.{same_name-refl}
-use Rattle.market_laws.proofs.Unique.{enters-block_placed, enters-placed, times-some}
+use Rattle.market_laws.proofs.Unique.{enters-block_placed, enters-placed, entered-order, times-some}
 use Rattle.plain_orders.specs.declared.tally.Tally.{Tally}
 use Rattle.plain_orders.specs.Histories.{HasSoundNumbers, IsSomeHistory}
 use Rattle.plain_orders.specs.Listed.{block_given, is_block_of, is_order_of, kept, order_given, orders_of, blocks_of}
 use Rattle.plain_orders.specs.Tallies.{AreTallies, Tells, entered_in, name_in, standing_block_by, standing_by}
-use Rattle.plain_orders.proofs.Taken.{entered-order, has-place, same-name}
+use Rattle.plain_orders.proofs.Taken.{has-place, same-name}
 
 -- ---- lists of what events give
 
@@ -98,7 +99,7 @@ pub record OrderAt (events : List Event) (hour : ℕ) (order : Placed) : Type 0 
   pub has_place : (size : ℕ) → entered_in events hour < size → order.name.number < size
   pub sound : HasSoundNumbers order.order
   pub stands : (tally : Tally) → Tells events (name_in hour order.name.number) tally
-      → (standing_by tally order ≡ standing events order) × (tally.filled + tally.left ≤ order.order.quantity.0)
+      → (standing_by tally order ≡ standing events order) × (tally.filled ≤ order.order.quantity.0)
 
 pub order-at : (events : List Event) (place : ℕ) (e : Event) (hour : ℕ) (order : Placed) → IsSomeHistory events → place < length events → e ≡ get_or events place e
     → order_given hour e ≡ Some order → OrderAt events hour order
@@ -117,14 +118,13 @@ order-at events place e hour order history within is given =
     }
   where
     stands : IsIn order (placed events) → order.name.hour ≡ hour → (tally : Tally) → Tells events (name_in hour order.name.number) tally
-        → (standing_by tally order ≡ standing events order) × (tally.filled + tally.left ≤ order.order.quantity.0)
+        → (standing_by tally order ≡ standing events order) × (tally.filled ≤ order.order.quantity.0)
     stands there of_hour tally tells =
         let told = subst (λ n. Tells events n tally) (same-name order.name hour of_hour) tells in
         let moment_is = told.order_moment order there refl in
         let all = left-filled-taken_off history.setup events history.fit order.name in
-        let quantity = entered-order history.setup events history.fit order there in
-        let count = told.filled in
-        let rest = told.left in (
+        let quantity = entered-order events order (names-once history.setup events history.fit) there in
+        let count = told.filled in (
           λ i. record {
             name = order.name;
             caller = order.caller;
@@ -135,7 +135,7 @@ order-at events place e hour order history within is given =
             price = price_now order.order (told.filled i);
             moment = moment_is i;
           },
-          omega (arith, all, quantity, count, rest),
+          omega (arith, all, quantity, count),
         )
 
 -- a block that an event of a history enters by an hour

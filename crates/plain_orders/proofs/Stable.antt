@@ -12,18 +12,15 @@ use Rattle.zone_graph.specs.Route.{IsIn}
 use Rattle.zone_graph.proofs.Membership.{from_filter}
 use Rattle.zone_graph.proofs.Places.{place_of}
 use Rattle.zone_graph.specs.InOrder.{put_in_order, in_order}
-use Rattle.zone_graph.proofs.InOrder.{from_put_in_order}
+use Rattle.market_laws.proofs.Ascending.{Ascends, ascends-fold, ascends-put, before_too, itself}
 
 module _ {X : Type 0} (cmp : X → X → Ordering) (o : IsStrictWeakOrder (λ (x y : X). is_lt (cmp x y))) where
   -- an item comes before another
   abbrev pub lt : X → X → Bool
   lt x y = is_lt (cmp x y)
 
-  itself : (x : X) → lt x x ≡ false
-  itself x = false_from_ne_true (lt x x) (λ h. true≢false (sym h ∙ o.one_way x x h))
-
   tie-itself : (x : X) → ties lt x x ≡ true
-  tie-itself x = rw (itself x) refl
+  tie-itself x = rw (itself cmp o x) refl
 
   tie-from : (x y : X) → lt x y ≡ false → lt y x ≡ false → ties lt x y ≡ true
   tie-from x y a b = rw (a, b) refl
@@ -32,27 +29,10 @@ module _ {X : Type 0} (cmp : X → X → Ordering) (o : IsStrictWeakOrder (λ (x
   from-tie x y h =
       let both = and_parts (not (lt x y)) (not (lt y x)) h in (not-true (lt x y) both.0, not-true (lt y x) both.1)
 
-  -- what comes after an item comes after all that it comes before
-  after : (x y z : X) → lt x y ≡ true → lt z y ≡ false → lt z x ≡ false
-  after x y z before not_before = o.chain z y x not_before (o.one_way x y before)
-
-  -- what comes before an item comes before all that do not come before that one
-  pub before_too : (x y z : X) → lt x y ≡ true → lt z y ≡ false → lt x z ≡ true
-  before_too x y z before not_before = go (lt x z) refl
-    where
-      go : (b : Bool) → lt x z ≡ b → b ≡ true
-      go true e = refl
-      go false e = absurd (true≢false (sym before ∙ o.chain x z y e not_before))
-
   no-tie : (w x z : X) → ties lt w x ≡ true → lt x z ≡ true → ties lt w z ≡ false
   no-tie w x z tie less = false_from_ne_true (ties lt w z) (λ h. true≢false (sym less ∙ o.chain x w z (from-tie w x tie).1 (from-tie w z h).0))
 
-  -- no item comes before one that stands in front of it
-  abbrev pub Ascends : List X → Type 0
-  Ascends [] = Unit {0}
-  Ascends (y ∷ ys) = ((z : X) → IsIn z ys → lt z y ≡ false) × Ascends ys
-
-  ascends-sorted : (xs : List X) → IsSortedBy lt xs → Ascends xs
+  ascends-sorted : (xs : List X) → IsSortedBy lt xs → Ascends cmp o xs
   ascends-sorted [] sorted = tt
   ascends-sorted (x ∷ xs) sorted = (
     λ z i.
@@ -64,22 +44,13 @@ module _ {X : Type 0} (cmp : X → X → Ordering) (o : IsStrictWeakOrder (λ (x
         rw add-one (rw add-one at (sorted (suc k) d (omega arith) (omega arith)))),
   )
 
-  -- an item put in order
-  pub ascends-put : (ys : List X) (x : X) → Ascends ys → Ascends (put_in_order cmp ys x)
-  ascends-put [] x up = (λ z i. absurd i, tt)
-  ascends-put (y ∷ ys) x up = go (ascends-put ys x up.1) (lt x y) refl
-    where
-      go : Ascends (put_in_order cmp ys x) → (b : Bool) → lt x y ≡ b → Ascends (if b then (x ∷ y ∷ ys) else (y ∷ put_in_order cmp ys x))
-      go rest true e = (λ z i. elim i [ inl s ↦ rw s (o.one_way x y e) | inr j ↦ after x y z e (up.0 z j) ], up)
-      go rest false e = (λ z i. elim (from_put_in_order cmp z ys x i) [ inl s ↦ rw s e | inr j ↦ up.0 z j ], rest)
-
   -- nothing of a list passes that no item of it passes
   none-pass : (p : X → Bool) (ys : List X) → ((z : X) → IsIn z ys → p z ≡ false) → filter p ys ≡ []
   none-pass p [] each = refl
   none-pass p (y ∷ ys) each = rw (each y (inl refl)) (none-pass p ys (λ z i. each z (inr i)))
 
   -- stands behind those that it ties with
-  ties-put : (w : X) (ys : List X) (x : X) → Ascends ys → filter (ties lt w) (put_in_order cmp ys x) ≡ filter (ties lt w) (ys ++ x ∷ [])
+  ties-put : (w : X) (ys : List X) (x : X) → Ascends cmp o ys → filter (ties lt w) (put_in_order cmp ys x) ≡ filter (ties lt w) (ys ++ x ∷ [])
   ties-put w [] x up = refl
   ties-put w (y ∷ ys) x up = go (ties-put w ys x up.1) (lt x y) refl
     where
@@ -88,7 +59,7 @@ module _ {X : Type 0} (cmp : X → X → Ordering) (o : IsStrictWeakOrder (λ (x
       tied e true is =
           let none : filter (ties lt w) (y ∷ ys) ≡ [] = none-pass (ties lt w) (y ∷ ys) (λ z i. elim i [
             | inl s ↦ rw s (no-tie w x y is e)
-            | inr j ↦ no-tie w x z is (before_too x y z e (up.0 z j))
+            | inr j ↦ no-tie w x z is (before_too cmp o x y z e (up.0 z j))
           ]) in
           ap (λ zs. x ∷ zs) none ∙ ap (λ zs. zs ++ x ∷ []) (sym none)
       tied e false is = sym (append-nil (filter (ties lt w) (y ∷ ys)))
@@ -98,21 +69,17 @@ module _ {X : Type 0} (cmp : X → X → Ordering) (o : IsStrictWeakOrder (λ (x
       go rest true e = tied e (ties lt w x) refl ∙ sym (filter-append (ties lt w) (y ∷ ys) (x ∷ []))
       go rest false e = ap (λ zs. cond (ties lt w y) (y ∷ zs) zs) rest
 
-  ascends-fold : (ys xs : List X) → Ascends ys → Ascends (fold (put_in_order cmp) ys xs)
-  ascends-fold ys [] up = up
-  ascends-fold ys (x ∷ xs) up = ascends-fold (put_in_order cmp ys x) xs (ascends-put ys x up)
-
-  ties-fold : (w : X) (ys xs : List X) → Ascends ys → filter (ties lt w) (fold (put_in_order cmp) ys xs) ≡ filter (ties lt w) (ys ++ xs)
+  ties-fold : (w : X) (ys xs : List X) → Ascends cmp o ys → filter (ties lt w) (fold (put_in_order cmp) ys xs) ≡ filter (ties lt w) (ys ++ xs)
   ties-fold w ys [] up = ap (filter (ties lt w)) (sym (append-nil ys))
   ties-fold w ys (x ∷ xs) up =
-      ties-fold w (put_in_order cmp ys x) xs (ascends-put ys x up)
+      ties-fold w (put_in_order cmp ys x) xs (ascends-put cmp o ys x up)
       ∙ filter-append (ties lt w) (put_in_order cmp ys x) xs
       ∙ ap (λ zs. zs ++ filter (ties lt w) xs) (ties-put w ys x up)
       ∙ sym (filter-append (ties lt w) (ys ++ x ∷ []) xs)
       ∙ ap (filter (ties lt w)) (append_assoc ys (x ∷ []) xs)
 
   -- lists that ascend are one, where those that tie stand in the same order in both
-  heads : (y z : X) (ys zs : List X) → Ascends (y ∷ ys) → Ascends (z ∷ zs)
+  heads : (y z : X) (ys zs : List X) → Ascends cmp o (y ∷ ys) → Ascends cmp o (z ∷ zs)
       → ((w : X) → filter (ties lt w) (y ∷ ys) ≡ filter (ties lt w) (z ∷ zs)) → y ≡ z
   heads y z ys zs up up_too same = go (ties lt y z) refl
     where
@@ -139,7 +106,7 @@ module _ {X : Type 0} (cmp : X → X → Ordering) (o : IsStrictWeakOrder (λ (x
         ]
       ]
 
-  one-list : (ys zs : List X) → Ascends ys → Ascends zs → ((w : X) → filter (ties lt w) ys ≡ filter (ties lt w) zs) → ys ≡ zs
+  one-list : (ys zs : List X) → Ascends cmp o ys → Ascends cmp o zs → ((w : X) → filter (ties lt w) ys ≡ filter (ties lt w) zs) → ys ≡ zs
   one-list [] [] up up_too same = refl
   one-list [] (z ∷ zs) up up_too same =
       let some : filter (ties lt z) (z ∷ zs) ≡ z ∷ filter (ties lt z) zs = rw (tie-itself z) refl in
@@ -164,5 +131,5 @@ module _ {X : Type 0} (cmp : X → X → Ordering) (o : IsStrictWeakOrder (λ (x
   -- a stable sort is the order
   pub sorted-in_order : (xs ys : List X) → IsSortedBy lt ys → IsStableBy lt xs ys → ys ≡ in_order cmp xs
   sorted-in_order xs ys sorted stable =
-      one-list ys (in_order cmp xs) (ascends-sorted ys sorted) (ascends-fold [] xs tt)
+      one-list ys (in_order cmp xs) (ascends-sorted ys sorted) (ascends-fold cmp o [] xs tt)
       (λ w. stable w ∙ sym (ties-fold w [] xs tt))

@@ -21,7 +21,7 @@ use Rattle.market_laws.proofs.Names.{enters_as, names-once, times_entered}
 use Rattle.market_laws.proofs.Placed.{all_are_sound}
 use Rattle.market_laws.proofs.Soundness.{block_fault-none, lots_in_range-bounds, order_fault-none}
 use Rattle.market_laws.proofs.Tests.{same_name-refl}
-use Rattle.market_laws.proofs.Unique.{entered-is, entered-none, enters-block_placed, enters-placed, one_block, one_order, times-some}
+use Rattle.market_laws.proofs.Unique.{entered-is, entered-none, entered-order, enters-block_placed, enters-placed, one_block, one_order, times-some}
 use Rattle.market_laws.proofs.Wholes.{other_name}
 use Rattle.plain_orders.specs.declared.tally.Change.{Change}
 use Rattle.plain_orders.specs.declared.tally.Change.TheVariants as change
@@ -29,26 +29,10 @@ use Rattle.plain_orders.specs.declared.tally.Tally.{Tally}
 use Rattle.plain_orders.specs.Tallies.{AreTallies, CanApply, CanChange, CanTakeIn, HasPeak, Tells, after_event, changed, entered_in, name_in}
 use Rattle.plain_orders.proofs.Changes.{sound-peak}
 use Rattle.plain_orders.proofs.Histories.{IsAt}
-use Rattle.plain_orders.proofs.Moments.{hour-more, hour-same}
+use Rattle.market_locality.proofs.Moments.{hour-more, hour-same}
 use Rattle.plain_orders.proofs.Tells.{Comes, tells-after, tells-elsewhere}
 
--- ---- what was entered of an order, and of a block
-
-order-quantity : (order : Placed) (e : Event) → placed_by e ≡ Some order → entered_by order.name e ≡ order.order.quantity.0
-order-quantity order (event.Entered given caller entering) is =
-    let same : record { name = given; caller = caller; order = entering } ≡ order = cc in
-    subst (λ (o : Placed). entered_by o.name (event.Entered given caller entering) ≡ o.order.quantity.0) same
-    (rw (same_name-refl given) refl)
-order-quantity order (event.EnteredBlock given caller entering) is = absurd (cc)
-order-quantity order (event.Leg contract leg) is = absurd (cc)
-order-quantity order (event.BlockLeg first last leg) is = absurd (cc)
-order-quantity order (event.Granted arc first last lots) is = absurd (cc)
-order-quantity order (event.Offered arc first last lots) is = absurd (cc)
-order-quantity order (event.Halted border first last) is = absurd (cc)
-order-quantity order (event.Resumed border first last) is = absurd (cc)
-order-quantity order (event.Gated gated asked) is = absurd (cc)
-order-quantity order (event.Withdrawn given lots) is = absurd (cc)
-order-quantity order (event.Reduced given by) is = absurd (cc)
+-- ---- what was entered of a block
 
 block-quantity : (block : PlacedBlock) (e : Event) → block_placed_by e ≡ Some block → entered_by block.name e ≡ block.order.quantity.0
 block-quantity block (event.EnteredBlock given caller entering) is =
@@ -66,12 +50,6 @@ block-quantity block (event.Gated gated asked) is = absurd (cc)
 block-quantity block (event.Withdrawn given lots) is = absurd (cc)
 block-quantity block (event.Reduced given by) is = absurd (cc)
 
-pub entered-order : (setup : Setup) (events : List Event) → FitAfter setup [] events → (order : Placed) → IsIn order (placed events)
-    → entered events order.name ≡ order.order.quantity.0
-entered-order setup events fit order i =
-    let x = from_filter_map placed_by order events i in
-    entered-is order.name x.0 events ((names-once setup events fit).once order.name) x.1 (enters-placed order x.0 x.2) ∙ order-quantity order x.0 x.2
-
 entered-block : (setup : Setup) (events : List Event) → FitAfter setup [] events → (block : PlacedBlock) → IsIn block (blocks_placed events)
     → entered events block.name ≡ block.order.quantity.0
 entered-block setup events fit block i =
@@ -82,7 +60,7 @@ entered-block setup events fit block i =
 order-fits : (setup : Setup) (events : List Event) → FitAfter setup [] events → (order : Placed) → IsIn order (placed events) → (name : OrderName) → order.name ≡ name
     → filled events name + left events name ≤ 9990
 order-fits setup events fit order i name is =
-    let quantity = entered-order setup events fit order i in
+    let quantity = entered-order events order (names-once setup events fit) i in
     let sound = (all_are_sound setup events fit).orders order i in
     let most = (lots_in_range-bounds order.order.quantity (order_fault-none order.order sound.sound).quantity).1 in
     let all = left-filled-taken_off setup events fit order.name in

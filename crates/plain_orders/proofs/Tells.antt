@@ -29,7 +29,7 @@ use Rattle.plain_orders.specs.declared.tally.Tally.{Tally}
 use Rattle.plain_orders.specs.declared.tally.Change.TheVariants as change
 use Rattle.plain_orders.specs.Tallies.{Tells, after_event, changed, entering, name_in, traded}
 use Rattle.plain_orders.proofs.Histories.{left-is}
-use Rattle.plain_orders.proofs.Moments.{agree-elsewhere, block_moment-more, filled-hour, moment-more}
+use Rattle.market_locality.proofs.Moments.{agree-elsewhere, block_moment-more, filled-hour, moment-more}
 
 -- an event of a history and the events before it
 pub record Comes (setup : Setup) (before : List Event) (e : Event) : Type 0 where

@@ -1,13 +1,13 @@
 //! Orders and blocks as they stand after some events.
 
-ghost use Rattle.std.specs.Prelude.{◌≡◌, ◌+◌, ◌^◌, ◌<◌, ◌≤◌};
+ghost use Rattle.std.specs.Prelude.{◌≡◌, ◌≤◌};
 ghost use Rattle.market_model.specs.Orders.{price_now, shown_lots};
 ghost use Rattle.plain_orders.specs.Tallies as tallies;
 ghost use Rattle.plain_orders.specs.Histories.{HasSoundNumbers};
 
 use crate::placed::{PlacedBlock, PlacedOrder};
 use crate::tally::Tally;
-use iceberg_peak::{number_now, price_of_peak, shown};
+use iceberg_peak::{left_of_peak, number_now, price_of_peak};
 use market_model::{BlockOrder, Kind, Order, OrderName, Price};
 use std::marker::Model;
 
@@ -38,7 +38,7 @@ impl StandingOrder {
     // An order of which so much is filled and left.
     pub(crate) fn new(placed: &PlacedOrder, tally: Tally) -> StandingOrder
         requires sound { HasSoundNumbers placed.now.order }
-        requires most { tally.filled + tally.left ≤ placed.now.order.quantity.0 }
+        requires most { tally.filled ≤ placed.now.order.quantity.0 }
         ensures { result ≡ tallies.standing_by tally placed.now }
     {
         let order = placed.order();
@@ -114,13 +114,12 @@ impl StandingOrder {
 
 // What an order of this kind shows, of which so much is filled and left.
 fn shown_of(kind: Kind, filled: u32, left: u32) -> u32
-    requires peak { tallies.HasPeak kind }
-    requires fits { filled + left < 2 ^ 32 }
+    requires { tallies.HasPeak kind }
     ensures { result ≡ shown_lots kind filled left }
 {
     match kind {
-        Kind::Iceberg { peak, .. } if left > 0 => shown(filled + left, peak.0, filled),
-        Kind::Iceberg { .. } | Kind::Limit | Kind::Ioc | Kind::Fok => left,
+        Kind::Iceberg { peak, .. } => left_of_peak(peak.0, filled).min(left),
+        Kind::Limit | Kind::Ioc | Kind::Fok => left,
     }
 }
 

@@ -25,9 +25,9 @@ use Rattle.market_laws.proofs.Uses.{IsWithinOffers}
 use Rattle.market_locality.proofs.Named.{AreNamedByHour, IsNamedByHour, named-more}
 use Rattle.market_locality.proofs.Restrict.{filter-filter}
 use Rattle.market_locality.proofs.States.{Agree, agree-more, filled-agree}
-use Rattle.plain_orders.proofs.Moments.{moment-more}
+use Rattle.market_locality.proofs.Moments.{moment-more}
 use Rattle.plain_view.proofs.Peaks.{peak-open, price-stays, rest-shows}
-use Rattle.plain_view.proofs.RoomsAfter.{within-leg}
+use Rattle.market_laws.proofs.Rooms.{within-leg}
 use Rattle.plain_view.proofs.RowLemmas.{same_name-sym}
 
 -- an order as it was placed, from it as it stands

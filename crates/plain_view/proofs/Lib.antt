@@ -8,7 +8,6 @@ pub mod Ordered
 pub mod Peaks
 pub mod Places
 pub mod Reach
-pub mod RoomsAfter
 pub mod RowLemmas
 pub mod Start
 pub mod Views

@@ -16,73 +16,32 @@ use Rattle.market_model.specs.declared.event.Event.{Event}
 use Rattle.market_model.specs.Lines.{line, priority_cmp, stands_in}
 use Rattle.market_model.specs.Orders.{Placed, Standing, placed, placed_by, standing, taken_off_by}
 use Rattle.market_model.specs.View.{hidden_withdrawn}
-use Rattle.market_laws.proofs.Names.{enters_as, times_entered}
+use Rattle.market_laws.proofs.LineSums.{one_if, sum-line, times_placed}
+use Rattle.market_laws.proofs.Names.{times_entered}
 use Rattle.market_laws.proofs.Tests.{same_name-eq, same_name-refl}
 use Rattle.market_laws.proofs.Unique.{enters-placed}
 use Rattle.zone_graph.specs.InOrder.{put_in_order, in_order}
 
--- a sum over a list in order is that over the list
-sum-put : {X : Type 0} (f : X → ℕ) (cmp : X → X → Ordering) (ys : List X) (x : X) → sum_by f (put_in_order cmp ys x) ≡ f x + sum_by f ys
-sum-put f cmp [] x = sum_by-cons f x []
-sum-put f cmp (y ∷ ys) x = go (sum-put f cmp ys x) (is_lt (cmp x y))
+-- what counts where a test passes is no more than all
+sum-if : {X : Type 0} (f : X → ℕ) (p : X → Bool) (xs : List X) → sum_by (λ x. lots_if (p x) (f x)) xs ≤ sum_by f xs
+sum-if f p [] = omega arith
+sum-if {X} f p (x ∷ xs) =
+    let counted = sum_by-cons (λ y. lots_if (p y) (f y)) x xs in
+    let all = sum_by-cons f x xs in
+    let own = by (p x) in
+    let rest = sum-if f p xs in omega (arith, counted, all, own, rest)
   where
-    go : sum_by f (put_in_order cmp ys x) ≡ f x + sum_by f ys → (b : Bool)
-        → sum_by f (if b then (x ∷ y ∷ ys) else (y ∷ put_in_order cmp ys x)) ≡ f x + sum_by f (y ∷ ys)
-    go rest true = sum_by-cons f x (y ∷ ys)
-    go rest false = rw (sum_by-cons f y (put_in_order cmp ys x), sum_by-cons f y ys) (omega (arith, rest))
-
-sum-fold : {X : Type 0} (f : X → ℕ) (cmp : X → X → Ordering) (ys xs : List X) → sum_by f (fold (put_in_order cmp) ys xs) ≡ sum_by f ys + sum_by f xs
-sum-fold f cmp ys [] = omega arith
-sum-fold f cmp ys (x ∷ xs) =
-    let rest = sum-fold f cmp (put_in_order cmp ys x) xs in
-    let one = sum-put f cmp ys x in
-    let own = sum_by-cons f x xs in omega (arith, rest, one, own)
-
-sum-in_order : {X : Type 0} (f : X → ℕ) (cmp : X → X → Ordering) (xs : List X) → sum_by f (in_order cmp xs) ≡ sum_by f xs
-sum-in_order f cmp xs = let all = sum-fold f cmp [] xs in omega (arith, all)
-
-sum-map : {X Y : Type 0} (f : Y → ℕ) (g : X → Y) (xs : List X) → sum_by f (map g xs) ≡ sum_by (λ x. f (g x)) xs
-sum-map f g [] = refl
-sum-map f g (x ∷ xs) = sum_by-cons f (g x) (map g xs) ∙ ap (λ n. f (g x) + n) (sum-map f g xs) ∙ sym (sum_by-cons (λ y. f (g y)) x xs)
-
-sum-filter : {X : Type 0} (f : X → ℕ) (p : X → Bool) (xs : List X) → sum_by f (filter p xs) ≤ sum_by f xs
-sum-filter f p [] = omega arith
-sum-filter f p (x ∷ xs) = go (sum-filter f p xs) (p x)
-  where
-    go : sum_by f (filter p xs) ≤ sum_by f xs → (b : Bool) → sum_by f (cond b (x ∷ filter p xs) (filter p xs)) ≤ sum_by f (x ∷ xs)
-    go rest true = rw (sum_by-cons f x (filter p xs), sum_by-cons f x xs) (omega (arith, rest))
-    go rest false = rw (sum_by-cons f x xs) (omega (arith, rest))
-
--- how often a name stands
-abbrev one_if : Bool → ℕ
-one_if b = cond b 1 0
-
-times_placed : (name : OrderName) (events : List Event) → sum_by (λ (p : Placed). one_if (same_name p.name name)) (placed events) ≤ times_entered events name
-times_placed name [] = omega arith
-times_placed name (e ∷ events) = go (times_placed name events) (placed_by e) refl
-  where
-    go : sum_by (λ (p : Placed). one_if (same_name p.name name)) (placed events) ≤ times_entered events name → (o : Option Placed) → placed_by e ≡ o
-        → sum_by (λ (p : Placed). one_if (same_name p.name name)) (cons_option o (placed events)) ≤ times_entered (e ∷ events) name
-    go rest None is = rw (sum_by-cons (λ x. one_if (enters_as name x)) e events) (omega (arith, rest))
-    go rest (Some p) is =
-        let own = by (same_name p.name name) refl in
-        rw (sum_by-cons (λ x. one_if (enters_as name x)) e events, sum_by-cons (λ (q : Placed). one_if (same_name q.name name)) p (placed events)) (omega (arith, rest, own))
-      where
-        by : (b : Bool) → same_name p.name name ≡ b → one_if b ≤ one_if (enters_as name e)
-        by false s = omega arith
-        by true s =
-            let enters : enters_as name e ≡ true = subst (λ n. enters_as n e ≡ true) (same_name-eq p.name name s) (enters-placed p e is) in
-            rw enters (omega arith)
+    by : (b : Bool) → lots_if b (f x) ≤ f x
+    by true = omega arith
+    by false = omega arith
 
 times_in_line : (events : List Event) (contract : Contract) (side : Side) (name : OrderName)
     → sum_by (λ (s : Standing). one_if (same_name s.name name)) (line events contract side) ≤ times_entered events name
-unfolding line
 times_in_line events contract side name =
-    let ordered = sum-in_order (λ (s : Standing). one_if (same_name s.name name)) (priority_cmp side) (map (standing events) (filter (stands_in events contract side) (placed events))) in
-    let mapped = sum-map (λ (s : Standing). one_if (same_name s.name name)) (standing events) (filter (stands_in events contract side) (placed events)) in
-    let kept = sum-filter (λ (p : Placed). one_if (same_name p.name name)) (stands_in events contract side) (placed events) in
+    let all = sum-line events contract side (λ s. one_if (same_name s.name name)) in
+    let kept = sum-if (λ (p : Placed). one_if (same_name p.name name)) (stands_in events contract side) (placed events) in
     let most = times_placed name events in
-    omega (arith, ordered, mapped, kept, most)
+    omega (arith, all, kept, most)
 
 -- ---- what is withdrawn
 

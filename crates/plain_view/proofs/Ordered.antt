@@ -5,7 +5,7 @@ use Rattle.std.specs.Ordering.{is_lt}
 use Rattle.std.specs.declared.cmp.Ordering.{Ordering}
 use Rattle.zone_graph.specs.Route.{IsIn}
 use Rattle.zone_graph.proofs.Membership.{from_filter}
-use Rattle.plain_orders.proofs.Stable.{Ascends, ascends-put, before_too}
+use Rattle.market_laws.proofs.Ascending.{Ascends, ascends-put, before_too}
 use Rattle.zone_graph.specs.InOrder.{put_in_order, in_order}
 use Rattle.zone_graph.proofs.InOrder.{from_put_in_order}
 

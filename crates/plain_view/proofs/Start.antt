@@ -40,7 +40,7 @@ use Rattle.market_laws.proofs.Unique.{entered-none, enters-placed, times-some}
 use Rattle.market_laws.proofs.Uses.{IsWithinOffers, within_offers}
 use Rattle.market_locality.proofs.Named.{AreNamedByHour, history-named, named-more}
 use Rattle.market_locality.proofs.Restrict.{map-same}
-use Rattle.plain_orders.proofs.Moments.{hour-same, moment-more}
+use Rattle.market_locality.proofs.Moments.{hour-same, moment-more}
 use Rattle.plain_view.specs.Depth.{depth_of, maker_of}
 use Rattle.plain_view.proofs.Kept.{IsAfter, IsKept, line-of_kind, placed_as}
 use Rattle.plain_view.proofs.NextLeg.{IsDepth, maker_now, taker_of}

@@ -42,7 +42,7 @@ use Rattle.plain_view.specs.Filled.{AreRowsFilled, row_in}
 use Rattle.plain_view.proofs.Fills.{IsFill, next_fill-is}
 use Rattle.plain_view.proofs.Kept.{IsAfter, after-leg, left-leg}
 use Rattle.plain_view.proofs.NextLeg.{IsDepth, leg_event, maker_now, next_leg-fill, taker_of}
-use Rattle.plain_view.proofs.RoomsAfter.{room-leg, rooms-together}
+use Rattle.market_laws.proofs.Rooms.{room-leg, rooms-together}
 use Rattle.plain_view.proofs.RowLemmas.{rows-are, same_name-sym}
 use Rattle.plain_view.proofs.Start.{after-start, depth-start, start, taker_name}
 
