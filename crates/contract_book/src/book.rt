@@ -7,18 +7,19 @@ ghost use Rattle.order_kinds.specs.declared.side.Side.{Side};
 ghost use Rattle.contract_book.specs.Book.{line_number as line_of_part};
 ghost use Rattle.contract_book.specs.Resting.{IsSound};
 
-use crate::faults::{Full, NoMemory};
+use crate::faults::Full;
 use crate::held::Held;
 use crate::places::{put_in, replace, take_out};
 use crate::resting::Resting;
 use order_kinds::Side;
-use order_pool::Rings;
+use order_pool::{PLACES, Rings};
 use record_pool::KeyedPool;
 use std::alloc::Global;
 use std::marker::Model;
+use zone_graph::NoMemory;
 
-// No more parts than this are made.
-const MOST_PARTS: u32 = 65536;
+// The links of the lines of more parts than this could not be numbered.
+const MOST_PARTS: u32 = (u32::MAX - PLACES) / 2;
 
 /// The orders that rest in the contracts of one hour: contracts see, for each part and side, those
 /// that rest there, in priority.
@@ -65,7 +66,8 @@ impl ContractBook {
     ///
     /// # Errors
     ///
-    /// [`NoMemory`] where memory runs out, and for more than 65536 parts.
+    /// [`NoMemory`] where memory runs out, as it does for more parts than a `u32` has numbers for the
+    /// links of their lines.
     pub fn new(alloc: Global, parts: u32) -> Result<ContractBook, NoMemory>
         ensures empty { IfOk result (λ book. book ≡ replicate (2 * parts) []) }
         ensures sound { IfOk result (λ book. books.IsBook book) }

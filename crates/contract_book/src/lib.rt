@@ -18,5 +18,6 @@ mod resting;
 mod tests;
 
 pub use book::ContractBook;
-pub use faults::{Full, NoMemory};
+pub use faults::Full;
 pub use resting::{Ice, Resting};
+pub use zone_graph::NoMemory;
