@@ -6,8 +6,9 @@
 #     bench/gate_times.sh NAME..     these crates and those below them
 #
 # It runs `rt ci --anew`, which takes nothing from earlier runs, and reads every fifth of a second
-# what each process of the prover has used so far. The last fifth of a second of each is lost, so
-# the figures are about a hundredth too low. The gate's own lines go to standard error.
+# what each process of the prover has used so far, with those that it waited for. The last fifth of a
+# second of each is lost, so the figures are about a hundredth too low. The gate's own lines go to
+# standard error.
 set -u
 top=$(cd "$(dirname "$(readlink -f "$0")")/.." && pwd)
 exec python3 - "$top" "$@" <<'PYTHON'
@@ -44,7 +45,7 @@ def look(session, known, used):
                     words = file.read().split("\0")
                 crate = words[words.index("--crate-name") + 1]
                 known[key] = crate, kind_of(words, os.readlink(f"/proc/{pid}/cwd"))
-            used[key] = (int(fields[11]) + int(fields[12])) / tick
+            used[key] = sum(map(int, fields[11:15])) / tick
         except (OSError, ValueError):
             continue  # it ended meanwhile, or is none of the prover's checks
 

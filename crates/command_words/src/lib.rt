@@ -9,6 +9,3 @@ mod words;
 
 pub use matching::task_of;
 pub use words::{Task, is_trade};
-
-#[cfg(test)]
-mod tests;

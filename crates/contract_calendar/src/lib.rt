@@ -11,7 +11,5 @@
 
 mod clock;
 mod day;
-#[cfg(test)]
-mod tests;
 
 pub use day::{Day, NoSuchDay};

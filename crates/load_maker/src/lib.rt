@@ -13,6 +13,3 @@ mod totals;
 
 pub use session::session_text;
 pub use totals::summary;
-
-#[cfg(test)]
-mod tests;

@@ -16,6 +16,3 @@ pub use numbers::{read_cents, read_price, read_quantity};
 pub use words::{
     Heading, Verb, read_arc, read_heading, read_phase, read_side, read_verb, spells_name,
 };
-
-#[cfg(test)]
-mod tests;

@@ -11,8 +11,6 @@ mod faults;
 mod pool;
 mod rings;
 mod slots;
-#[cfg(test)]
-mod tests;
 
 pub use faults::{Full, NoMemory};
 pub use pool::{MOST_LINES, Pool};

@@ -15,8 +15,6 @@ mod null_sink;
 mod read_source;
 mod reading;
 mod steady_source;
-#[cfg(test)]
-mod tests;
 mod write_sink;
 mod writing;
 

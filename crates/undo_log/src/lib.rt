@@ -7,8 +7,6 @@
 
 mod log;
 mod memory;
-#[cfg(test)]
-mod tests;
 
 pub use log::UndoLog;
 pub use memory::NoMemory;

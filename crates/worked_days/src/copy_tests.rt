@@ -6,6 +6,7 @@ use market_model::{
     Route, Rows, Setup, Side, ViewRow, Word, Zones,
 };
 use std::alloc::Global;
+use std::process::Abort;
 use std::test::Fail;
 
 const NAME: OrderName = OrderName {
@@ -100,32 +101,34 @@ fn events_are_copied(rt: HostRuntime) -> Result<(), Fail> {
     Ok(())
 }
 
+// A reply equals its copy.
+fn is_copied<R: Abort>(rt: &R, reply: &Reply) -> Result<(), NoMemory> {
+    assert_eq!(rt; &reply.copy()?, reply);
+    Ok(())
+}
+
 #[test]
 fn replies_are_copied(rt: HostRuntime) -> Result<(), Fail> {
-    let mut zones = Zones::new(rt.alloc());
-    zones.push(3)?;
+    is_copied(&rt, &Reply::Done(Events::new(rt.alloc())))?;
     let mut rows = Rows::new(rt.alloc());
     rows.push(ViewRow {
         price: Price(4000),
         lots: 20,
     })?;
-    for reply in [
-        Reply::Done(Events::new(rt.alloc())),
-        Reply::Seen(rows),
-        Reply::Refused(Refusal::BelowFlow {
-            quarter: QUARTER,
-            flow: 50,
-        }),
-        Reply::Refused(Refusal::BasketUnfilled {
-            hour: 11,
-            zones,
-            bound: 30,
-        }),
-    ]
-    .as_slice()
-    {
-        assert_eq!(rt; &reply.copy()?, reply);
-    }
+    is_copied(&rt, &Reply::Seen(rows))?;
+    let below_flow = Refusal::BelowFlow {
+        quarter: QUARTER,
+        flow: 50,
+    };
+    is_copied(&rt, &Reply::Refused(below_flow))?;
+    let mut zones = Zones::new(rt.alloc());
+    zones.push(3)?;
+    let unfilled = Refusal::BasketUnfilled {
+        hour: 11,
+        zones,
+        bound: 30,
+    };
+    is_copied(&rt, &Reply::Refused(unfilled))?;
     Ok(())
 }
 

@@ -10,6 +10,7 @@ use market_model::{
     touches,
 };
 use std::alloc::Global;
+use std::process::Abort;
 use std::test::Fail;
 use zone_graph::Grid;
 
@@ -104,11 +105,34 @@ fn at_hour(hour: u32) -> Order {
     }
 }
 
-#[test]
-fn the_first_broken_rule_on_names_is_the_refusal(rt: HostRuntime) -> Result<(), Fail> {
+// The first rule that each command of a caller breaks by itself, if it breaks one.
+fn refuses_early<R: Abort + AllocGlobal>(
+    rt: &R,
+    cases: &[(u32, Command, Option<Refusal>)],
+) -> Result<(), Fail> {
     let setup = setup_of(rt.alloc())?;
     let grid = Grid::new(rt.alloc(), &setup.zones, &setup.borders)?;
-    for (caller, command, refusal) in [
+    for (caller, command, refusal) in cases {
+        assert!(rt; *caller < 2);
+        assert_eq!(rt;
+            &refuse_early(&grid, &setup, *caller, command),
+            refusal,
+            "{command:?}"
+        );
+    }
+    Ok(())
+}
+
+#[test]
+fn the_first_broken_rule_on_names_is_the_refusal(rt: HostRuntime) -> Result<(), Fail> {
+    let basket_of_one_hour = basket(rt.alloc(), &[ORDER, ORDER])?;
+    let halt = Command::Halt {
+        from: 0,
+        to: 2,
+        first: 1,
+        last: 1,
+    };
+    let cases = [
         (OPERATOR, enter(ORDER), Some(Refusal::WrongRole)),
         (TRADER, enter(at_hour(0)), Some(Refusal::UnknownHour)),
         (TRADER, enter(at_hour(26)), Some(Refusal::UnknownHour)),
@@ -122,56 +146,36 @@ fn the_first_broken_rule_on_names_is_the_refusal(rt: HostRuntime) -> Result<(), 
             enter(Order { zone: 3, ..ORDER }),
             Some(Refusal::UnknownZone),
         ),
-        (
-            OPERATOR,
-            Command::Halt {
-                from: 0,
-                to: 2,
-                first: 1,
-                last: 1,
-            },
-            Some(Refusal::UnknownBorder),
-        ),
+        (OPERATOR, halt, Some(Refusal::UnknownBorder)),
         (
             TRADER,
             Command::Blocks { first: 1, last: 25 },
             Some(Refusal::BadPeriod),
         ),
-        (
-            TRADER,
-            basket(rt.alloc(), &[ORDER, ORDER])?,
-            Some(Refusal::BadBasket),
-        ),
+        (TRADER, basket_of_one_hour, Some(Refusal::BadBasket)),
         (TRADER, enter(ORDER), None),
-    ]
-    .as_slice()
-    {
-        assert!(rt; *caller < 2);
-        assert_eq!(rt;
-            &refuse_early(&grid, &setup, *caller, command),
-            refusal,
-            "{command:?}"
-        );
-    }
-    Ok(())
+    ];
+    refuses_early(&rt, cases.as_slice())
 }
 
 #[test]
 fn the_first_broken_rule_on_numbers_is_the_refusal(rt: HostRuntime) -> Result<(), Fail> {
-    let setup = setup_of(rt.alloc())?;
-    let grid = Grid::new(rt.alloc(), &setup.zones, &setup.borders)?;
-    let iceberg = Kind::Iceberg {
-        peak: Lots(100),
-        delta: 0,
+    let dear_and_empty = Order {
+        price: Price(999901),
+        quantity: Lots(0),
+        ..ORDER
     };
-    for (caller, command, refusal) in [
+    let one_peak = Order {
+        kind: Kind::Iceberg {
+            peak: Lots(100),
+            delta: 0,
+        },
+        ..ORDER
+    };
+    let cases = [
         (
             TRADER,
-            enter(Order {
-                price: Price(999901),
-                quantity: Lots(0),
-                ..ORDER
-            }),
+            enter(dear_and_empty),
             Some(Refusal::PriceOutOfRange),
         ),
         (
@@ -179,55 +183,40 @@ fn the_first_broken_rule_on_numbers_is_the_refusal(rt: HostRuntime) -> Result<()
             offer(quarter(3, 2), quarter(4, 1), 1_000_001),
             Some(Refusal::QuantityOutOfRange),
         ),
-        (
-            TRADER,
-            enter(Order {
-                kind: iceberg,
-                ..ORDER
-            }),
-            Some(Refusal::BadPeak),
-        ),
+        (TRADER, enter(one_peak), Some(Refusal::BadPeak)),
         (
             OPERATOR,
             offer(quarter(3, 2), quarter(4, 1), 1_000_000),
             None,
         ),
-    ]
-    .as_slice()
-    {
+    ];
+    refuses_early(&rt, cases.as_slice())
+}
+
+// The hours that each command of a caller touches.
+fn touch<R: Abort + AllocGlobal>(rt: &R, cases: &[(u32, Command, u32)]) -> Result<(), Fail> {
+    let setup = setup_of(rt.alloc())?;
+    let grid = Grid::new(rt.alloc(), &setup.zones, &setup.borders)?;
+    for (caller, command, hours) in cases {
         assert!(rt; *caller < 2);
-        assert_eq!(rt;
-            &refuse_early(&grid, &setup, *caller, command),
-            refusal,
-            "{command:?}"
-        );
+        let touched = touches(&grid, &setup, *caller, command);
+        assert_eq!(rt; touched, Hours(*hours), "{command:?}");
     }
     Ok(())
 }
 
 #[test]
 fn commands_touch_the_hours_that_they_name(rt: HostRuntime) -> Result<(), Fail> {
-    let setup = setup_of(rt.alloc())?;
-    let grid = Grid::new(rt.alloc(), &setup.zones, &setup.borders)?;
     let name = OrderName { hour: 7, number: 1 };
-    for (caller, command, hours) in [
+    let basket_of_two_hours = basket(rt.alloc(), &[at_hour(2), at_hour(25)])?;
+    let cases = [
         (TRADER, Command::EnterBlock { order: BLOCK }, 0b1_1100),
         (OPERATOR, offer(quarter(3, 2), quarter(4, 1), 1), 0b1100),
-        (
-            TRADER,
-            basket(rt.alloc(), &[at_hour(2), at_hour(25)])?,
-            0x100_0002,
-        ),
+        (TRADER, basket_of_two_hours, 0x100_0002),
         (TRADER, Command::Reduce { name, to: 0 }, 0b100_0000),
         (OPERATOR, Command::Reduce { name, to: 0 }, 0),
-    ]
-    .as_slice()
-    {
-        assert!(rt; *caller < 2);
-        let touched = touches(&grid, &setup, *caller, command);
-        assert_eq!(rt; touched, Hours(*hours), "{command:?}");
-    }
-    Ok(())
+    ];
+    touch(&rt, cases.as_slice())
 }
 
 #[test]

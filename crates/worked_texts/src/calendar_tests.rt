@@ -1,7 +1,7 @@
-//! Examples from outside: dates of the clock's changes, and instants at the edges of hours,
+//! Days, by examples from outside: dates of the clock's changes, and instants at the edges of hours,
 //! quarters and gates.
 
-use crate::{Day, NoSuchDay};
+use contract_calendar::{Day, NoSuchDay};
 use jiff::Timestamp;
 use jiff::civil::Date;
 use order_kinds::{Phase, Quarter};

@@ -1,6 +1,6 @@
 use Rattle.std.proofs.Common.{◌≡◌, ◌≤◌, ◌++◌, List, ℕ, length}
 use Rattle.std.specs.Io.KnownBytes.{Appends}
-use Rattle.outside.proofs.tests.write_whole.Given as goal
+use Rattle.worked_stores.proofs.end_tests.write_whole.Given as goal
 
 -- the sink took what is no longer left of the piece, and its count of faults has not fallen
 abbrev pub invariant-loop-rest : goal.invariant-loop-rest

@@ -1,11 +1,11 @@
-//! Examples of the definitions, texts compared with those of another program, and summaries of
+//! Drawn sessions: examples of the definitions, texts compared with those of another program, and summaries of
 //! journals that are made by hand.
 
 ghost use Rattle.std.specs.Prelude.{◌≡◌, ◌≤◌, codes};
 ghost use Rattle.load_maker.specs.Draws.{next_state};
 ghost use Rattle.load_maker.specs.Session.{command_line};
 
-use super::*;
+use load_maker::{session_text, summary};
 use market_model::{
     Arc, Command, Contract, Entries, Entry, Event, Events, Leg, OrderName, Part, Phase, Price,
     Quarter, Refusal, Reply, Route, Rows, ViewRow,

@@ -3,7 +3,7 @@ use Rattle.std.proofs.Common.{refl}
 use Rattle.std.specs.Fmt.{digits}
 use Rattle.load_maker.specs.Draws.{next_state, number_of}
 use Rattle.load_maker.specs.Session.{command_line, state_before}
-use Rattle.load_maker.proofs.tests.drawn_lines.Goals as goal
+use Rattle.worked_texts.proofs.load_tests.drawn_lines.Goals as goal
 
 pub returns-clause-first_offer : goal.returns-clause-first_offer
 unfolding command_line state_before next_state number_of digits

@@ -1,9 +1,9 @@
-//! Each call once with ample memory, the order in which records come back, and a row of steps.
+//! Logs of changes: each call once with ample memory, the order in which records come back, and a row of steps.
 
-use crate::{NoMemory, UndoLog};
 use std::alloc::Global;
 use std::process::Abort;
 use std::test::Fail;
+use undo_log::{NoMemory, UndoLog};
 
 #[derive(Clone, Copy, Debug)]
 enum Step {

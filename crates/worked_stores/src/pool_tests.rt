@@ -1,7 +1,8 @@
-// Each call once with ample memory, a full pool, and a copy of a pool with holes.
+//! Pools: each call once with ample memory, a full pool, and a copy of a pool with holes.
+
 ghost use Rattle.std.specs.Prelude.{◌≡◌, ◌<◌, length};
 
-use crate::{Full, PLACES, Pool};
+use order_pool::{Full, PLACES, Pool};
 use std::process::Abort;
 use std::test::Fail;
 

@@ -1,10 +1,11 @@
-// Each end once through its trait, by code that knows the trait alone, with a failure in the
-// middle where the end can fail.
+//! Sources and sinks: each once through its trait, by code that knows the trait alone, with a failure
+//! in the middle where one can fail.
+
 ghost use Rattle.std.specs.Prelude.{◌≡◌, ◌≤◌, ◌++◌, List, ℕ, IfOk, OnOk, OnErr};
 ghost use Rattle.std.specs.Io.KnownBytes.{Appends, Consumes, IsAtEnd};
 ghost use Rattle.outside.specs.Faults.{Rose};
 
-use crate::{
+use outside::{
     BytesSink, BytesSource, Failed, Gate, NoMemory, NullSink, OpenGate, ReadSource, Sink, Source,
     SteadySource, WriteSink,
 };
@@ -24,7 +25,7 @@ enum Stop {
 
 impl From<AllocError> for Stop {
     ghost use Rattle.std.specs.Prelude.{◌≡◌};
-    ghost use Rattle.outside.specs.declared.tests.Stop.TheVariants.{NoMemory};
+    ghost use Rattle.worked_stores.specs.declared.end_tests.Stop.TheVariants.{NoMemory};
 
     ghost from_gives = { λ _ stop. stop ≡ NoMemory };
 

@@ -1,6 +1,6 @@
 use Rattle.std.proofs.Common.{◌≡◌, ◌≤◌, ◌++◌, List, ℕ}
 use Rattle.std.specs.Io.KnownBytes.{Consumes}
-use Rattle.outside.proofs.tests.read_on.Given as goal
+use Rattle.worked_stores.proofs.end_tests.read_on.Given as goal
 
 -- what came so far is what the source lost, and its count of faults has not fallen
 abbrev pub invariant-loop : goal.invariant-loop

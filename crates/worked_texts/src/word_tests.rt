@@ -1,6 +1,6 @@
-//! Lists of words, and what they ask for.
+//! The command line: lists of words, and what they ask for.
 
-use super::*;
+use command_words::{Task, is_trade, task_of};
 use std::alloc::Global;
 use std::test::Fail;
 use zone_graph::{NoMemory, Sequence, Word};

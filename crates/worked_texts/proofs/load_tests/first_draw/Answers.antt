@@ -1,7 +1,7 @@
 -- by computing
 use Rattle.std.proofs.Common.{refl}
 use Rattle.load_maker.specs.Draws.{next_state}
-use Rattle.load_maker.proofs.tests.first_draw.Goals as goal
+use Rattle.worked_texts.proofs.load_tests.first_draw.Goals as goal
 
 pub returns : goal.returns
 unfolding next_state

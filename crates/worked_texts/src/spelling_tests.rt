@@ -1,7 +1,10 @@
 //! Words that are spellings, with their values, and words that are none.
 
-use super::*;
 use jiff::civil::Date;
+use market_spelling::{
+    Heading, Verb, read_arc, read_cents, read_contract, read_date, read_heading, read_instant,
+    read_order_name, read_phase, read_price, read_quantity, read_quarter, read_side, read_verb,
+};
 use order_kinds::{Contract, Lots, OrderName, Part, Phase, Price, Quarter, Side};
 
 #[test]
