@@ -1,4 +1,5 @@
 pub mod BestPlans
+pub mod BlockFlows
 pub mod BoundsFall
 pub mod Certified
 pub mod CrossingPeaks

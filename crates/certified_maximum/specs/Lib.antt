@@ -1,5 +1,6 @@
 -- What the contracts of this crate cite.
 pub mod FlowPlan
+pub mod Passed
 pub mod Rooms
 pub mod Takings
 pub mod Unfilled

@@ -5,7 +5,7 @@ use Rattle.std.proofs.lemmas.List.Sums.{sum_by-cons}
 use Rattle.std.specs.List.{range_with_len}
 use Rattle.zone_graph.specs.declared.route.Arc.{Arc}
 use Rattle.zone_graph.specs.declared.route.RouteLeg.{RouteLeg}
-use Rattle.zone_graph.specs.Graph.{Graph, HasZone, arcs_of, end_of, start_of, zone_count}
+use Rattle.zone_graph.specs.Graph.{Graph, HasZone, IsGraph, arcs_of, end_of, start_of, zone_count}
 use Rattle.zone_graph.specs.Pour.{lots_if, opposite_arc, pour}
 use Rattle.zone_graph.specs.Reach.{enters, entering_room, leaves, reaches, zones_towards}
 use Rattle.zone_graph.specs.Route.{AreDifferent, IsIn, has}
@@ -142,17 +142,23 @@ different-filter {X} p (x ∷ xs) once = by (p x) (different-filter p xs once.1)
     by true rest = (λ i. once.0 (from_filter p x xs i).0, rest)
     by false rest = rest
 
+-- legs that carry the most carry all lots, or no flow brings more
+pub flow_or_all : (graph : Graph) (room : Arc → ℕ) (from to most lots : ℕ) (flow : Arc → ℕ) (legs : List RouteLeg) → IsGraph graph → HasZone graph to
+    → CarryTheMost graph room (rooms_after room legs) from to most legs → IsFlow graph room from to lots flow → (lots_of legs ≡ most) ⊎ (lots ≤ lots_of legs)
+flow_or_all graph room from to most lots flow legs is known (inl all) is_flow = inl all
+flow_or_all graph room from to most lots flow legs is known (inr most_in) is_flow =
+    let after = rooms_after room legs in
+    let zones = zones_towards graph after to in
+    let in_graph : (zone : ℕ) → IsIn zone zones → HasZone graph zone = λ zone i.
+    let found = from_filter (λ other. reaches graph after other to) zone (range_with_len 0 (zone_count graph)) i in
+    omega (arith, (from_range zone 0 (zone_count graph) found.0).1) in
+    let once = different-filter (λ other. reaches graph after other to) (range_with_len 0 (zone_count graph)) (different-range 0 (zone_count graph)) in
+    inr (omega (arith, most_in.0, flow_bound graph room from to lots flow zones is_flow once in_graph most_in.1 (end_inside graph after to is known)))
+
 pub no_flow_more : NoFlowCarriesMore
 no_flow_more graph room from to most lots flow is known is_flow few =
-    by (pour graph room from to most) (most_of_run graph from to room most (pour graph room from to most) is known (pour-run graph from to room most is))
-  where
-    by : (legs : List RouteLeg) → CarryTheMost graph room (rooms_after room legs) from to most legs → lots ≤ lots_of legs
-    by legs (inl all) = omega (arith, all, few)
-    by legs (inr most_in) =
-        let after = rooms_after room legs in
-        let zones = zones_towards graph after to in
-        let in_graph : (zone : ℕ) → IsIn zone zones → HasZone graph zone = λ zone i.
-        let found = from_filter (λ other. reaches graph after other to) zone (range_with_len 0 (zone_count graph)) i in
-        omega (arith, (from_range zone 0 (zone_count graph) found.0).1) in
-        let once = different-filter (λ other. reaches graph after other to) (range_with_len 0 (zone_count graph)) (different-range 0 (zone_count graph)) in
-        omega (arith, most_in.0, flow_bound graph room from to lots flow zones is_flow once in_graph most_in.1 (end_inside graph after to is known))
+    let legs = pour graph room from to most in
+    elim (flow_or_all graph room from to most lots flow legs is known (most_of_run graph from to room most legs is known (pour-run graph from to room most is)) is_flow) [
+      | inl all ↦ omega (arith, all, few)
+      | inr less ↦ less
+    ]
