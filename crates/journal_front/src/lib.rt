@@ -10,6 +10,7 @@ mod rule;
 mod seats;
 mod view;
 
+pub use front::Front;
 pub use hours::HourSeats;
 pub use rule::{JournalRule, each_step_keeps_the_rule};
 pub use seats::{DeskSeat, DeskSeats, JournalSeat, PassSeat, PassSeats};
