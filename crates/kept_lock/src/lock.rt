@@ -109,4 +109,15 @@ impl<T: Kept<K>, K> KeptLock<T, K> {
         }
         shared.swap::<Give>(&mut seat, 0, 0);
     }
+    /// Ends the lock: waits until it is free, and hands out the value. Who ends it owns it, so nobody
+    /// takes it any more.
+    pub fn into_inner<R: Wait>(self, rt: &R) -> T
+    where
+        T: Drop,
+        ensures { T.keeps self.key result }
+    {
+        let (value, duty) = self.take(rt);
+        let Duty { seat: _ } = duty;
+        value
+    }
 }

@@ -32,8 +32,7 @@ fn add<R: Wait>(rt: &R, lock: &KeptLock<Tally, u64>, turns: u32) {
 fn no_turn_of_two_threads_is_lost(rt: HostRuntime) -> Result<(), Fail> {
     let lock = KeptLock::new(rt.alloc(), &3, Tally { step: 3, total: 5 })?;
     join(&rt, || add(&rt, &lock, 5000), || add(&rt, &lock, 4000));
-    let (tally, duty) = lock.take(&rt);
+    let tally = lock.into_inner(&rt);
     assert_eq!(rt; (tally.step, tally.total), (3, 27005));
-    lock.give(tally, duty);
     Ok(())
 }
