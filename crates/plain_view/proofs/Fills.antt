@@ -36,6 +36,7 @@ carried_by fill = record { route = fill.route; lots = fill.lots }
 -- than is left
 pub record IsFill (graph : Graph) (side : Side) (zone : ℕ) (depth : Depth) (fill : Fill) : Type 0 where
   pub with : Maker
+  pub found : find (can_fill graph depth.room side zone) depth.makers ≡ Some with
   pub is_in : IsIn with depth.makers
   pub named : fill.maker ≡ with.name
   pub fits : HasRoomFor graph depth.room (seller_zone side zone with) (buyer_zone side zone with) (carried_by fill)
@@ -63,6 +64,7 @@ next_fill-is graph side zone depth fill is e = by (nat_lt 0 depth.left) refl e
         let most = carried-le depth.room (min depth.left found.0.left) route.0 in
         subst (IsFill graph side zone depth) route.2 (record {
           with = found.0;
+          found = found.1;
           is_in = maker.0;
           named = refl;
           fits = record { is_route = best; has_room = λ arc i. carried-room depth.room (min depth.left found.0.left) route.0 arc i };

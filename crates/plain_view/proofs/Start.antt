@@ -15,7 +15,6 @@ use Rattle.order_kinds.specs.Same.{same_name}
 use Rattle.zone_graph.specs.declared.route.Arc.{Arc}
 use Rattle.zone_graph.specs.Graph.{Graph, HasArc}
 use Rattle.zone_graph.specs.Pour.{lots_if, opposite_arc}
-use Rattle.zone_graph.specs.Rooms.{room_of}
 use Rattle.zone_graph.specs.Route.{IsIn}
 use Rattle.market_model.specs.declared.event.Event.{Event}
 use Rattle.market_model.specs.declared.event.Event.TheVariants as event
@@ -41,7 +40,7 @@ use Rattle.market_laws.proofs.Uses.{IsWithinOffers, within_offers}
 use Rattle.market_locality.proofs.Named.{AreNamedByHour, history-named, named-more}
 use Rattle.market_locality.proofs.Restrict.{map-same}
 use Rattle.market_locality.proofs.Moments.{hour-same, moment-more}
-use Rattle.plain_view.specs.Depth.{depth_of, maker_of}
+use Rattle.plain_view.specs.Depth.{maker_of}
 use Rattle.plain_view.proofs.Kept.{IsAfter, IsKept, line-of_kind, placed_as}
 use Rattle.plain_view.proofs.NextLeg.{IsDepth, maker_now, taker_of}
 use Rattle.plain_view.proofs.Once.{hidden-in_line, hidden-none, hidden_of, withdrawn-hidden}
@@ -246,8 +245,8 @@ module _ (setup : Setup) (events : List Event) (fit : FitAfter setup [] events) 
   }
 
   -- and what it finds is what the makers show, the rooms, and all of its quantity
-  pub depth-start : (graph : Graph) (rooms : List (ℕ × ℕ)) → ((arc : Arc) → HasArc graph arc → room_of rooms arc ≡ room events (contract_quarters contract) arc)
-      → IsDepth graph events contract side taker_name start (depth_of (map maker_of (line events contract side)) rooms 4294967295)
+  pub depth-start : (graph : Graph) (rooms : Arc → ℕ) → ((arc : Arc) → HasArc graph arc → rooms arc ≡ room events (contract_quarters contract) arc)
+      → IsDepth graph events contract side taker_name start (record { makers = map maker_of (line events contract side); room = rooms; left = 4294967295 })
   depth-start graph rooms are = record {
     makers = map-same maker_of (maker_now start) (line events contract side)
         (λ s i. λ j. record { name = s.name; zone = s.order.zone; price = s.price; left = sym (left-start s i) j });

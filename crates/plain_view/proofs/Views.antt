@@ -19,12 +19,14 @@ use Rattle.zone_graph.proofs.Runs.{steps-run}
 use Rattle.cut_proof.proofs.Ways.{way_has_arc}
 use Rattle.market_model.specs.declared.event.Event.{Event}
 use Rattle.market_model.specs.declared.event.Leg.{Leg}
+use Rattle.market_model.specs.declared.setup.Setup.{Setup}
 use Rattle.market_model.specs.History.{and_then}
 use Rattle.market_model.specs.Lines.{line}
 use Rattle.market_model.specs.Orders.{Standing, left}
 use Rattle.market_model.specs.Room.{room}
 use Rattle.market_model.specs.Taking.{next_leg, take}
 use Rattle.market_model.specs.View.{rows_of, trade_of, view}
+use Rattle.market_model.specs.WellFormed.{FitAfter}
 use Rattle.market_laws.proofs.Balances.{left-leg as left-after_leg, names-taker}
 use Rattle.market_laws.proofs.Placed.{all_are_sound}
 use Rattle.market_laws.proofs.Trades.{from_line}
@@ -52,9 +54,9 @@ map-map g f (x ∷ xs) = ap (λ zs. g (f x) ∷ zs) (map-map g f xs)
 
 module _ (graph : Graph) (is : IsGraph graph) (events : List Event) (contract : Contract) (side : Side) (zone : ℕ) (name : OrderName) where
   -- the history and the depth of a taker
-  record Takes (V : List Event) (depth : Depth) : Type 0 where
-    after : IsAfter events contract side (taker_of name contract side zone) V
-    of : IsDepth graph events contract side name V depth
+  pub record Takes (V : List Event) (depth : Depth) : Type 0 where
+    pub after : IsAfter events contract side (taker_of name contract side zone) V
+    pub of : IsDepth graph events contract side name V depth
 
   -- they go on together
   module _ (V : List Event) (depth : Depth) (takes : Takes V depth) (fill : Fill) (next : next_fill graph side zone depth ≡ Some fill) where
@@ -108,7 +110,7 @@ module _ (graph : Graph) (is : IsGraph graph) (events : List Event) (contract : 
       rest = ap (λ n. n - fill.lots) takes.of.rest ∙ sym (left-after_leg V contract (leg_of name fill) name (names-taker (leg_of name fill)));
     }
 
-    takes-next : Takes (and_then V (leg_event contract name fill)) (after_fill depth fill)
+    pub takes-next : Takes (and_then V (leg_event contract name fill)) (after_fill depth fill)
     takes-next = record { after = after-next; of = depth-next }
 
   -- the legs of a run of trades
@@ -129,9 +131,25 @@ module _ (graph : Graph) (is : IsGraph graph) (events : List Event) (contract : 
       let rest = run-short (after_fill depth fill) fills run.1 in
       let some = f.some in let enough = f.enough in omega (arith, rest, some, enough)
 
-  trades-of : (fills : List Fill) → filter_map trade_of (map (leg_event contract name) fills) ≡ map (leg_of name) fills
+  pub trades-of : (fills : List Fill) → filter_map trade_of (map (leg_event contract name) fills) ≡ map (leg_of name) fills
   trades-of [] = refl
   trades-of (fill ∷ fills) = ap (λ legs. leg_of name fill ∷ legs) (trades-of fills)
+
+-- the legs of the taking are those of the trades
+pub legs-are : (graph : Graph) (is : IsGraph graph) (setup : Setup) (events : List Event) (fit : FitAfter setup [] events) (contract : Contract) (side : Side) (zone : ℕ)
+    (depth : Depth) (fills : List Fill) → IsDepth graph events contract side (taker_name setup events fit contract side zone) (start setup events fit contract side zone) depth
+    → IsRun (next_fill graph side zone) after_fill depth fills
+    → take graph (start setup events fit contract side zone) (taker_name setup events fit contract side zone)
+    ≡ map (leg_event contract (taker_name setup events fit contract side zone)) fills
+unfolding take
+legs-are graph is setup events fit contract side zone depth fills of run =
+    let name = taker_name setup events fit contract side zone in
+    let begun = start setup events fit contract side zone in
+    let takes : Takes graph is events contract side zone name begun depth = record { after = after-start setup events fit contract side zone; of = of } in
+    let short = run-short graph is events contract side zone name depth fills run in
+    let rest = of.rest in
+    let few : length (map (leg_event contract name) fills) ≤ left begun name = (let size = length-map fills (leg_event contract name) in omega (arith, size, short, rest)) in
+    steps-run (left begun name) (next_leg graph name) and_then begun (map (leg_event contract name) fills) (legs-run graph is events contract side zone name begun depth fills takes run) few
 
 module _ (graph : Graph) (is : IsGraph graph) (events : List Event) (legal : IsLegalOver graph events) (contract : Contract) (side : Side) (zone : ℕ) (rooms : List (ℕ × ℕ))
     (are : (arc : Arc) → HasArc graph arc → room_of rooms arc ≡ room events (contract_quarters contract) arc) where
@@ -141,19 +159,10 @@ module _ (graph : Graph) (is : IsGraph graph) (events : List Event) (legal : IsL
   -- the rows of the run are the view
   pub view-is : (rows : List MakerRow) → AreRowsFilled graph side zone (depth_of (map maker_of (line events contract side)) rooms 4294967295) rows
       → map row_in rows ≡ view graph events contract side zone
-  unfolding view take
+  unfolding view
   view-is rows filled =
-      let of = depth-start legal.setup events legal.fit contract side zone graph rooms are in
-      let takes : Takes graph is events contract side zone name (start legal.setup events legal.fit contract side zone) depth =
-      record { after = after-start legal.setup events legal.fit contract side zone; of = of } in
-      let short = run-short graph is events contract side zone name depth filled.fills filled.run in
-      let rest = of.rest in
-      let few : length (map (leg_event contract name) filled.fills) ≤ left (start legal.setup events legal.fit contract side zone) name =
-      (let size = length-map filled.fills (leg_event contract name) in omega (arith, size, short, rest)) in
-      let legs : take graph (start legal.setup events legal.fit contract side zone) name ≡ map (leg_event contract name) filled.fills =
-      steps-run (left (start legal.setup events legal.fit contract side zone) name) (next_leg graph name) and_then (start legal.setup events legal.fit contract side zone)
-      (map (leg_event contract name) filled.fills)
-      (legs-run graph is events contract side zone name (start legal.setup events legal.fit contract side zone) depth filled.fills takes filled.run) few in
+      let of = depth-start legal.setup events legal.fit contract side zone graph (room_of rooms) are in
+      let legs = legs-are graph is legal.setup events legal.fit contract side zone depth filled.fills of filled.run in
       ap (map row_in) filled.are ∙ rows-are name filled.fills
       ∙ ap rows_of (sym (ap (filter_map trade_of) legs ∙ trades-of graph is events contract side zone name filled.fills))
     where

@@ -19,15 +19,15 @@ use zone_graph::{Grid, Rooms};
 
 /// A trade of the taker.
 #[derive(Drop)]
-pub(crate) struct Fill {
+pub struct Fill {
     /// The maker's name.
-    pub(crate) maker: OrderName,
+    pub maker: OrderName,
     /// The maker's price, in cents per MWh.
-    pub(crate) price: Price,
+    pub price: Price,
     /// How much is traded, in lots.
-    pub(crate) lots: u32,
+    pub lots: u32,
     /// The way from the seller to the buyer.
-    pub(crate) route: Route,
+    pub route: Route,
 }
 
 /// The next trade of a taker in a zone, of which so many lots are left: with the first maker of the

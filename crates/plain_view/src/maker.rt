@@ -9,15 +9,15 @@ use std::alloc::Global;
 
 /// An order of a line, of which a taker takes.
 #[derive(Clone, Copy, Debug)]
-pub(crate) struct Maker {
+pub struct Maker {
     /// Its name.
-    pub(crate) name: OrderName,
+    pub name: OrderName,
     /// Its zone.
-    pub(crate) zone: u32,
+    pub zone: u32,
     /// Its price, in cents per MWh.
-    pub(crate) price: Price,
+    pub price: Price,
     /// What it showed, less what was taken of it, in lots.
-    pub(crate) left: u32,
+    pub left: u32,
 }
 
 /// The orders of a line as makers, of which nothing is taken yet.

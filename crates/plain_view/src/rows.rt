@@ -17,11 +17,11 @@ use zone_graph::{Grid, Rooms};
 
 /// The row of a maker.
 #[derive(Clone, Copy, Debug)]
-pub(crate) struct MakerRow {
+pub struct MakerRow {
     /// The maker's name.
-    pub(crate) maker: OrderName,
+    pub maker: OrderName,
     /// Its price, and the sum of the lots of its trades.
-    pub(crate) row: ViewRow,
+    pub row: ViewRow,
 }
 
 /// The rows of the makers with which a taker of any quantity trades, in the order of the first trade

@@ -1,0 +1,3 @@
+pub mod FirstMakers
+pub mod RowSums
+pub mod Viewed

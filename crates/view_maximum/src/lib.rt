@@ -1,0 +1,7 @@
+//! A view shows the most that a taker of any quantity can obtain, and each place in the queue gets the
+//! most that can flow from it and from those before it.
+#![tactic(auto)]
+
+mod places;
+
+pub use places::{each_place_gets_the_most, views_add_up_to_their_bound};
