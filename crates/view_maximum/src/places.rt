@@ -4,14 +4,15 @@ ghost use Rattle.view_maximum.specs.Views.{EachPlaceGetsTheMost, ViewsAddUpToThe
 
 /// After a well-formed history the lots of a view's rows add up to the bound of the zones that are
 /// still in reach when its taking ends: to what the orders of its line show inside them, and the
-/// room of the arcs over which energy comes in from outside, or for a sell goes out.
+/// room of the arcs over which energy comes in from outside, or for a sell goes out. Or they are all
+/// of the 4294967295 lots that a view asks for.
 pub fn views_add_up_to_their_bound()
     ensures { ViewsAddUpToTheirBound }
 {}
 
 /// After a well-formed history, for every number, no flow plan from so many first orders of the line
-/// alone is worth more than what the view takes of these. So what a view takes of each place does not
-/// depend on which routes were chosen, and nobody's lots are held back for one who stands behind.
+/// alone is worth more than what the view takes of these, unless it takes all of the 4294967295 lots
+/// that it asks for. So nobody's lots are held back for one who stands behind.
 pub fn each_place_gets_the_most()
     ensures { EachPlaceGetsTheMost }
 {}
