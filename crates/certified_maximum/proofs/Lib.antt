@@ -9,4 +9,5 @@ pub mod OrdersMet
 pub mod Refused
 pub mod RoomsTaken
 pub mod Runs
+pub mod Shortfall
 pub mod Takers

@@ -2,5 +2,6 @@
 pub mod FlowPlan
 pub mod Passed
 pub mod Rooms
+pub mod Shortfall
 pub mod Takings
 pub mod Unfilled

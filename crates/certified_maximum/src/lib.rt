@@ -2,12 +2,14 @@
 #![tactic(auto)]
 
 mod blocks;
+mod examples;
 mod plans;
 mod rooms;
 mod takings;
 mod unfilled;
 
 pub use blocks::blocks_are_passed_over_for_want_of_room;
+pub use examples::falling_iceberg_stops_short;
 pub use plans::{no_plan_beats_a_bound, no_plan_beats_the_bound};
 pub use rooms::{legs_leave_the_rooms, takings_leave_the_rooms, takings_open_no_way};
 pub use takings::{takings_obtain_the_most, takings_reach_their_bound};
