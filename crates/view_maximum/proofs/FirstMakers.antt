@@ -55,6 +55,11 @@ AreOnce (maker ∷ makers) = ((other : Maker) → IsIn other makers → same_nam
 abbrev pub AreApart : List Maker → List Maker → Type 0
 AreApart makers others = (one other : Maker) → IsIn one makers → IsIn other others → same_name one.name other.name ≡ false
 
+-- no trade is with any of some makers
+abbrev pub AreUnnamed : List Maker → List Fill → Type 0
+AreUnnamed makers [] = Unit {0}
+AreUnnamed makers (fill ∷ fills) = (is_named_in makers fill.maker ≡ false) × AreUnnamed makers fills
+
 -- the prices of some makers cross that of the taker
 abbrev pub AllCross : Side → List Maker → Type 0
 AllCross side makers = (maker : Maker) → IsIn maker makers → crosses_any side maker ≡ true
@@ -78,7 +83,7 @@ once-parts (maker ∷ makers) others once =
     right_in [] x i = i
     right_in (y ∷ xs) x i = inr (right_in xs x i)
 
-named-true : (makers : List Maker) (maker : Maker) (name : OrderName) → IsIn maker makers → maker.name ≡ name → is_named_in makers name ≡ true
+pub named-true : (makers : List Maker) (maker : Maker) (name : OrderName) → IsIn maker makers → maker.name ≡ name → is_named_in makers name ≡ true
 named-true [] maker name i same = absurd i
 named-true (m ∷ makers) maker name i same = elim i [
   | inl first ↦ ap (λ b. b || is_named_in makers name) (ap (λ (x : Maker). same_name x.name name) (sym first) ∙ ap (λ n. same_name n name) same ∙ same_name-refl name)
@@ -96,14 +101,14 @@ named-false (m ∷ makers) name none =
 
 -- ---- what is taken of them
 
-taken-is : (name : OrderName) (lots : ℕ) (maker : Maker) → taken_of name lots maker ≡ record maker { left = maker.left - lots_if (same_name maker.name name) lots }
+pub taken-is : (name : OrderName) (lots : ℕ) (maker : Maker) → taken_of name lots maker ≡ record maker { left = maker.left - lots_if (same_name maker.name name) lots }
 taken-is name lots maker = by (same_name maker.name name)
   where
     by : (b : Bool) → (if b then record maker { left = maker.left - lots } else maker) ≡ record maker { left = maker.left - lots_if b lots }
     by true = refl
     by false = let same : maker.left ≡ maker.left - 0 = omega arith in λ i. record maker { left = same i }
 
-taken-name : (name : OrderName) (lots : ℕ) (maker : Maker) → (taken_of name lots maker).name ≡ maker.name
+pub taken-name : (name : OrderName) (lots : ℕ) (maker : Maker) → (taken_of name lots maker).name ≡ maker.name
 taken-name name lots maker = ap (λ (m : Maker). m.name) (taken-is name lots maker)
 
 abbrev pub taken : OrderName → ℕ → List Maker → List Maker
@@ -115,13 +120,13 @@ taken-none name lots (maker ∷ makers) none =
     ap (λ b. (if b then record maker { left = maker.left - lots } else maker) ∷ taken name lots makers) (none maker (inl refl))
     ∙ ap (λ l. maker ∷ l) (taken-none name lots makers (λ x i. none x (inr i)))
 
-taken-names : (name : OrderName) (lots : ℕ) (makers : List Maker) (other : OrderName) → is_named_in (taken name lots makers) other ≡ is_named_in makers other
+pub taken-names : (name : OrderName) (lots : ℕ) (makers : List Maker) (other : OrderName) → is_named_in (taken name lots makers) other ≡ is_named_in makers other
 taken-names name lots [] other = refl
 taken-names name lots (maker ∷ makers) other =
     ap (λ n. same_name n other || is_named_in (taken name lots makers) other) (taken-name name lots maker)
     ∙ ap (λ b. same_name maker.name other || b) (taken-names name lots makers other)
 
-taken-once : (name : OrderName) (lots : ℕ) (makers : List Maker) → AreOnce makers → AreOnce (taken name lots makers)
+pub taken-once : (name : OrderName) (lots : ℕ) (makers : List Maker) → AreOnce makers → AreOnce (taken name lots makers)
 taken-once name lots [] once = tt
 taken-once name lots (maker ∷ makers) once = (
   λ other i.
@@ -133,7 +138,7 @@ taken-once name lots (maker ∷ makers) once = (
   taken-once name lots makers once.1,
 )
 
-taken-apart : (name : OrderName) (lots : ℕ) (makers others : List Maker) → AreApart makers others → AreApart (taken name lots makers) (taken name lots others)
+pub taken-apart : (name : OrderName) (lots : ℕ) (makers others : List Maker) → AreApart makers others → AreApart (taken name lots makers) (taken name lots others)
 taken-apart name lots makers others apart one other i j =
     let from = from_map (taken_of name lots) one makers i in
     let to = from_map (taken_of name lots) other others j in
@@ -148,7 +153,7 @@ taken-cross side name lots makers all maker i =
     let from = from_map (taken_of name lots) maker makers i in
     ap (crosses_any side) (from.2 ∙ taken-is name lots from.0) ∙ all from.0 from.1
 
-taken-append : (name : OrderName) (lots : ℕ) (makers others : List Maker) → taken name lots (makers ++ others) ≡ taken name lots makers ++ taken name lots others
+pub taken-append : (name : OrderName) (lots : ℕ) (makers others : List Maker) → taken name lots (makers ++ others) ≡ taken name lots makers ++ taken name lots others
 taken-append name lots [] others = refl
 taken-append name lots (maker ∷ makers) others = ap (λ l. taken_of name lots maker ∷ l) (taken-append name lots makers others)
 
@@ -186,7 +191,7 @@ shown-falls zones name lots (maker ∷ makers) with once i named most = elim i [
 
 -- ---- searches
 
-find-front : (p : Maker → Bool) (xs ys : List Maker) (x : Maker) → find p xs ≡ Some x → find p (xs ++ ys) ≡ Some x
+pub find-front : (p : Maker → Bool) (xs ys : List Maker) (x : Maker) → find p xs ≡ Some x → find p (xs ++ ys) ≡ Some x
 find-front p [] ys x e = cc
 find-front p (y ∷ xs) ys x e = by (p y) (find-front p xs ys x) e
   where
@@ -270,10 +275,16 @@ module _ (graph : Graph) (is : IsGraph graph) (side : Side) (zone : ℕ) (known 
   abbrev pub depth : (Arc → ℕ) → List Maker → ℕ → Depth
   depth room makers left = record { makers = makers; room = room; left = left }
 
+  unnamed-lots : (makers : List Maker) (fills : List Fill) → AreUnnamed makers fills → lots_with makers fills ≡ 0
+  unnamed-lots makers [] none = refl
+  unnamed-lots makers (fill ∷ fills) none =
+      let none_here : lots_if (is_named_in makers fill.maker) fill.lots ≡ 0 = ap (λ b. lots_if b fill.lots) none.0 in
+      omega (arith, sum_by-cons (λ (x : Fill). lots_if (is_named_in makers x.maker) x.lots) fill fills, none_here, unnamed-lots makers fills none.1)
+
   -- makers that cannot be traded with are never traded with
-  idle : (room : Arc → ℕ) (makers others : List Maker) (left : ℕ) (fills : List Fill) → ((maker : Maker) → IsIn maker makers → can room maker ≡ false) → AreApart makers others
-      → IsRun (next_fill graph side zone) after_fill (depth room (makers ++ others) left) fills → lots_with makers fills ≡ 0
-  idle room makers others left [] none apart run = refl
+  pub idle : (room : Arc → ℕ) (makers others : List Maker) (left : ℕ) (fills : List Fill) → ((maker : Maker) → IsIn maker makers → can room maker ≡ false) → AreApart makers others
+      → IsRun (next_fill graph side zone) after_fill (depth room (makers ++ others) left) fills → AreUnnamed makers fills
+  idle room makers others left [] none apart run = tt
   idle room makers others left (fill ∷ fills) none apart run =
       let f = next_fill-is graph side zone (depth room (makers ++ others) left) fill is run.0 in
       let found = from_find (can room) f.with (makers ++ others) f.found in
@@ -283,7 +294,6 @@ module _ (graph : Graph) (is : IsGraph graph) (side : Side) (zone : ℕ) (known 
       ] in
       let away : (maker : Maker) → IsIn maker makers → same_name maker.name fill.maker ≡ false = λ maker i. ap (same_name maker.name) f.named ∙ apart maker f.with i behind in
       let unnamed = named-false makers fill.maker away in
-      let none_here : lots_if (is_named_in makers fill.maker) fill.lots ≡ 0 = ap (λ b. lots_if b fill.lots) unnamed in
       let same : taken fill.maker fill.lots (makers ++ others) ≡ makers ++ taken fill.maker fill.lots others =
       taken-append fill.maker fill.lots makers others ∙ ap (λ l. l ++ taken fill.maker fill.lots others) (taken-none fill.maker fill.lots makers away) in
       let later = idle (room_after room (carried_by fill)) makers (taken fill.maker fill.lots others) (left - fill.lots) fills
@@ -291,7 +301,7 @@ module _ (graph : Graph) (is : IsGraph graph) (side : Side) (zone : ℕ) (known 
       (λ one other i j. let to = from_map (taken_of fill.maker fill.lots) other others j in
       ap (λ (m : Maker). same_name one.name m.name) to.2 ∙ ap (same_name one.name) (taken-name fill.maker fill.lots to.0) ∙ apart one to.0 i to.1)
       (subst (λ l. IsRun (next_fill graph side zone) after_fill (depth (room_after room (carried_by fill)) l (left - fill.lots)) fills) same run.1) in
-      omega (arith, sum_by-cons (λ (x : Fill). lots_if (is_named_in makers x.maker) x.lots) fill fills, none_here, later)
+      (unnamed, later)
     where
       still : (room : Arc → ℕ) (f : IsFill graph side zone (depth room (makers ++ others) left) fill) (maker : Maker) → can room maker ≡ false → can (room_after room (carried_by fill)) maker ≡ false
       still room f maker cannot = by (nat_lt 0 maker.left && crosses_any side maker) (is_some (route_with graph room side zone maker)) refl cannot
@@ -316,7 +326,7 @@ module _ (graph : Graph) (is : IsGraph graph) (side : Side) (zone : ℕ) (known 
       → IsRun (next_fill graph side zone) after_fill (depth room (makers ++ others) left) fills → find (can room) makers ≡ None → IsBound room makers (lots_with makers fills)
   first-none room makers others left fills apart cross run none =
       let cannot = find-none (can room) makers none in
-      let idles = idle room makers others left fills cannot apart run in
+      let idles = unnamed-lots makers fills (idle room makers others left fills cannot apart run) in
       let nothing = bound-none room makers cross cannot in
       record { zones = reach room; has_own = own_reached room; is_bound = idles ∙ sym nothing }
 

@@ -1,3 +1,4 @@
+pub mod Attained
 pub mod FirstMakers
 pub mod RowSums
 pub mod Viewed

@@ -1,6 +1,6 @@
 -- A view after a well-formed history: its rows add up to their bound, and each place in the queue
 -- gets the most.
-use Rattle.std.proofs.Common.{◌≡◌, ◌∙◌, ◌⊎◌, inl, inr, ℕ, zero, suc, ◌+◌, ◌<◌, ◌≤◌, ◌||◌, Bool, true, false, List, [], ◌∷◌, ◌++◌, filter, fold, map, take, drop, sum_by, int_le, neg_ℤ, pos, is_some, refl, sym, ap, subst, arith}
+use Rattle.std.proofs.Common.{◌≡◌, ◌∙◌, ◌⊎◌, inl, inr, ℕ, zero, suc, ◌+◌, ◌<◌, ◌≤◌, ◌==◌, ◌||◌, Bool, true, false, List, [], ◌∷◌, ◌++◌, filter, fold, map, take, drop, sum_by, int_le, neg_ℤ, pos, is_some, refl, sym, ap, subst, arith}
 use Rattle.std.proofs.Math.Path.{fun_ext}
 use Rattle.std.proofs.lemmas.Bool.{and_parts, ltb-true}
 use Rattle.std.proofs.lemmas.List.{take-append-drop}
@@ -46,7 +46,7 @@ use Rattle.market_laws.proofs.Trades.{IsInLine, from_line}
 use Rattle.market_laws.proofs.Unique.{entered-order}
 use Rattle.history_bounds.proofs.Prices.{prices-in-range}
 use Rattle.cut_proof.proofs.ArcSums.{sum_passing}
-use Rattle.certified_maximum.specs.FlowPlan.{FlowPlan, value_of}
+use Rattle.certified_maximum.specs.FlowPlan.{FlowPlan, IsBalanced, given_in, value_of}
 use Rattle.certified_maximum.proofs.Duality.{no_plan_more}
 use Rattle.plain_view.specs.declared.filling.Fill.{Fill}
 use Rattle.plain_view.specs.declared.maker.Maker.{Maker}
@@ -55,8 +55,9 @@ use Rattle.plain_view.proofs.Fills.{next_fill-is}
 use Rattle.plain_view.proofs.NextLeg.{IsDepth, leg_event}
 use Rattle.plain_view.proofs.Start.{after-start, depth-start, start, taker_name}
 use Rattle.plain_view.proofs.Views.{Takes, legs-are, takes-next, trades-of}
-use Rattle.view_maximum.specs.Views.{EachPlaceGetsTheMost, IsPlanOver, ViewsAddUpToTheirBound, bound_shown, legs_viewed, lots_of_rows, lots_taken_of, zones_viewed}
+use Rattle.view_maximum.specs.Views.{EachPlaceGetsTheMost, EachPlaceTakesAPlan, IsPlanOver, TakesAPlan, ViewsAddUpToTheirBound, bound_shown, legs_viewed, lots_of_rows, lots_taken_of, zones_viewed}
 use Rattle.view_maximum.proofs.FirstMakers.{AllCross, AreOnce, all-bound, first-bound, is_named_in, lots_filled, lots_with, once-parts, shown_in}
+use Rattle.view_maximum.proofs.Attained.{Balances, all-given, first-flows, flow_of, given, gives}
 use Rattle.view_maximum.proofs.RowSums.{rows-lots}
 
 -- ---- the names of a line
@@ -258,8 +259,43 @@ module _ (setup : Setup) (is_setup : IsMarketSetup setup) (events : List Event) 
       in_line : (o : Standing) (count : ℕ) → IsIn o (take count orders) → {maker : Maker} → maker ≡ maker_of o → IsIn maker makers
       in_line o count i same = subst (λ m. IsIn m makers) (sym same) (IsIn-map maker_of o orders (front-in o count orders i))
 
+  -- what is taken of them is a plan
+  first_plan : (count : ℕ) → TakesAPlan graph events contract side zone (take count orders)
+  first_plan count =
+      let front : List Maker = map maker_of (take count orders) in
+      let split : makers ≡ map maker_of (take count orders) ++ map maker_of (drop count orders) =
+      ap (map maker_of) (sym (take-append-drop count orders)) ∙ map-append (take count orders) (drop count orders) in
+      let parts = once-parts (map maker_of (take count orders)) (map maker_of (drop count orders)) (subst AreOnce split makers-once) in
+      let flows = first-flows graph is_setup side zone known rooms (map maker_of (take count orders)) (map maker_of (drop count orders)) 4294967295 fills parts.0 parts.1
+      (subst (λ ms. IsRun (next_fill graph side zone) after_fill (record { makers = ms; room = rooms; left = 4294967295 }) fills) split run) in
+      record {
+        plan = record { gives = λ o. gives fills o.name; flow = flow_of front fills };
+        planned = record {
+          gives_most = λ o i. flows.most (maker_of o) (IsIn-map maker_of o (take count orders) i);
+          within = flows.within;
+          balanced = λ other there apart. even count side other (flows.balanced other apart);
+        };
+        worth = sym (sum-map (λ (m : Maker). gives fills m.name) maker_of (take count orders)) ∙ all-given front fills parts.0
+            ∙ taken-is name (take count orders) fills ∙ ap (lots_taken_of (take count orders)) (sym viewed);
+      }
+    where
+      given-is : (count other : ℕ) → given (map maker_of (take count orders)) fills other
+          ≡ given_in (take count orders) (record { gives = λ o. gives fills o.name; flow = flow_of (map maker_of (take count orders)) fills }) other
+      given-is count other =
+          sum-map (λ (m : Maker). lots_if (m.zone == other) (gives fills m.name)) maker_of (take count orders)
+          ∙ sym (sum_passing (λ (o : Standing). o.order.zone == other) (λ (o : Standing). gives fills o.name) (take count orders))
+
+      even : (count : ℕ) (side : Side) (other : ℕ)
+          → Balances graph is_setup side zone known side (flow_of (map maker_of (take count orders)) fills) other (given (map maker_of (take count orders)) fills other)
+          → IsBalanced graph (opposite side) (take count orders) (record { gives = λ o. gives fills o.name; flow = flow_of (map maker_of (take count orders)) fills }) other
+      even count Sell other balance = omega (arith, balance, given-is count other)
+      even count Buy other balance = omega (arith, balance, given-is count other)
+
 pub add_up : ViewsAddUpToTheirBound
 add_up setup events contract side zone is_setup history known = sum setup is_setup events history contract side zone known
 
 pub each_place : EachPlaceGetsTheMost
 each_place setup events contract side zone count plan is_setup history known planned = first setup is_setup events history contract side zone known count plan planned
+
+pub each_plan : EachPlaceTakesAPlan
+each_plan setup events contract side zone count is_setup history known = first_plan setup is_setup events history contract side zone known count

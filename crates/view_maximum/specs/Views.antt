@@ -67,3 +67,13 @@ EachPlaceGetsTheMost = (setup : Setup) (events : List Event) (contract : Contrac
     IsPlanOver (graph_of setup) events contract side zone first plan
     → (lots_of_rows (graph_of setup) events contract side zone ≡ 4294967295)
     ⊎ (value_of first plan ≤ lots_taken_of first (legs_viewed (graph_of setup) events contract side zone))
+
+-- and what it takes of them is the value of such a plan
+pub record TakesAPlan (graph : Graph) (events : List Event) (contract : Contract) (side : Side) (zone : ℕ) (orders : List Standing) : Type 0 where
+  pub plan : FlowPlan
+  pub planned : IsPlanOver graph events contract side zone orders plan
+  pub worth : value_of orders plan ≡ lots_taken_of orders (legs_viewed graph events contract side zone)
+
+abbrev pub EachPlaceTakesAPlan : Type 0
+EachPlaceTakesAPlan = (setup : Setup) (events : List Event) (contract : Contract) (side : Side) (zone count : ℕ) → IsMarketSetup setup → IsHistory setup events
+    → HasZone (graph_of setup) zone → TakesAPlan (graph_of setup) events contract side zone (take count (line events contract side))

@@ -1,6 +1,6 @@
 //! What a view takes of the orders of its line.
 
-ghost use Rattle.view_maximum.specs.Views.{EachPlaceGetsTheMost, ViewsAddUpToTheirBound};
+ghost use Rattle.view_maximum.specs.Views.{EachPlaceGetsTheMost, EachPlaceTakesAPlan, ViewsAddUpToTheirBound};
 
 /// After a well-formed history the lots of a view's rows add up to the bound of the zones that are
 /// still in reach when its taking ends: to what the orders of its line show inside them, and the
@@ -15,4 +15,10 @@ pub fn views_add_up_to_their_bound()
 /// that it asks for. So nobody's lots are held back for one who stands behind.
 pub fn each_place_gets_the_most()
     ensures { EachPlaceGetsTheMost }
+{}
+
+/// And what the view takes of these orders is the value of such a flow plan: what is taken of each, over
+/// the routes that were chosen. So it is the most that any is worth.
+pub fn each_place_takes_a_plan()
+    ensures { EachPlaceTakesAPlan }
 {}
