@@ -17,7 +17,7 @@ use Rattle.cut_proof.specs.Cut.{HasRoomFor}
 use Rattle.cut_proof.proofs.Crossing.{legs_in}
 use Rattle.cut_proof.proofs.ReachLaws.{has-towards, no_room_enters, towards-has}
 use Rattle.route_carrying.proofs.Carrying.{after_leg}
-use Rattle.route_choice.specs.Poured.{AreRoomsAfterSome, CarryTheMost, lots_of, rooms_after}
+use Rattle.route_choice.specs.Poured.{AreRoomsAfterSome, CarryTheMost, PoursRunToTheirEnd, lots_of, rooms_after}
 
 -- ---- one leg
 
@@ -84,6 +84,14 @@ pub pour-run : (graph : Graph) (from to : ℕ) (room : Arc → ℕ) (left : ℕ)
 pour-run graph from to room left is =
     run-measured left (next_pour_leg graph from to) after_pour_leg (λ p. p.left) (pouring room left)
     (λ p leg e. let l = pour_leg-is graph p.room from to p.left leg is e in omega (arith, l.some, l.enough)) (omega arith)
+
+-- and the only one
+pub runs_to_its_end : PoursRunToTheirEnd
+runs_to_its_end graph room from to most legs is =
+    let run = pour-run graph from to room most is in (
+      λ other. run-unique (next_pour_leg graph from to) after_pour_leg (pouring room most) legs (pour graph room from to most) other run,
+      λ same. subst (Poured graph from to room most) (sym same) run,
+    )
 
 -- a pour in its course
 pub record IsPoured (graph : Graph) (start : Arc → ℕ) (from to most : ℕ) (room : Arc → ℕ) (left : ℕ) (legs : List RouteLeg) : Type 0 where

@@ -1,9 +1,9 @@
 -- What a pour leaves of the rooms, and that it carries as much as they allow.
-use Rattle.std.specs.Prelude.{◌≡◌, ℕ, ◌⊎◌, false, List, fold, sum_by, take}
+use Rattle.std.specs.Prelude.{◌≡◌, ℕ, ◌⊎◌, ◌↔◌, false, List, fold, sum_by, take}
 use Rattle.zone_graph.specs.declared.route.Arc.{Arc}
 use Rattle.zone_graph.specs.declared.route.RouteLeg.{RouteLeg}
-use Rattle.zone_graph.specs.Graph.{Graph}
-use Rattle.zone_graph.specs.Pour.{room_after}
+use Rattle.zone_graph.specs.Graph.{Graph, IsGraph}
+use Rattle.zone_graph.specs.Pour.{IsPour, pour, room_after}
 use Rattle.zone_graph.specs.Reach.{entering_room, zones_towards}
 use Rattle.zone_graph.specs.Route.{has}
 
@@ -30,3 +30,9 @@ abbrev pub CarryTheMost : Graph → (before after : Arc → ℕ) → (from to mo
 CarryTheMost graph before after from to most legs =
     let zones = zones_towards graph after to in
     (lots_of legs ≡ most) ⊎ ((lots_of legs ≡ entering_room graph before zones) × (has from zones ≡ false))
+
+-- the legs of a pour over a row of rooms are the one run to its end: each is the next one, and after
+-- the last there is none
+abbrev pub PoursRunToTheirEnd : Type 0
+PoursRunToTheirEnd = (graph : Graph) (room : Arc → ℕ) (from to most : ℕ) (legs : List RouteLeg) → IsGraph graph
+    → IsPour graph room from to most legs ↔ (legs ≡ pour graph room from to most)

@@ -6,5 +6,5 @@ mod laws;
 mod pouring;
 
 pub use choice::best_route;
-pub use laws::no_flow_carries_more;
+pub use laws::{no_flow_carries_more, pours_run_to_their_end};
 pub use pouring::pour;
