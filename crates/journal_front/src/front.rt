@@ -43,6 +43,10 @@ impl Model for Front {
 impl Front {
     /// A front of an empty journal, with the journal's seat, the seat of a desk for each hour and that
     /// of a pass for each caller, ascending, all with the empty list.
+    ///
+    /// # Errors
+    ///
+    /// [`NoMemory`] where memory runs out.
     pub fn open(
         alloc: Global,
         setup: &Setup,
