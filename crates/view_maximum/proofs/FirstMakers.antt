@@ -386,6 +386,19 @@ module _ (graph : Graph) (is : IsGraph graph) (side : Side) (zone : ℕ) (known 
                 })
           ]
 
+  -- no more is taken than is shown
+  pub filled-most : (zones : List ℕ) (room : Arc → ℕ) (makers : List Maker) (left : ℕ) (fills : List Fill) → AreOnce makers → ((maker : Maker) → IsIn maker makers → has maker.zone zones ≡ true)
+      → IsRun (next_fill graph side zone) after_fill (depth room makers left) fills → lots_filled fills ≤ shown_in zones makers
+  filled-most zones room makers left [] once inside run = omega arith
+  filled-most zones room makers left (fill ∷ fills) once inside run =
+      let f = next_fill-is graph side zone (depth room makers left) fill is run.0 in
+      let falls = shown-falls zones fill.maker fill.lots makers f.with once f.is_in f.named f.shows in
+      let own : lots_if (has f.with.zone zones) fill.lots ≡ fill.lots = ap (λ b. lots_if b fill.lots) (inside f.with f.is_in) in
+      let rest = filled-most zones (room_after room (carried_by fill)) (taken fill.maker fill.lots makers) (left - fill.lots) fills (taken-once fill.maker fill.lots makers once)
+      (λ maker i. let from = from_map (taken_of fill.maker fill.lots) maker makers i in
+      ap (λ (m : Maker). has m.zone zones) (from.2 ∙ taken-is fill.maker fill.lots from.0) ∙ inside from.0 from.1) run.1 in
+      omega (arith, falls, own, rest, sum_by-cons (λ (x : Fill). x.lots) fill fills)
+
   -- ---- all makers
 
   -- the lots of all trades are the bound of the zones that are in reach in the end

@@ -1,4 +1,5 @@
 pub mod Attained
 pub mod FirstMakers
+pub mod OpenOrders
 pub mod RowSums
 pub mod Viewed

@@ -1,9 +1,10 @@
 -- A view after a well-formed history: its rows add up to their bound, and each place in the queue
 -- gets the most.
-use Rattle.std.proofs.Common.{◌≡◌, ◌∙◌, ◌⊎◌, inl, inr, ℕ, zero, suc, ◌+◌, ◌<◌, ◌≤◌, ◌==◌, ◌||◌, Bool, true, false, List, [], ◌∷◌, ◌++◌, filter, fold, map, take, drop, sum_by, int_le, neg_ℤ, pos, is_some, refl, sym, ap, subst, arith}
+use Rattle.std.proofs.Common.{◌≡◌, ◌∙◌, ◌⊎◌, inl, inr, ℕ, zero, suc, ◌+◌, ◌*◌, ◌<◌, ◌≤◌, ◌==◌, ◌||◌, Bool, true, false, List, [], ◌∷◌, ◌++◌, filter, fold, length, map, take, drop, sum_by, int_le, neg_ℤ, pos, is_some, refl, sym, ap, subst, arith}
 use Rattle.std.proofs.Math.Path.{fun_ext}
 use Rattle.std.proofs.lemmas.Bool.{and_parts, ltb-true}
-use Rattle.std.proofs.lemmas.List.{take-append-drop}
+use Rattle.std.proofs.lemmas.List.{length-map, take-append-drop}
+use Rattle.std.proofs.Math.Nat.{mul-le-mul_left}
 use Rattle.std.proofs.lemmas.List.Sums.{sum_by-cons}
 use Rattle.std.specs.List.{filter_map, list_any, range_with_len}
 use Rattle.order_kinds.specs.declared.contract.Contract.{Contract}
@@ -21,7 +22,7 @@ use Rattle.zone_graph.specs.Pour.{lots_if}
 use Rattle.zone_graph.specs.Route.{IsIn, has}
 use Rattle.zone_graph.specs.Steps.{IsRun, steps}
 use Rattle.zone_graph.proofs.BestRoute.{best_route-rooms}
-use Rattle.zone_graph.proofs.Membership.{IsIn-map, from_map}
+use Rattle.zone_graph.proofs.Membership.{IsIn-map, IsIn-range, from_map, has-IsIn}
 use Rattle.zone_graph.proofs.Runs.{run-measured}
 use Rattle.market_model.specs.declared.event.Event.{Event}
 use Rattle.market_model.specs.declared.event.Leg.{Leg}
@@ -31,12 +32,12 @@ use Rattle.market_model.specs.Certificate.{room_across, unfilled_zones, zones_in
 use Rattle.market_model.specs.Grid.{graph_of}
 use Rattle.market_model.specs.History.{and_then}
 use Rattle.market_model.specs.Lines.{line, stands_in}
-use Rattle.market_model.specs.Orders.{Placed, Standing, filled, left, placed, standing}
+use Rattle.market_model.specs.Orders.{Placed, Standing, filled, left, open_names, placed, standing}
 use Rattle.market_model.specs.Room.{room}
 use Rattle.market_model.specs.Taking.{take as taking}
 use Rattle.market_model.specs.View.{any_price, rows_of, trade_of, view}
 use Rattle.market_model.specs.WellFormed.{IsHistory, IsMarketSetup}
-use Rattle.market_laws.proofs.Balances.{covered}
+use Rattle.market_laws.proofs.Balances.{covered, shown-le-left}
 use Rattle.market_laws.proofs.LineSums.{one_if, sum-line, sum-map, times_placed}
 use Rattle.market_laws.proofs.Names.{names-once}
 use Rattle.market_laws.proofs.Placed.{all_are_sound}
@@ -44,6 +45,7 @@ use Rattle.market_laws.proofs.Repeats.{fold-and_then}
 use Rattle.market_laws.proofs.Tests.{same_name-refl}
 use Rattle.market_laws.proofs.Trades.{IsInLine, from_line}
 use Rattle.market_laws.proofs.Unique.{entered-order}
+use Rattle.history_bounds.proofs.Lefts.{left-most}
 use Rattle.history_bounds.proofs.Prices.{prices-in-range}
 use Rattle.cut_proof.proofs.ArcSums.{sum_passing}
 use Rattle.certified_maximum.specs.FlowPlan.{FlowPlan, IsBalanced, given_in, value_of}
@@ -55,9 +57,10 @@ use Rattle.plain_view.proofs.Fills.{next_fill-is}
 use Rattle.plain_view.proofs.NextLeg.{IsDepth, leg_event}
 use Rattle.plain_view.proofs.Start.{after-start, depth-start, start, taker_name}
 use Rattle.plain_view.proofs.Views.{Takes, legs-are, takes-next, trades-of}
-use Rattle.view_maximum.specs.Views.{EachPlaceGetsTheMost, EachPlaceTakesAPlan, IsPlanOver, TakesAPlan, ViewsAddUpToTheirBound, bound_shown, legs_viewed, lots_of_rows, lots_taken_of, zones_viewed}
-use Rattle.view_maximum.proofs.FirstMakers.{AllCross, AreOnce, all-bound, first-bound, is_named_in, lots_filled, lots_with, once-parts, shown_in}
+use Rattle.view_maximum.specs.Views.{EachPlaceGetsTheMost, EachPlaceTakesAPlan, IsPlanOver, TakesAPlan, ViewsTakeNoMoreThanIsOpen, ViewsAddUpToTheirBound, bound_shown, legs_viewed, lots_of_rows, lots_taken_of, zones_viewed}
+use Rattle.view_maximum.proofs.FirstMakers.{filled-most, AllCross, AreOnce, all-bound, first-bound, is_named_in, lots_filled, lots_with, once-parts, shown_in}
 use Rattle.view_maximum.proofs.Attained.{Balances, all-given, first-flows, flow_of, given, gives}
+use Rattle.view_maximum.proofs.OpenOrders.{line-open}
 use Rattle.view_maximum.proofs.RowSums.{rows-lots}
 
 -- ---- the names of a line
@@ -291,6 +294,48 @@ module _ (setup : Setup) (is_setup : IsMarketSetup setup) (events : List Event) 
       even count Sell other balance = omega (arith, balance, given-is count other)
       even count Buy other balance = omega (arith, balance, given-is count other)
 
+  -- ---- what is open
+
+  few : lots_of_rows graph events contract side zone ≤ 9990 * length (open_names events contract.hour)
+  few =
+      let every : List ℕ = range_with_len 0 (zone_count graph) in
+      let most = filled-most graph is_setup side zone known every rooms makers 4294967295 fills makers-once inside run in
+      let each = shown-most every makers little in
+      let size = length-map orders maker_of in
+      let opened = line-open setup events history.fit contract side in
+      let all : 9990 * length orders ≤ 9990 * length (open_names events contract.hour) = mul-le-mul_left 9990 opened in
+      let same : 9990 * length makers ≡ 9990 * length orders = ap (λ n. 9990 * n) size in
+      omega (arith, rows, most, each, all, same)
+    where
+      inside : (maker : Maker) → IsIn maker makers → has maker.zone (range_with_len 0 (zone_count graph)) ≡ true
+      inside maker i =
+          let from = from_map maker_of maker orders i in
+          let stands = from_line events contract side from.0 from.1 in
+          let there : HasZone graph from.0.order.zone =
+          subst (λ (s : Standing). HasZone graph s.order.zone) (sym stands.is) ((all_are_sound setup events history.fit).orders stands.order stands.is_open.is_placed).in_zone in
+          ap (λ (m : Maker). has m.zone (range_with_len 0 (zone_count graph))) from.2
+          ∙ has-IsIn from.0.order.zone (range_with_len 0 (zone_count graph)) (IsIn-range from.0.order.zone 0 (zone_count graph) (omega arith) (omega (arith, there)))
+
+      little : (maker : Maker) → IsIn maker makers → maker.left ≤ 9990
+      little maker i =
+          let from = from_map maker_of maker orders i in
+          let stands = from_line events contract side from.0 from.1 in
+          let p = stands.order in
+          let shows = shown-le-left p.order.kind (filled events p.name) (left events p.name) in
+          let most = left-most setup events history.fit p.name in
+          let own : maker.left ≡ (standing events p).shown = ap (λ (m : Maker). m.left) from.2 ∙ ap (λ (s : Standing). s.shown) stands.is in
+          omega (arith, own, shows, most)
+
+      shown-most : (zones : List ℕ) (ms : List Maker) → ((m : Maker) → IsIn m ms → m.left ≤ 9990) → shown_in zones ms ≤ 9990 * length ms
+      shown-most zones [] small = omega arith
+      shown-most zones (m ∷ ms) small =
+          let own = if_most (has m.zone zones) m.left (small m (inl refl)) in
+          omega (arith, own, sum_by-cons (λ (x : Maker). lots_if (has x.zone zones) x.left) m ms, shown-most zones ms (λ x j. small x (inr j)))
+        where
+          if_most : (b : Bool) (n : ℕ) → n ≤ 9990 → lots_if b n ≤ 9990
+          if_most true n small = small
+          if_most false n small = omega arith
+
 pub add_up : ViewsAddUpToTheirBound
 add_up setup events contract side zone is_setup history known = sum setup is_setup events history contract side zone known
 
@@ -299,3 +344,6 @@ each_place setup events contract side zone count plan is_setup history known pla
 
 pub each_plan : EachPlaceTakesAPlan
 each_plan setup events contract side zone count is_setup history known = first_plan setup is_setup events history contract side zone known count
+
+pub take_little : ViewsTakeNoMoreThanIsOpen
+take_little setup events contract side zone is_setup history known = few setup is_setup events history contract side zone known

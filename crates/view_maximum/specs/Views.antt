@@ -1,6 +1,6 @@
 -- What a view takes: of all the orders of its line, and of the first of them, whatever routes are
 -- chosen.
-use Rattle.std.specs.Prelude.{◌≡◌, ℕ, ◌≤◌, ◌⊎◌, List, sum_by, take}
+use Rattle.std.specs.Prelude.{◌≡◌, ℕ, ◌*◌, ◌≤◌, ◌⊎◌, List, length, sum_by, take}
 use Rattle.std.specs.List.{filter_map, list_any}
 use Rattle.order_kinds.specs.declared.contract.Contract.{Contract}
 use Rattle.order_kinds.specs.declared.side.Side.{Side}
@@ -16,7 +16,7 @@ use Rattle.market_model.specs.Certificate.{unfilled_zones}
 use Rattle.market_model.specs.Entering.{legs_taken}
 use Rattle.market_model.specs.Grid.{graph_of}
 use Rattle.market_model.specs.Lines.{line}
-use Rattle.market_model.specs.Orders.{Standing}
+use Rattle.market_model.specs.Orders.{Standing, open_names}
 use Rattle.market_model.specs.Room.{room}
 use Rattle.market_model.specs.View.{trade_of, unlimited_taker, view, without_hidden}
 use Rattle.market_model.specs.WellFormed.{IsHistory, IsMarketSetup}
@@ -48,6 +48,12 @@ bound_shown graph events contract side orders zones =
 abbrev pub IsPlanOver : Graph → List Event → Contract → Side → (zone : ℕ) → List Standing → FlowPlan → Type 0
 IsPlanOver graph events contract side zone orders plan =
     IsFlowPlan graph (room events (contract_quarters contract)) (opposite side) zone orders (λ order. order.shown) plan
+
+-- after a well-formed history a view takes at most 999.0 MW for each order or block that is open by its
+-- hour: so with at most 4096 open, far less than all that it asks for
+abbrev pub ViewsTakeNoMoreThanIsOpen : Type 0
+ViewsTakeNoMoreThanIsOpen = (setup : Setup) (events : List Event) (contract : Contract) (side : Side) (zone : ℕ) → IsMarketSetup setup → IsHistory setup events
+    → HasZone (graph_of setup) zone → lots_of_rows (graph_of setup) events contract side zone ≤ 9990 * length (open_names events contract.hour)
 
 -- after a well-formed history the lots of a view's rows add up to the bound of the zones that are
 -- still in reach when its taking ends, unless they are all that it asks for

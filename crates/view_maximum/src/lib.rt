@@ -4,4 +4,7 @@
 
 mod places;
 
-pub use places::{each_place_gets_the_most, each_place_takes_a_plan, views_add_up_to_their_bound};
+pub use places::{
+    each_place_gets_the_most, each_place_takes_a_plan, views_add_up_to_their_bound,
+    views_take_no_more_than_is_open,
+};

@@ -1,6 +1,13 @@
 //! What a view takes of the orders of its line.
 
-ghost use Rattle.view_maximum.specs.Views.{EachPlaceGetsTheMost, EachPlaceTakesAPlan, ViewsAddUpToTheirBound};
+ghost use Rattle.view_maximum.specs.Views.{EachPlaceGetsTheMost, EachPlaceTakesAPlan, ViewsAddUpToTheirBound, ViewsTakeNoMoreThanIsOpen};
+
+/// After a well-formed history a view takes at most 9990 lots for each order or block that is open by
+/// its hour. So where no more than 4096 are open, as in every journal, it takes far less than the
+/// 4294967295 lots that it asks for.
+pub fn views_take_no_more_than_is_open()
+    ensures { ViewsTakeNoMoreThanIsOpen }
+{}
 
 /// After a well-formed history the lots of a view's rows add up to the bound of the zones that are
 /// still in reach when its taking ends: to what the orders of its line show inside them, and the
