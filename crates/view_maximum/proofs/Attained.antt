@@ -63,7 +63,7 @@ swapped true false n = refl
 swapped false true n = refl
 swapped false false n = refl
 
-sum-each : {X : Type 0} (f g : X → ℕ) (xs : List X) → ((x : X) → IsIn x xs → f x ≡ g x) → sum_by f xs ≡ sum_by g xs
+pub sum-each : {X : Type 0} (f g : X → ℕ) (xs : List X) → ((x : X) → IsIn x xs → f x ≡ g x) → sum_by f xs ≡ sum_by g xs
 sum-each f g [] each = refl
 sum-each f g (x ∷ xs) each = omega (arith, sum_by-cons f x xs, sum_by-cons g x xs, each x (inl refl), sum-each f g xs (λ y i. each y (inr i)))
 

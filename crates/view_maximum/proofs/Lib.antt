@@ -2,4 +2,5 @@ pub mod Attained
 pub mod FirstMakers
 pub mod OpenOrders
 pub mod RowSums
+pub mod TakerBound
 pub mod Viewed

@@ -134,25 +134,25 @@ crosses-all Sell price allowed = (and_parts (int_le (neg_ℤ (pos 999900)) price
 
 module _ (setup : Setup) (is_setup : IsMarketSetup setup) (events : List Event) (history : IsHistory setup events) (contract : Contract) (side : Side) (zone : ℕ)
     (known : HasZone (graph_of setup) zone) where
-  abbrev graph : Graph
+  abbrev pub graph : Graph
   graph = graph_of setup
 
   abbrev orders : List Standing
   orders = line events contract side
 
-  abbrev makers : List Maker
+  abbrev pub makers : List Maker
   makers = map maker_of (line events contract side)
 
-  abbrev rooms : Arc → ℕ
+  abbrev pub rooms : Arc → ℕ
   rooms = room events (contract_quarters contract)
 
-  abbrev name : OrderName
+  abbrev pub name : OrderName
   name = taker_name setup events history.fit contract side zone
 
-  abbrev begun : List Event
+  abbrev pub begun : List Event
   begun = start setup events history.fit contract side zone
 
-  abbrev found : Depth
+  abbrev pub found : Depth
   found = record { makers = map maker_of (line events contract side); room = room events (contract_quarters contract); left = 4294967295 }
 
   makers-once : AreOnce makers
@@ -165,7 +165,7 @@ module _ (setup : Setup) (is_setup : IsMarketSetup setup) (events : List Event) 
       let once = (names-once setup events history.fit).once name in
       omega (arith, counted, over, least, few, once))
 
-  makers-cross : AllCross side makers
+  pub makers-cross : AllCross side makers
   makers-cross maker i =
       let from = from_map maker_of maker orders i in
       let stands = from_line events contract side from.0 from.1 in
@@ -188,7 +188,7 @@ module _ (setup : Setup) (is_setup : IsMarketSetup setup) (events : List Event) 
       run-measured 4294967295 (next_fill graph side zone) after_fill (λ d. d.left) found
       (λ d fill e. let f = next_fill-is graph side zone d fill is_setup e in let some = f.some in let enough = f.enough in omega (arith, some, enough)) (omega arith)
 
-  of : IsDepth graph events contract side name begun found
+  pub of : IsDepth graph events contract side name begun found
   of = depth-start setup events history.fit contract side zone graph rooms (λ arc on. refl)
 
   legs : taking graph begun name ≡ map (leg_event contract name) fills

@@ -12,7 +12,7 @@ use Rattle.zone_graph.specs.Pour.{lots_if}
 use Rattle.market_model.specs.declared.event.Event.{Event}
 use Rattle.market_model.specs.declared.event.Leg.{Leg}
 use Rattle.market_model.specs.declared.setup.Setup.{Setup}
-use Rattle.market_model.specs.Certificate.{unfilled_zones}
+use Rattle.market_model.specs.Certificate.{bound_of, unfilled_zones}
 use Rattle.market_model.specs.Entering.{legs_taken}
 use Rattle.market_model.specs.Grid.{graph_of}
 use Rattle.market_model.specs.Lines.{line}
@@ -63,6 +63,13 @@ ViewsAddUpToTheirBound = (setup : Setup) (events : List Event) (contract : Contr
     → (lots_of_rows (graph_of setup) events contract side zone ≡ 4294967295)
     ⊎ (lots_of_rows (graph_of setup) events contract side zone
     ≡ bound_shown (graph_of setup) events contract side (line events contract side) (zones_viewed (graph_of setup) events contract side zone))
+
+-- and the bound of some zones is that of the view's taker, after what is hidden was withdrawn
+abbrev pub ViewsHaveTheirTakersBound : Type 0
+ViewsHaveTheirTakersBound = (setup : Setup) (events : List Event) (contract : Contract) (side : Side) (zone : ℕ) (zones : List ℕ) → IsMarketSetup setup
+    → IsHistory setup events → HasZone (graph_of setup) zone
+    → bound_of (graph_of setup) (without_hidden events contract side) 0 (unlimited_taker contract side zone) zones
+    ≡ bound_shown (graph_of setup) events contract side (line events contract side) zones
 
 -- and for every number, no flow plan from so many first orders of the line alone is worth more than
 -- what the view takes of these

@@ -1,6 +1,6 @@
 //! What a view takes of the orders of its line.
 
-ghost use Rattle.view_maximum.specs.Views.{EachPlaceGetsTheMost, EachPlaceTakesAPlan, ViewsAddUpToTheirBound, ViewsTakeNoMoreThanIsOpen};
+ghost use Rattle.view_maximum.specs.Views.{EachPlaceGetsTheMost, EachPlaceTakesAPlan, ViewsAddUpToTheirBound, ViewsHaveTheirTakersBound, ViewsTakeNoMoreThanIsOpen};
 
 /// After a well-formed history a view takes at most 9990 lots for each order or block that is open by
 /// its hour. So where no more than 4096 are open, as in every journal, it takes far less than the
@@ -15,6 +15,12 @@ pub fn views_take_no_more_than_is_open()
 /// of the 4294967295 lots that a view asks for.
 pub fn views_add_up_to_their_bound()
     ensures { ViewsAddUpToTheirBound }
+{}
+
+/// That is the bound that a certificate has for the view's taker, after what the icebergs of the line
+/// hide was withdrawn: of an iceberg nothing crosses but what it shows.
+pub fn views_have_their_takers_bound()
+    ensures { ViewsHaveTheirTakersBound }
 {}
 
 /// After a well-formed history, for every number, no flow plan from so many first orders of the line
