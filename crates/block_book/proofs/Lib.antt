@@ -1,0 +1,5 @@
+pub mod Lists
+pub mod Held
+pub mod Ladders
+pub mod Told
+pub mod Lines

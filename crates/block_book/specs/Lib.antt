@@ -1,0 +1,4 @@
+pub mod Blocks
+pub mod Priority
+pub mod Book
+pub mod Inside
