@@ -1,9 +1,12 @@
-//! Tests of the crates that hold things and hand them on: pools, logs of changes, sources and sinks.
+//! Tests of the crates that hold things and hand them on: pools, books of blocks, logs of
+//! changes, sources and sinks.
 //!
 //! A crate that has tests is proved once more for them, so the tests of several crates stand here
 //! together.
 #![tactic(auto)]
 
+#[cfg(test)]
+mod block_tests;
 #[cfg(test)]
 mod end_tests;
 #[cfg(test)]
