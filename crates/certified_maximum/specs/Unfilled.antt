@@ -1,18 +1,20 @@
 -- What a refusal as unfilled says: that no flow plan fills the order.
-use Rattle.std.specs.Prelude.{◌≡◌, ℕ, ◌<◌, true, List}
+use Rattle.std.specs.Prelude.{◌≡◌, ℕ, ◌<◌, true, List, ◌∷◌, ◌++◌}
 use Rattle.order_kinds.specs.declared.order.Kind.TheVariants as kind
 use Rattle.order_kinds.specs.declared.order.Order.{Order}
 use Rattle.zone_graph.specs.Graph.{Graph}
 use Rattle.zone_graph.specs.Route.{IsIn, has}
 use Rattle.market_model.specs.declared.command.Command.{Command}
 use Rattle.market_model.specs.declared.command.Command.TheVariants as command
+use Rattle.market_model.specs.declared.entry.Entry.{Entry}
 use Rattle.market_model.specs.declared.event.Event.{Event}
 use Rattle.market_model.specs.declared.refusal.Refusal.TheVariants as refusal
 use Rattle.market_model.specs.declared.reply.Reply.TheVariants as reply
 use Rattle.market_model.specs.declared.setup.Setup.{Setup}
 use Rattle.market_model.specs.Certificate.{bound_of, unfilled_zones}
 use Rattle.market_model.specs.Grid.{graph_of}
-use Rattle.market_model.specs.Market.{reply_to}
+use Rattle.market_model.specs.History.{journal_events}
+use Rattle.market_model.specs.Market.{Turn, reply_to, run_of}
 use Rattle.market_model.specs.WellFormed.{IsHistory, IsMarketSetup}
 use Rattle.certified_maximum.specs.FlowPlan.{FlowPlan, IsPlanFor, orders_met, value_of}
 use Rattle.certified_maximum.specs.Takings.{obtained}
@@ -54,3 +56,14 @@ abbrev pub BasketUnfilledIsCertified : Type 0
 BasketUnfilledIsCertified = (setup : Setup) (events : List Event) (caller : ℕ) (given : Command) (hour : ℕ) (zones : List ℕ) (bound : ℕ) → IsMarketSetup setup
     → IsHistory setup events → reply_to setup events caller given ≡ reply.Refused (refusal.BasketUnfilled hour zones bound)
     → IsUnfilledBasket (graph_of setup) events caller given hour zones bound
+
+-- so in every journal, of each entry that refuses its command as unfilled, after the entries before it
+abbrev pub JournalsRefuseAsCertified : Type 0
+JournalsRefuseAsCertified = (setup : Setup) (turns : List Turn) (before after : List Entry) (entry : Entry) (zones : List ℕ) (bound : ℕ) → IsMarketSetup setup
+    → run_of setup turns ≡ before ++ (entry ∷ after) → entry.reply ≡ reply.Refused (refusal.Unfilled zones bound)
+    → IsUnfilledOrder (graph_of setup) (journal_events before) entry.caller entry.command zones bound
+
+abbrev pub JournalsRefuseBasketsAsCertified : Type 0
+JournalsRefuseBasketsAsCertified = (setup : Setup) (turns : List Turn) (before after : List Entry) (entry : Entry) (hour : ℕ) (zones : List ℕ) (bound : ℕ) → IsMarketSetup setup
+    → run_of setup turns ≡ before ++ (entry ∷ after) → entry.reply ≡ reply.Refused (refusal.BasketUnfilled hour zones bound)
+    → IsUnfilledBasket (graph_of setup) (journal_events before) entry.caller entry.command hour zones bound

@@ -15,7 +15,9 @@ use Rattle.market_model.specs.declared.setup.Setup.{Setup}
 use Rattle.market_model.specs.Certificate.{bound_of, unfilled_zones}
 use Rattle.market_model.specs.Entering.{legs_taken}
 use Rattle.market_model.specs.Grid.{graph_of}
+use Rattle.market_model.specs.History.{journal_events}
 use Rattle.market_model.specs.Lines.{line}
+use Rattle.market_model.specs.Market.{Turn, run_of}
 use Rattle.market_model.specs.Orders.{Standing, open_names}
 use Rattle.market_model.specs.Room.{room}
 use Rattle.market_model.specs.View.{trade_of, unlimited_taker, view, without_hidden}
@@ -90,3 +92,18 @@ pub record TakesAPlan (graph : Graph) (events : List Event) (contract : Contract
 abbrev pub EachPlaceTakesAPlan : Type 0
 EachPlaceTakesAPlan = (setup : Setup) (events : List Event) (contract : Contract) (side : Side) (zone count : ℕ) → IsMarketSetup setup → IsHistory setup events
     → HasZone (graph_of setup) zone → TakesAPlan (graph_of setup) events contract side zone (take count (line events contract side))
+
+-- so after every journal: there a view takes less than it asks for
+abbrev pub ViewsInJournalsAddUp : Type 0
+ViewsInJournalsAddUp = (setup : Setup) (turns : List Turn) (contract : Contract) (side : Side) (zone : ℕ) → IsMarketSetup setup → HasZone (graph_of setup) zone
+    → let events = journal_events (run_of setup turns) in
+    lots_of_rows (graph_of setup) events contract side zone
+    ≡ bound_shown (graph_of setup) events contract side (line events contract side) (zones_viewed (graph_of setup) events contract side zone)
+
+abbrev pub EachPlaceInJournalsGetsTheMost : Type 0
+EachPlaceInJournalsGetsTheMost = (setup : Setup) (turns : List Turn) (contract : Contract) (side : Side) (zone count : ℕ) (plan : FlowPlan) → IsMarketSetup setup
+    → HasZone (graph_of setup) zone
+    → let events = journal_events (run_of setup turns) in
+    let first = take count (line events contract side) in
+    IsPlanOver (graph_of setup) events contract side zone first plan
+    → value_of first plan ≤ lots_taken_of first (legs_viewed (graph_of setup) events contract side zone)

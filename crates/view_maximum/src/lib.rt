@@ -5,6 +5,7 @@
 mod places;
 
 pub use places::{
-    each_place_gets_the_most, each_place_takes_a_plan, views_add_up_to_their_bound,
-    views_have_their_takers_bound, views_take_no_more_than_is_open,
+    each_place_gets_the_most, each_place_in_journals_gets_the_most, each_place_takes_a_plan,
+    views_add_up_to_their_bound, views_have_their_takers_bound, views_in_journals_add_up,
+    views_take_no_more_than_is_open,
 };

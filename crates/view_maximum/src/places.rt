@@ -1,6 +1,6 @@
 //! What a view takes of the orders of its line.
 
-ghost use Rattle.view_maximum.specs.Views.{EachPlaceGetsTheMost, EachPlaceTakesAPlan, ViewsAddUpToTheirBound, ViewsHaveTheirTakersBound, ViewsTakeNoMoreThanIsOpen};
+ghost use Rattle.view_maximum.specs.Views.{EachPlaceGetsTheMost, EachPlaceInJournalsGetsTheMost, EachPlaceTakesAPlan, ViewsAddUpToTheirBound, ViewsHaveTheirTakersBound, ViewsInJournalsAddUp, ViewsTakeNoMoreThanIsOpen};
 
 /// After a well-formed history a view takes at most 9990 lots for each order or block that is open by
 /// its hour. So where no more than 4096 are open, as in every journal, it takes far less than the
@@ -34,4 +34,16 @@ pub fn each_place_gets_the_most()
 /// the routes that were chosen. So it is the most that any is worth.
 pub fn each_place_takes_a_plan()
     ensures { EachPlaceTakesAPlan }
+{}
+
+/// After every journal the lots of a view's rows add up to the bound of the zones that are still in
+/// reach when its taking ends.
+pub fn views_in_journals_add_up()
+    ensures { ViewsInJournalsAddUp }
+{}
+
+/// And no flow plan from so many first orders of the line alone is worth more than what the view takes
+/// of these.
+pub fn each_place_in_journals_gets_the_most()
+    ensures { EachPlaceInJournalsGetsTheMost }
 {}
