@@ -40,6 +40,7 @@ module _ (setup : Setup) (is_setup : IsMarketSetup setup) where
       (after-prior turns (prior ++ made ∷ []) before after entry next rest)
 
   pub entry_after : (turns : List Turn) (before after : List Entry) (entry : Entry) → run_of setup turns ≡ before ++ (entry ∷ after) → IsEntryAfter setup before entry
+  unfolding run_after
   entry_after turns before after entry is = after-prior turns [] before after entry (run-history setup is_setup all_parts []) is
 
 pub journals_certified : JournalsRefuseAsCertified

@@ -14,6 +14,6 @@ pub use plans::{no_plan_beats_a_bound, no_plan_beats_the_bound};
 pub use rooms::{legs_leave_the_rooms, takings_leave_the_rooms, takings_open_no_way};
 pub use takings::{takings_obtain_the_most, takings_reach_their_bound};
 pub use unfilled::{
-    basket_unfilled_is_certified, journals_refuse_as_certified, journals_refuse_baskets_as_certified,
-    unfilled_is_certified,
+    basket_unfilled_is_certified, journals_refuse_as_certified,
+    journals_refuse_baskets_as_certified, unfilled_is_certified,
 };
