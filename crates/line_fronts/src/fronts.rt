@@ -1,0 +1,21 @@
+//! Laws of lines: theorems about the definitions, the contracts of functions that do nothing.
+
+ghost use Rattle.line_fronts.specs.Fronts.{FirstBuysDecide, PartnersStandInFront, UncrossedContractsHaveNoLeg};
+
+/// The partner of an order is found among the first orders of each zone in the opposite line: an order
+/// behind another of its zone can only do worse.
+pub fn partners_stand_in_front()
+    ensures { PartnersStandInFront }
+{}
+
+/// The leg of a contract in a sweep is found among the first buys of each zone, each of which looks at
+/// the first sells of each zone.
+pub fn first_buys_decide()
+    ensures { FirstBuysDecide }
+{}
+
+/// A contract whose best buy and best sell do not cross, or that lacks one of them, has no leg in a
+/// sweep.
+pub fn uncrossed_contracts_have_no_leg()
+    ensures { UncrossedContractsHaveNoLeg }
+{}
