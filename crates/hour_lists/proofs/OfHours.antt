@@ -7,12 +7,13 @@ use Rattle.market_model.specs.declared.event.Event.{Event}
 use Rattle.market_model.specs.declared.setup.Setup.{Setup}
 use Rattle.market_model.specs.History.{of_hour, touches}
 use Rattle.market_model.specs.WellFormed.{FitAfter}
+use Rattle.market_locality.proofs.Blocks.{block_line-agree}
 use Rattle.market_locality.proofs.Lines.{contract-hours, line-agree, sweep-agree, take-agree}
 use Rattle.market_locality.proofs.Named.{history-named}
 use Rattle.market_locality.proofs.Replies.{reply-local}
 use Rattle.market_locality.proofs.Restrict.{filter-filter}
 use Rattle.market_locality.proofs.States.{Agree, room-agree}
-use Rattle.hour_lists.specs.Alone.{HoursAnswerAlone, LinesStandAlone, OneHourAnswersAlone, SweepsStandAlone, TakingsStandAlone, of_hours}
+use Rattle.hour_lists.specs.Alone.{BlockLinesStandAlone, HoursAnswerAlone, LinesStandAlone, OneHourAnswersAlone, SweepsStandAlone, TakingsStandAlone, of_hours}
 
 touches-some : (hours : List ℕ) (hour : ℕ) (e : Event) → IsIn hour hours → touches hour e ≡ true → list_any (λ h. touches h e) hours ≡ true
 touches-some [] hour e i own = absurd i
@@ -71,3 +72,7 @@ take_alone setup graph events name fit =
 pub sweep_alone : SweepsStandAlone
 sweep_alone setup parts graph events hour fit =
     sweep-agree (hour ∷ []) (of_hour hour events) events parts graph hour (one-agrees setup events fit hour) (inl refl)
+
+pub blocks_alone : BlockLinesStandAlone
+blocks_alone setup events first last side fit =
+    block_line-agree (first ∷ []) (of_hour first events) events (one-agrees setup events fit first) first last side (inl refl)

@@ -13,6 +13,7 @@ use Rattle.zone_graph.specs.Route.{IsIn}
 use Rattle.market_model.specs.declared.command.Command.{Command}
 use Rattle.market_model.specs.declared.event.Event.{Event}
 use Rattle.market_model.specs.declared.setup.Setup.{Setup}
+use Rattle.market_model.specs.Blocks.{block_line}
 use Rattle.market_model.specs.History.{of_hour, touches}
 use Rattle.market_model.specs.Lines.{line}
 use Rattle.market_model.specs.Market.{reply_by}
@@ -42,6 +43,11 @@ abbrev pub LinesStandAlone : Type 0
 LinesStandAlone = (setup : Setup) (events : List Event) (contract : Contract) (side : Side) → FitAfter setup [] events
     → (line (of_hour contract.hour events) contract side ≡ line events contract side)
     × (room (of_hour contract.hour events) (contract_quarters contract) ≡ room events (contract_quarters contract))
+
+-- and the lines of the blocks that start in it
+abbrev pub BlockLinesStandAlone : Type 0
+BlockLinesStandAlone = (setup : Setup) (events : List Event) (first last : ℕ) (side : Side) → FitAfter setup [] events
+    → block_line (of_hour first events) first last side ≡ block_line events first last side
 
 -- the legs that an order takes
 abbrev pub TakingsStandAlone : Type 0

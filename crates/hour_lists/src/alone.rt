@@ -1,7 +1,7 @@
 //! Laws of the events of some hours: theorems about the definitions, the contracts of functions that do
 //! nothing.
 
-ghost use Rattle.hour_lists.specs.Alone.{HoursAnswerAlone, LinesStandAlone, OneHourAnswersAlone, SweepsStandAlone, TakingsStandAlone};
+ghost use Rattle.hour_lists.specs.Alone.{BlockLinesStandAlone, HoursAnswerAlone, LinesStandAlone, OneHourAnswersAlone, SweepsStandAlone, TakingsStandAlone};
 
 /// After a history, each event of which fits those before it, a command has the reply that it has after the events of the hours that
 /// it touches alone.
@@ -17,6 +17,11 @@ pub fn one_hour_answers_alone()
 /// The lines of an hour's contracts, and the rooms over their quarters, are those of its events alone.
 pub fn lines_stand_alone()
     ensures { LinesStandAlone }
+{}
+
+/// The lines of the blocks that start in an hour are those of its events alone.
+pub fn block_lines_stand_alone()
+    ensures { BlockLinesStandAlone }
 {}
 
 /// The legs that an order of an hour takes are those that it takes after the hour's events alone.

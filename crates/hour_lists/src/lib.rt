@@ -4,6 +4,6 @@
 mod alone;
 
 pub use alone::{
-    hours_answer_alone, lines_stand_alone, one_hour_answers_alone, sweeps_stand_alone,
-    takings_stand_alone,
+    block_lines_stand_alone, hours_answer_alone, lines_stand_alone, one_hour_answers_alone,
+    sweeps_stand_alone, takings_stand_alone,
 };
