@@ -1,5 +1,5 @@
 -- After every journal a view takes less than it asks for: so the laws of views hold there without that case.
-use Rattle.std.proofs.Common.{◌≡◌, ◌⊎◌, inl, inr, ℕ, ◌*◌, ◌≤◌, length, arith}
+use Rattle.std.proofs.Common.{◌≡◌, inl, inr, ℕ, ◌≤◌, List, length, arith}
 use Rattle.order_kinds.specs.declared.contract.Contract.{Contract}
 use Rattle.order_kinds.specs.declared.side.Side.{Side}
 use Rattle.zone_graph.specs.Graph.{HasZone}
@@ -9,7 +9,7 @@ use Rattle.market_model.specs.History.{journal_events}
 use Rattle.market_model.specs.Market.{Turn, run_of}
 use Rattle.market_model.specs.Orders.{open_names}
 use Rattle.market_model.specs.Sweep.{all_parts}
-use Rattle.market_model.specs.WellFormed.{IsHistory, IsMarketSetup}
+use Rattle.market_model.specs.WellFormed.{IsMarketSetup}
 use Rattle.market_laws.proofs.Journals.{run-history}
 use Rattle.history_bounds.proofs.Desk.{few-open}
 use Rattle.view_maximum.specs.Views.{EachPlaceInJournalsGetsTheMost, ViewsInJournalsAddUp, lots_of_rows}
