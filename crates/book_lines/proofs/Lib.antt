@@ -1,0 +1,13 @@
+pub mod PartLines
+pub mod LineOrders
+pub mod Untouched
+pub mod Elsewhere
+pub mod ComesToRest
+pub mod Updates
+pub mod ChangedOrders
+pub mod TakenOff
+pub mod LegFills
+pub mod LegsInBooks
+pub mod SoundRecords
+pub mod WholeBooks
+pub mod FoundOrders
