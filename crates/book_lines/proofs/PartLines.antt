@@ -15,41 +15,40 @@ use Rattle.contract_book.specs.Book.{has_number, line_of, order_of, parts_of, wi
 use Rattle.contract_book.specs.Resting.{resting_cmp}
 use Rattle.contract_book.proofs.BookShapes.{find-only, has-number}
 use Rattle.market_model.specs.declared.event.Event.{Event}
-use Rattle.market_model.specs.Sweep.{all_parts}
-use Rattle.book_lines.specs.BookOf.{book_by, book_of, contract_of, part_number, resting_line}
+use Rattle.book_lines.specs.BookOf.{book_by, book_of, contract_of, numbered_parts, part_number, resting_line}
 
 -- the parts that an hour has are the seven
-pub known-in : (part : Part) → is_known part ≡ true → IsIn part all_parts
+pub known-in : (part : Part) → is_known part ≡ true → IsIn part numbered_parts
 known-in part.Hour known = inl refl
 known-in (part.Half zero) known = absurd (true≢false (sym known))
-known-in (part.Half (suc zero)) known = inr (inl refl)
-known-in (part.Half (suc (suc zero))) known = inr (inr (inl refl))
+known-in (part.Half (suc zero)) known = inr (inr (inr (inr (inr (inl refl)))))
+known-in (part.Half (suc (suc zero))) known = inr (inr (inr (inr (inr (inr (inl refl))))))
 known-in (part.Half (suc (suc (suc n)))) known =
     let most =
     leb-true (suc (suc (suc n))) 2 (and_parts (nat_le 1 (suc (suc (suc n)))) (nat_le (suc (suc (suc n))) 2) known).1 in absurd (omega (arith, most))
 known-in (part.Quarter zero) known = absurd (true≢false (sym known))
-known-in (part.Quarter (suc zero)) known = inr (inr (inr (inl refl)))
-known-in (part.Quarter (suc (suc zero))) known = inr (inr (inr (inr (inl refl))))
-known-in (part.Quarter (suc (suc (suc zero)))) known = inr (inr (inr (inr (inr (inl refl)))))
-known-in (part.Quarter (suc (suc (suc (suc zero))))) known = inr (inr (inr (inr (inr (inr (inl refl))))))
+known-in (part.Quarter (suc zero)) known = inr (inl refl)
+known-in (part.Quarter (suc (suc zero))) known = inr (inr (inl refl))
+known-in (part.Quarter (suc (suc (suc zero)))) known = inr (inr (inr (inl refl)))
+known-in (part.Quarter (suc (suc (suc (suc zero))))) known = inr (inr (inr (inr (inl refl))))
 known-in (part.Quarter (suc (suc (suc (suc (suc n)))))) known =
     let high : ℕ = suc (suc (suc (suc (suc n)))) in
     let most = leb-true high 4 (and_parts (nat_le 1 high) (nat_le high 4) known).1 in absurd (omega (arith, most))
 
 -- what holds of each of the seven holds of each part that an hour has
-pub each-part : (P : Part → Type 0) → P part.Hour → P (part.Half 1) → P (part.Half 2) → P (part.Quarter 1) → P (part.Quarter 2) → P (part.Quarter 3)
-    → P (part.Quarter 4)
+pub each-part : (P : Part → Type 0) → P part.Hour → P (part.Quarter 1) → P (part.Quarter 2) → P (part.Quarter 3) → P (part.Quarter 4) → P (part.Half 1)
+    → P (part.Half 2)
     → (part : Part) → is_known part ≡ true → P part
-each-part P hour first second one two three four part known = go (known-in part known)
+each-part P hour one two three four first second part known = go (known-in part known)
   where
-    go : IsIn part all_parts → P part
+    go : IsIn part numbered_parts → P part
     go (inl e) = subst P (sym e) hour
-    go (inr (inl e)) = subst P (sym e) first
-    go (inr (inr (inl e))) = subst P (sym e) second
-    go (inr (inr (inr (inl e)))) = subst P (sym e) one
-    go (inr (inr (inr (inr (inl e))))) = subst P (sym e) two
-    go (inr (inr (inr (inr (inr (inl e)))))) = subst P (sym e) three
-    go (inr (inr (inr (inr (inr (inr (inl e))))))) = subst P (sym e) four
+    go (inr (inl e)) = subst P (sym e) one
+    go (inr (inr (inl e))) = subst P (sym e) two
+    go (inr (inr (inr (inl e)))) = subst P (sym e) three
+    go (inr (inr (inr (inr (inl e))))) = subst P (sym e) four
+    go (inr (inr (inr (inr (inr (inl e)))))) = subst P (sym e) first
+    go (inr (inr (inr (inr (inr (inr (inl e))))))) = subst P (sym e) second
     go (inr (inr (inr (inr (inr (inr (inr none))))))) = absurd none
 
 module _ (line_in : Part → Side → List Resting) where
@@ -69,13 +68,13 @@ unfolding book_of
 line_of-book events hour part side known = line_of-by (λ p s. resting_line events (contract_of hour p) s) part side known
 
 -- the seven are parts that an hour has
-pub in-known : (part : Part) → IsIn part all_parts → is_known part ≡ true
+pub in-known : (part : Part) → IsIn part numbered_parts → is_known part ≡ true
 in-known part i = go i
   where
     known : {other : Part} → part ≡ other → is_known other ≡ true → is_known part ≡ true
     known e is = ap is_known e ∙ is
 
-    go : IsIn part all_parts → is_known part ≡ true
+    go : IsIn part numbered_parts → is_known part ≡ true
     go (inl e) = known e refl
     go (inr (inl e)) = known e refl
     go (inr (inr (inl e))) = known e refl
@@ -97,7 +96,7 @@ same-over one other (part ∷ parts) each =
 
 pub book_by-same : (one other : Part → Side → List Resting) → ((part : Part) (side : Side) → is_known part ≡ true → one part side ≡ other part side)
     → book_by one ≡ book_by other
-book_by-same one other each = same-over one other all_parts (λ part side i. each part side (in-known part i))
+book_by-same one other each = same-over one other numbered_parts (λ part side i. each part side (in-known part i))
 
 -- books of hours, where their lines are the same
 pub book_of-same : (events more : List Event) (hour : ℕ)
@@ -131,7 +130,7 @@ pub from_book : (line_in : Part → Side → List Resting) (x : Resting) → IsI
     → (part : Part) × (side : Side) × (is_known part ≡ true) × IsIn x (line_in part side)
 from_book line_in x i =
     let line = from_flat_map (λ line. line) x (book_by line_in) i in
-    let part = from_flat_map (λ p. line_in p Buy ∷ line_in p Sell ∷ []) line.0 all_parts line.1 in
+    let part = from_flat_map (λ p. line_in p Buy ∷ line_in p Sell ∷ []) line.0 numbered_parts line.1 in
     elim part.2 [
       | inl buys ↦ (part.0, Buy, in-known part.0 part.1, subst (IsIn x) buys line.2)
       | inr rest ↦ elim rest [
@@ -144,7 +143,7 @@ pub in_book : (line_in : Part → Side → List Resting) (part : Part) (side : S
     → IsIn x (flat_map (λ line. line) (book_by line_in))
 in_book line_in part side x known i =
     IsIn-flat_map (λ line. line) (line_in part side) x (book_by line_in)
-    (IsIn-flat_map (λ p. line_in p Buy ∷ line_in p Sell ∷ []) part (line_in part side) all_parts (known-in part known) (either side)) i
+    (IsIn-flat_map (λ p. line_in p Buy ∷ line_in p Sell ∷ []) part (line_in part side) numbered_parts (known-in part known) (either side)) i
   where
     either : (s : Side) → IsIn (line_in part s) (line_in part Buy ∷ line_in part Sell ∷ [])
     either Buy = inl refl

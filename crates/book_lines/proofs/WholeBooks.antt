@@ -24,12 +24,11 @@ use Rattle.market_model.specs.declared.event.Event.{Event}
 use Rattle.market_model.specs.declared.event.Event.TheVariants as event
 use Rattle.market_model.specs.declared.setup.Setup.{Setup}
 use Rattle.market_model.specs.Orders.{Placed, is_open, name_given, open_names, placed_by, standing}
-use Rattle.market_model.specs.Sweep.{all_parts}
 use Rattle.market_model.specs.WellFormed.{FitAfter}
 use Rattle.market_laws.proofs.Members.{IsIn-filter_map, from_filter_map}
 use Rattle.market_laws.proofs.Names.{names-once}
 use Rattle.market_laws.proofs.Unique.{one_order}
-use Rattle.book_lines.specs.BookOf.{book_by, book_of, contract_of, part_number, resting_line, resting_of}
+use Rattle.book_lines.specs.BookOf.{book_by, book_of, contract_of, numbered_parts, part_number, resting_line, resting_of}
 use Rattle.book_lines.proofs.ChangedOrders.{hour_of}
 use Rattle.book_lines.proofs.LineOrders.{from_resting, resting-strict, resting_weak, same_names}
 use Rattle.book_lines.proofs.PartLines.{from_book, line_of-by}
@@ -45,12 +44,12 @@ record IsPart (number : ℕ) : Type 0 where
 
 part_or_past : (number : ℕ) → IsPart number ⊎ (7 ≤ number)
 part_or_past zero = inl (record { part = part.Hour; known = refl; is = refl })
-part_or_past (suc zero) = inl (record { part = part.Half 1; known = refl; is = refl })
-part_or_past (suc (suc zero)) = inl (record { part = part.Half 2; known = refl; is = refl })
-part_or_past (suc (suc (suc zero))) = inl (record { part = part.Quarter 1; known = refl; is = refl })
-part_or_past (suc (suc (suc (suc zero)))) = inl (record { part = part.Quarter 2; known = refl; is = refl })
-part_or_past (suc (suc (suc (suc (suc zero))))) = inl (record { part = part.Quarter 3; known = refl; is = refl })
-part_or_past (suc (suc (suc (suc (suc (suc zero)))))) = inl (record { part = part.Quarter 4; known = refl; is = refl })
+part_or_past (suc zero) = inl (record { part = part.Quarter 1; known = refl; is = refl })
+part_or_past (suc (suc zero)) = inl (record { part = part.Quarter 2; known = refl; is = refl })
+part_or_past (suc (suc (suc zero))) = inl (record { part = part.Quarter 3; known = refl; is = refl })
+part_or_past (suc (suc (suc (suc zero)))) = inl (record { part = part.Quarter 4; known = refl; is = refl })
+part_or_past (suc (suc (suc (suc (suc zero))))) = inl (record { part = part.Half 1; known = refl; is = refl })
+part_or_past (suc (suc (suc (suc (suc (suc zero)))))) = inl (record { part = part.Half 2; known = refl; is = refl })
 part_or_past (suc (suc (suc (suc (suc (suc (suc n))))))) = inr (omega arith)
 
 module _ (line_in : Part → Side → List Resting) where
@@ -214,7 +213,7 @@ module _ (setup : Setup) (events : List Event) (fit : FitAfter setup [] events) 
 
   each-differs : (line : List Resting) → IsIn line (book_by lines) → AreDifferent (map (λ (order : Resting). order.number) line)
   each-differs line i =
-      let at = from_flat_map (λ p. lines p Buy ∷ lines p Sell ∷ []) line all_parts i in
+      let at = from_flat_map (λ p. lines p Buy ∷ lines p Sell ∷ []) line numbered_parts i in
       elim at.2 [
         | inl buys ↦ own at.0 Buy buys
         | inr rest ↦ elim rest [ inl sells ↦ own at.0 Sell sells | inr none ↦ absurd none ]

@@ -16,7 +16,6 @@ use Rattle.market_model.specs.declared.event.Event.{Event}
 use Rattle.market_model.specs.History.{of_hour}
 use Rattle.market_model.specs.Lines.{line}
 use Rattle.market_model.specs.Orders.{Standing, shown_lots}
-use Rattle.market_model.specs.Sweep.{all_parts}
 
 -- what an order hides of which so much is filled: nothing, if it is no iceberg
 abbrev pub ice_of : Order → (filled : ℕ) → Option Ice
@@ -44,11 +43,16 @@ resting_of standing = record {
 abbrev pub contract_of : (hour : ℕ) → Part → Contract
 contract_of hour part = record { hour = hour; part = part }
 
--- the number of a part of the hour: the hour has 0, its halves 1 and 2, its quarters 3 to 6
+-- the number of a part of the hour: the hour has 0, its quarters 1 to 4, its halves 5 and 6
 abbrev pub part_number : Part → ℕ
 part_number part.Hour = 0
-part_number (part.Half number) = number
-part_number (part.Quarter number) = 2 + number
+part_number (part.Quarter number) = number
+part_number (part.Half number) = 4 + number
+
+-- the parts of an hour in the order of their numbers
+abbrev pub numbered_parts : List Part
+numbered_parts =
+    part.Hour ∷ part.Quarter 1 ∷ part.Quarter 2 ∷ part.Quarter 3 ∷ part.Quarter 4 ∷ part.Half 1 ∷ part.Half 2 ∷ []
 
 -- the line of a contract and side, record by record
 abbrev pub resting_line : List Event → Contract → Side → List Resting
@@ -56,7 +60,7 @@ resting_line events contract side = map resting_of (line events contract side)
 
 -- the lines of each part of an hour, in the order of their numbers, first the buys, then the sells
 abbrev pub book_by : (Part → Side → List Resting) → List (List Resting)
-book_by line_in = flat_map (λ part. line_in part Buy ∷ line_in part Sell ∷ []) all_parts
+book_by line_in = flat_map (λ part. line_in part Buy ∷ line_in part Sell ∷ []) numbered_parts
 
 -- the book of an hour: the lines of its contracts
 unfoldable pub book_of : List Event → (hour : ℕ) → List (List Resting)
