@@ -48,7 +48,7 @@ price-first side a b none = go (price_cmp side b.price a.price) (time_cmp b a) n
     go Greater t e = refl
 
 -- where the price of an order does not cross, no worse one does
-crosses-worse : (side : Side) (own a b : Price) → is_lt (price_cmp (opposite side) b a) ≡ false → crosses side own a ≡ false → crosses side own b ≡ false
+pub crosses-worse : (side : Side) (own a b : Price) → is_lt (price_cmp (opposite side) b a) ≡ false → crosses side own a ≡ false → crosses side own b ≡ false
 crosses-worse Buy own a b worse none =
     false_from_ne_true (int_le b.0 own.0) (λ h. let least = not_before a.0 b.0 worse in true≢false (sym (le_too a.0 b.0 own.0 least h) ∙ none))
   where
@@ -155,20 +155,20 @@ module _ (graph : Graph) (events : List Event) (contract : Contract) where
   sells = line events contract Sell
 
   -- what stands in the line of buys
-  is_buy : (buy : Standing) → IsIn buy buys → (buy.order.side ≡ Buy) × (buy.order.contract ≡ contract)
+  pub is_buy : (buy : Standing) → IsIn buy buys → (buy.order.side ≡ Buy) × (buy.order.contract ≡ contract)
   is_buy buy i =
       let stands = from_line events contract Buy buy i in
       (ap (λ (s : Standing). s.order.side) stands.is ∙ stands.on_side, ap (λ (s : Standing). s.order.contract) stands.is ∙ stands.of_contract)
 
   -- a buy that can trade with none has no leg, and the other way round
-  with_none : (buy : Standing) → IsIn buy buys → ((sell : Standing) → IsIn sell sells → can_trade graph (rooms_for events buy) buy sell ≡ false) → partner graph events buy ≡ None
+  pub with_none : (buy : Standing) → IsIn buy buys → ((sell : Standing) → IsIn sell sells → can_trade graph (rooms_for events buy) buy sell ≡ false) → partner graph events buy ≡ None
   unfolding partner
   with_none buy i none =
       let is = is_buy buy i in
       nothing-found (can_trade graph (rooms_for events buy) buy) (line events buy.order.contract (opposite buy.order.side))
       (λ sell j. none sell (subst (λ s. IsIn sell (line events contract (opposite s))) is.0 (subst (λ c. IsIn sell (line events c (opposite buy.order.side))) is.1 j)))
 
-  trades-none : (buy : Standing) → IsIn buy buys → leg_of_buy graph events buy ≡ None → (sell : Standing) → IsIn sell sells → can_trade graph (rooms_for events buy) buy sell ≡ false
+  pub trades-none : (buy : Standing) → IsIn buy buys → leg_of_buy graph events buy ≡ None → (sell : Standing) → IsIn sell sells → can_trade graph (rooms_for events buy) buy sell ≡ false
   unfolding partner
   trades-none buy i none sell j =
       let stands = from_line events contract Buy buy i in
@@ -178,7 +178,7 @@ module _ (graph : Graph) (events : List Event) (contract : Contract) where
       find-none (can_trade graph (rooms_for events buy) buy) (line events buy.order.contract (opposite buy.order.side)) alone sell
       (subst (λ s. IsIn sell (line events buy.order.contract (opposite s))) (sym is.0) (subst (λ c. IsIn sell (line events c Sell)) (sym is.1) j))
 
-  no_leg : (buy : Standing) → partner graph events buy ≡ None → leg_of_buy graph events buy ≡ None
+  pub no_leg : (buy : Standing) → partner graph events buy ≡ None → leg_of_buy graph events buy ≡ None
   no_leg buy alone = ap (λ o. option_and_then (resting_trade graph events buy) o) alone
 
   buys-worse : (orders : List Standing) → Ascends (priority_cmp Buy) (priority_weak Buy) orders → ((buy : Standing) → IsIn buy orders → IsIn buy buys)
@@ -201,7 +201,7 @@ module _ (graph : Graph) (events : List Event) (contract : Contract) where
 
   -- ---- prices that do not cross
 
-  asked-none : (orders : List Standing) → ((buy : Standing) → IsIn buy orders → leg_of_buy graph events buy ≡ None) → first_answer (leg_of_buy graph events) orders ≡ None
+  pub asked-none : (orders : List Standing) → ((buy : Standing) → IsIn buy orders → leg_of_buy graph events buy ≡ None) → first_answer (leg_of_buy graph events) orders ≡ None
   asked-none [] none = refl
   asked-none (order ∷ orders) none = ap (λ o. or_else o (λ _. first_answer (leg_of_buy graph events) orders)) (none order (inl refl)) ∙ asked-none orders (λ b i. none b (inr i))
 

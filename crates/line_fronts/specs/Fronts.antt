@@ -1,15 +1,19 @@
 -- The fronts of a line: of each zone the order that stands first in it. Who trades first is found
 -- among these.
-use Rattle.std.specs.Prelude.{◌≡◌, ℕ, Bool, false, List, [], ◌∷◌, Option, None, if◌then◌else◌}
+use Rattle.std.specs.Prelude.{◌≡◌, ℕ, ◌<◌, Bool, false, List, [], ◌∷◌, Option, None, if◌then◌else◌}
 use Rattle.std.specs.List.{find}
 use Rattle.order_kinds.specs.declared.contract.Contract.{Contract}
+use Rattle.order_kinds.specs.declared.side.Side.{Side}
 use Rattle.order_kinds.specs.declared.side.Side.TheVariants.{Buy, Sell}
-use Rattle.order_kinds.specs.Side.{crosses, opposite}
-use Rattle.zone_graph.specs.Graph.{Graph}
-use Rattle.zone_graph.specs.Route.{has}
+use Rattle.order_kinds.specs.Period.{contract_quarters}
+use Rattle.order_kinds.specs.Side.{crosses, opposite, prefers}
+use Rattle.zone_graph.specs.declared.route.Arc.{Arc}
+use Rattle.zone_graph.specs.Graph.{Graph, IsGraph}
+use Rattle.zone_graph.specs.Route.{IsIn, has}
 use Rattle.market_model.specs.declared.event.Event.{Event}
 use Rattle.market_model.specs.Lines.{can_trade, line, partner, rooms_for}
 use Rattle.market_model.specs.Orders.{Standing}
+use Rattle.market_model.specs.Room.{room}
 use Rattle.market_model.specs.Sweep.{first_answer, leg_in, resting_trade}
 use Rattle.market_model.specs.Taking.{◌>>=◌}
 
@@ -46,3 +50,16 @@ firsts_cross _ _ = false
 abbrev pub UncrossedContractsHaveNoLeg : Type 0
 UncrossedContractsHaveNoLeg = (graph : Graph) (events : List Event) (contract : Contract) → firsts_cross (line events contract Buy) (line events contract Sell) ≡ false
     → leg_in graph events contract ≡ None
+
+-- each order of a line stands in for one of a former line: one of its zone, at no worse a price
+abbrev pub StandInFor : Side → (former now : List Standing) → Type 0
+StandInFor side former now =
+    (order : Standing) → IsIn order now → (old : Standing) × IsIn old former × (order.order.zone ≡ old.order.zone) × (prefers side order.price old.price ≡ false)
+
+-- a contract that had no leg in a sweep has none where its orders stand in for former ones and no arc
+-- got its first room
+abbrev pub UnopenedContractsHaveNoLeg : Type 0
+UnopenedContractsHaveNoLeg = (graph : Graph) (before after : List Event) (contract : Contract) → IsGraph graph
+    → StandInFor Buy (line before contract Buy) (line after contract Buy) → StandInFor Sell (line before contract Sell) (line after contract Sell)
+    → ((arc : Arc) → 0 < room after (contract_quarters contract) arc → 0 < room before (contract_quarters contract) arc)
+    → leg_in graph before contract ≡ None → leg_in graph after contract ≡ None

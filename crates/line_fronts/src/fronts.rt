@@ -1,6 +1,6 @@
 //! Laws of lines: theorems about the definitions, the contracts of functions that do nothing.
 
-ghost use Rattle.line_fronts.specs.Fronts.{FirstBuysDecide, PartnersStandInFront, UncrossedContractsHaveNoLeg};
+ghost use Rattle.line_fronts.specs.Fronts.{FirstBuysDecide, PartnersStandInFront, UncrossedContractsHaveNoLeg, UnopenedContractsHaveNoLeg};
 
 /// The partner of an order is found among the first orders of each zone in the opposite line: an order
 /// behind another of its zone can only do worse.
@@ -18,4 +18,10 @@ pub fn first_buys_decide()
 /// sweep.
 pub fn uncrossed_contracts_have_no_leg()
     ensures { UncrossedContractsHaveNoLeg }
+{}
+
+/// A contract that had no leg in a sweep has none later either, where each of its orders stands in for one
+/// that was there before, of its zone and at no worse a price, and no arc got its first room.
+pub fn unopened_contracts_have_no_leg()
+    ensures { UnopenedContractsHaveNoLeg }
 {}

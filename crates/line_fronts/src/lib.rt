@@ -3,4 +3,7 @@
 
 mod fronts;
 
-pub use fronts::{first_buys_decide, partners_stand_in_front, uncrossed_contracts_have_no_leg};
+pub use fronts::{
+    first_buys_decide, partners_stand_in_front, uncrossed_contracts_have_no_leg,
+    unopened_contracts_have_no_leg,
+};
