@@ -1,5 +1,5 @@
 -- The first neighbour that leads nearer is over the arc of the least border.
-use Rattle.std.proofs.Common.{◌≡◌, ◌∙◌, ◌+◌, ◌<◌, ◌≤◌, ◌==◌, ◌⊎◌, ◌&&◌, inl, inr, ℕ, zero, suc, Bool, true, false, cond, List, [], ◌∷◌, length, map, filter, find, flat_map, Option, Some, None, nat_lt, refl, sym, ap, subst, arith, ltb-true, lt-ltb, true≢false}
+use Rattle.std.proofs.Common.{◌≡◌, ◌∙◌, ◌+◌, ◌<◌, ◌≤◌, ◌==◌, ◌⊎◌, inl, inr, ℕ, zero, suc, Bool, true, false, cond, List, [], ◌∷◌, length, map, filter, find, flat_map, Option, Some, None, nat_lt, refl, sym, ap, subst, arith, ltb-true, lt-ltb, true≢false}
 use Rattle.std.specs.List.{range_with_len}
 use Rattle.std.proofs.lemmas.Bool.{cases_lt, and_parts, and_from}
 use Rattle.zone_graph.specs.declared.route.Arc.{Arc}
@@ -11,6 +11,7 @@ use Rattle.zone_graph.proofs.Membership.{from_filter, from_flat_map, from_map, f
 use Rattle.zone_graph.proofs.Finding.{find-none}
 use Rattle.zone_search.specs.Distance.{AreDistances, IsLeastStep, distance_at}
 use Rattle.zone_search.proofs.Neighbours.{neighbour_at, neighbour_by, neighbour_in, neighbour_within}
+use Rattle.route_choice.specs.Descent.{LeadDown}
 use Rattle.route_choice.specs.Neighbours.{AreKnown, leads_nearer}
 
 -- the keys of a list do not fall
@@ -92,10 +93,10 @@ pub record IsNext (graph : Graph) (room : Arc → ℕ) (distances : List (Option
   pub end : end_of graph neighbour.arc ≡ neighbour.zone
   pub there : HasZone graph neighbour.zone
 
-pub next_found : (graph : Graph) (room : Arc → ℕ) (to : ℕ) (distances : List (Option ℕ)) (zone distance : ℕ) (neighbour : Neighbour) → IsGraph graph
-    → AreDistances graph room to distances → distance_at distances zone ≡ distance
+pub next_found : (graph : Graph) (room : Arc → ℕ) (distances : List (Option ℕ)) (zone distance : ℕ) (neighbour : Neighbour) → IsGraph graph
+    → LeadDown graph room distances → distance_at distances zone ≡ distance → distance < 64
     → find (leads_nearer room distances distance) (neighbours_of graph zone) ≡ Some neighbour → IsNext graph room distances zone neighbour
-next_found graph room to distances zone distance neighbour is a here found =
+next_found graph room distances zone distance neighbour is down here near found =
     let first = first_found (λ (n : Neighbour). n.arc.border) (leads_nearer room distances distance) (neighbours_of graph zone) neighbour (ascending-neighbours graph zone) found in
     let n = neighbour_in graph zone neighbour is first.there in
     let parts = and_parts (nat_lt 0 (room neighbour.arc)) (nat_lt (distance_at distances neighbour.zone) distance) first.passes in
@@ -106,7 +107,9 @@ next_found graph room to distances zone distance neighbour is a here found =
         known = n.known;
         start = n.start;
         has_room = some;
-        falls = omega (arith, less, here, ap (distance_at distances) n.end, ap (distance_at distances) n.start, a.falls neighbour.arc n.known some);
+        falls =
+            let start : distance_at distances (start_of graph neighbour.arc) ≡ distance_at distances zone = ap (distance_at distances) n.start in
+            omega (arith, less, here, start, ap (distance_at distances) n.end, down.falls neighbour.arc n.known some (omega (arith, start, here, near)));
         least = λ other known start has_room falls.
             first.least (neighbour_over graph other) (neighbour_by graph zone other known start)
             (passes_by room distances distance (neighbour_over graph other) has_room (omega (arith, falls, here)));
@@ -116,14 +119,14 @@ next_found graph room to distances zone distance neighbour is a here found =
     }
 
 -- where none leads nearer the way is at its end
-pub none_next : (graph : Graph) (room : Arc → ℕ) (to : ℕ) (distances : List (Option ℕ)) (zone distance : ℕ)
-    → AreDistances graph room to distances → distance_at distances zone ≡ distance → distance < 64
+pub none_next : (graph : Graph) (room : Arc → ℕ) (distances : List (Option ℕ)) (zone distance : ℕ)
+    → LeadDown graph room distances → distance_at distances zone ≡ distance → distance < 64
     → find (leads_nearer room distances distance) (neighbours_of graph zone) ≡ None → distance_at distances zone ≡ 0
-none_next graph room to distances zone distance a here near none = by (cases_lt 0 (distance_at distances zone))
+none_next graph room distances zone distance down here near none = by (cases_lt 0 (distance_at distances zone))
   where
     by : (0 < distance_at distances zone) ⊎ (distance_at distances zone ≤ 0) → distance_at distances zone ≡ 0
     by (inl some) =
-        let step = a.nearer zone some (omega (arith, here, near)) in
+        let step = down.nearer zone some (omega (arith, here, near)) in
         let n = neighbour_over graph step.0 in
         let yes = passes_by room distances distance n step.3 (omega (arith, step.4, here)) in
         absurd (true≢false (sym yes ∙ find-none (leads_nearer room distances distance) (neighbours_of graph zone) none n (neighbour_by graph zone step.0 step.1 step.2)))
@@ -135,3 +138,11 @@ pub known_neighbours : (graph : Graph) (zone : ℕ) (neighbours : List Neighbour
 known_neighbours graph zone neighbours rooms distances grid all size places = λ index other less.
     let n = neighbour_at graph zone neighbours index other grid.is_graph all less in
     (omega (arith, n.known, size), omega (arith, neighbour_within graph zone neighbours index other grid all less, places))
+
+-- distances lead down to their zone
+pub lead_down : (graph : Graph) (room : Arc → ℕ) (to : ℕ) (distances : List (Option ℕ)) → AreDistances graph room to distances → LeadDown graph room distances
+lead_down graph room to distances a = record {
+  places = a.places;
+  falls = λ arc known some near. a.falls arc known some;
+  nearer = a.nearer;
+}

@@ -1,6 +1,8 @@
-//! Laws of pours: theorems about the definitions, the contracts of functions that do nothing.
+//! Laws of pours and of searches: theorems about the definitions, the contracts of functions that do
+//! nothing.
 
 ghost use Rattle.route_choice.specs.Flow.{NoFlowCarriesMore};
+ghost use Rattle.route_choice.specs.Freshness.{FreshSearchesExclude, LegsKeepExclusion, ShortLegsKeepSearches};
 ghost use Rattle.route_choice.specs.Poured.{PoursRunToTheirEnd};
 
 /// However lots may be made to flow within the rooms, over whatever routes and in whatever parts,
@@ -13,4 +15,22 @@ pub fn no_flow_carries_more()
 /// before it leave, and after the last there is none.
 pub fn pours_run_to_their_end()
     ensures { PoursRunToTheirEnd }
+{}
+
+/// A leg over a shortest route that leaves room on each arc of it, as one over a best route may,
+/// changes no distance to its end and no best route into it, and no distance from its start and no
+/// best route out of it: the opposite arcs, which gain room, lead from nearer to farther.
+pub fn short_legs_keep_searches()
+    ensures { ShortLegsKeepSearches }
+{}
+
+/// Between a zone without a distance and that of a fresh search no route leads.
+pub fn fresh_searches_exclude()
+    ensures { FreshSearchesExclude }
+{}
+
+/// What a search excludes stays out of reach after each leg that is carried to the search's own zone
+/// (or from it, where the search is not `towards`), whether the search is still fresh or not.
+pub fn legs_keep_exclusion()
+    ensures { LegsKeepExclusion }
 {}

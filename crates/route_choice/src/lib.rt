@@ -2,9 +2,16 @@
 #![tactic(auto)]
 
 mod choice;
+mod descent;
 mod laws;
+mod onward;
 mod pouring;
+mod route_search;
 
 pub use choice::best_route;
-pub use laws::{no_flow_carries_more, pours_run_to_their_end};
+pub use laws::{
+    fresh_searches_exclude, legs_keep_exclusion, no_flow_carries_more, pours_run_to_their_end,
+    short_legs_keep_searches,
+};
 pub use pouring::pour;
+pub use route_search::RouteSearch;

@@ -27,3 +27,5 @@ mod reach_tests;
 mod route_tests;
 #[cfg(test)]
 mod rule_tests;
+#[cfg(test)]
+mod search_tests;

@@ -1,7 +1,7 @@
 use Rattle.std.proofs.Common.{◌≡◌, drop, find}
 use Rattle.zone_graph.specs.Rooms.{room_of}
 use Rattle.route_choice.specs.Neighbours.{leads_nearer}
-use Rattle.route_choice.proofs.choice.nearer.Given as goal
+use Rattle.route_choice.proofs.descent.nearer.Given as goal
 
 -- none of the neighbours so far leads nearer
 abbrev pub invariant-loop-neighbour : goal.invariant-loop-neighbour
