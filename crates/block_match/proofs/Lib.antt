@@ -1,0 +1,10 @@
+pub mod Rooms
+pub mod Crossing
+pub mod Walks
+pub mod Partners
+pub mod Seeking
+pub mod Buys
+pub mod MarketLegs
+pub mod MarketBooks
+pub mod MarketDeals
+pub mod MarketEntries
