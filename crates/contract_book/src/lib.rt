@@ -14,8 +14,6 @@ mod faults;
 mod held;
 mod places;
 mod resting;
-#[cfg(test)]
-mod tests;
 
 pub use book::ContractBook;
 pub use faults::Full;

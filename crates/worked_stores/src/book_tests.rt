@@ -1,0 +1,273 @@
+//! Books of orders beside a plain list of what has to rest in them: generated calls, and a full book
+//! with holes.
+
+ghost use Rattle.std.specs.Prelude.{◌≡◌, ◌<◌};
+ghost use Rattle.contract_book.specs.Book.{parts_of};
+ghost use Rattle.contract_book.specs.Resting.{IsSound};
+
+use crate::draws::Draws;
+use crate::resting_orders::{drawn_order, filled, plain};
+use contract_book::{ContractBook, Full, Resting};
+use order_kinds::Side;
+use std::alloc::Global;
+use std::process::Abort;
+use std::test::Fail;
+
+// The parts of the books.
+const PARTS: u32 = 2;
+
+// A book beside the plain list of what has to rest in it: each order with its part.
+#[derive(Drop)]
+struct Both {
+    book: ContractBook,
+    plain: Vec<(u32, Resting)>,
+    ghost parts: { parts_of book ≡ 2 },
+}
+
+impl Both {
+    fn new(alloc: Global) -> Result<Both, Fail> {
+        let book = ContractBook::new(alloc, PARTS)?;
+        Ok(Both {
+            book,
+            plain: Vec::new(alloc),
+        })
+    }
+
+    fn copy(&self) -> Result<Both, Fail> {
+        let book = self.book.copy()?;
+        let plain = self.plain.clone()?;
+        Ok(Both { book, plain })
+    }
+
+    // Rests an order whose number is free.
+    fn rest(&mut self, rt: &impl Abort, part: u32, order: Resting) -> Result<(), Fail>
+        requires part { part < 2 }
+        requires sound { IsSound order }
+    {
+        assert!(rt; self.book.get(order.number).is_none());
+        assert_eq!(rt; self.book.rest(part, order), Ok(()));
+        self.plain.push((part, order))?;
+        Ok(())
+    }
+
+    // An order whose number is free finds the book full.
+    fn expect_full(&mut self, rt: &impl Abort, part: u32, order: Resting)
+        requires part { part < 2 }
+        requires sound { IsSound order }
+    {
+        assert!(rt; self.book.get(order.number).is_none());
+        assert_eq!(rt; self.book.rest(part, order), Err(Full));
+    }
+
+    // Withdraws an order.
+    fn withdraw(&mut self, rt: &impl Abort, number: u32) {
+        let wanted = listed(self.plain.as_slice(), number);
+        assert_eq!(rt; self.book.withdraw(number), wanted);
+        self.plain.retain(|one| one.1.number != number);
+    }
+
+    // Fills an order, where it shows so many lots.
+    fn fill(&mut self, number: u32, lots: u32, moment: u64) {
+        let Some(order) = self.book.get(number) else {
+            return;
+        };
+        if lots == 0 || order.shown < lots {
+            return;
+        }
+        self.book.fill(number, lots, moment);
+        if order.left == lots {
+            self.plain.retain(|one| one.1.number != number);
+        } else {
+            enlist(self.plain.as_mut_slice(), filled(order, lots, moment));
+        }
+    }
+
+    // Reduces an order, where it is no iceberg and has more than so many lots.
+    fn reduce(&mut self, number: u32, by: u32) {
+        let Some(order) = self.book.get(number) else {
+            return;
+        };
+        if order.ice.is_some() || by == 0 || order.left <= by {
+            return;
+        }
+        self.book.reduce(number, by);
+        let left = order.left - by;
+        enlist(
+            self.plain.as_mut_slice(),
+            Resting {
+                left,
+                shown: left,
+                ..order
+            },
+        );
+    }
+
+    // The order behind one that rests.
+    fn behind(&self, rt: &impl Abort, number: u32) -> Option<Resting> {
+        assert!(rt; self.book.get(number).is_some());
+        self.book.after(number)
+    }
+
+    // Adds a line of the book, as it is walked.
+    fn walk(
+        &self,
+        rt: &impl Abort,
+        part: u32,
+        side: Side,
+        walked: &mut Vec<(u32, Resting)>,
+    ) -> Result<(), Fail>
+        requires { part < 2 }
+    {
+        let mut at = self.book.first(part, side);
+        for _ in 0..4096u32 {
+            let Some(order) = at else {
+                break;
+            };
+            walked.push((part, order))?;
+            at = self.behind(rt, order.number);
+        }
+        Ok(())
+    }
+
+    // The lines of the book have the orders of the list, each in priority.
+    fn expect_lines(&mut self, rt: &impl Abort, alloc: Global) -> Result<(), Fail> {
+        self.plain.sort_by_key(|one| place(one.0, &one.1))?;
+        let mut walked = Vec::new(alloc);
+        for part in 0..PARTS {
+            self.walk(rt, part, Side::Buy, &mut walked)?;
+            self.walk(rt, part, Side::Sell, &mut walked)?;
+        }
+        assert_eq!(rt; walked.as_slice(), self.plain.as_slice());
+        assert_eq!(rt; self.book.len() as usize, self.plain.len());
+        Ok(())
+    }
+
+    // Book and list have the same orders, in all lines and by these numbers.
+    fn expect_same(&mut self, rt: &impl Abort, alloc: Global, numbers: u32) -> Result<(), Fail> {
+        self.expect_lines(rt, alloc)?;
+        for number in 0..numbers {
+            assert_eq!(rt;
+                self.book.get(number),
+                listed(self.plain.as_slice(), number)
+            );
+        }
+        Ok(())
+    }
+}
+
+// The order of a number in a list.
+fn listed(plain: &[(u32, Resting)], number: u32) -> Option<Resting> {
+    for one in plain {
+        if one.1.number == number {
+            return Some(one.1);
+        }
+    }
+    None
+}
+
+// Puts another record of an order into a list.
+fn enlist(plain: &mut [(u32, Resting)], order: Resting) {
+    for one in plain.iter_mut() {
+        if one.1.number == order.number {
+            one.1 = order;
+        }
+    }
+}
+
+// What an order is sorted by: its part, its side, its price, the better one first, its moment and
+// its number.
+fn place(part: u32, order: &Resting) -> (u32, bool, i64, u64, u32) {
+    let cents = i64::from(order.price.0);
+    let rank = match order.side {
+        Side::Buy => -cents,
+        Side::Sell => cents,
+    };
+    (
+        part,
+        order.side == Side::Sell,
+        rank,
+        order.moment,
+        order.number,
+    )
+}
+
+// Changes an order that rests, in a drawn way.
+fn change(rt: &impl Abort, both: &mut Both, draws: &mut Draws, order: &Resting) {
+    let moment = u64::from(draws.below(6));
+    match draws.below(8) {
+        0 => both.withdraw(rt, order.number),
+        1 => both.reduce(order.number, draws.below(8)),
+        2 => both.fill(order.number, order.shown, moment),
+        _ => both.fill(order.number, draws.below(4), moment),
+    }
+}
+
+// Makes a drawn call.
+fn call(rt: &impl Abort, both: &mut Both, draws: &mut Draws) -> Result<(), Fail> {
+    let number = draws.below(NUMBERS);
+    if let Some(order) = both.book.get(number) {
+        change(rt, both, draws, &order);
+        return Ok(());
+    }
+    let part = draws.below(PARTS);
+    both.rest(rt, part, drawn_order(draws, number))
+}
+
+// Below which the numbers of the generated calls are.
+const NUMBERS: u32 = 60;
+
+// Makes drawn calls of an empty book, and looks at it after each.
+fn make_calls(rt: &impl Abort, alloc: Global, seed: u64, calls: u32) -> Result<(), Fail> {
+    let mut draws = Draws::new(seed);
+    let mut both = Both::new(alloc)?;
+    assert!(rt; both.book.is_empty());
+    for _ in 0..calls {
+        call(rt, &mut both, &mut draws)?;
+        both.expect_same(rt, alloc, NUMBERS)?;
+    }
+    Ok(())
+}
+
+#[test]
+fn generated_calls_against_a_plain_list(rt: HostRuntime) -> Result<(), Fail> {
+    for (seed, calls) in [(1, 600), (20260, 600), (3333333333, 600)] {
+        make_calls(&rt, rt.alloc(), seed, calls)?;
+    }
+    Ok(())
+}
+
+// A book of 4096 orders, some of one price and moment.
+fn full_book(rt: &impl Abort, alloc: Global) -> Result<Both, Fail> {
+    let mut both = Both::new(alloc)?;
+    for number in 0..4096u32 {
+        let side = if number % 3 == 0 {
+            Side::Buy
+        } else {
+            Side::Sell
+        };
+        let order = plain(number, side, 40, 5, u64::from(number / 2));
+        both.rest(rt, number % 2, order)?;
+    }
+    Ok(both)
+}
+
+// A copy is changed, and the book stays as it was.
+fn expect_copy_apart(rt: &impl Abort, alloc: Global, book: &mut Both) -> Result<(), Fail> {
+    let mut copy = book.copy()?;
+    copy.rest(rt, 1, plain(5000, Side::Buy, 41, 2, 5000))?;
+    copy.fill(0, 5, 1);
+    copy.reduce(4095, 2);
+    copy.withdraw(rt, 5001);
+    copy.expect_same(rt, alloc, 5002)?;
+    book.expect_same(rt, alloc, 5002)
+}
+
+#[test]
+fn a_copy_of_a_full_book_with_holes_shares_nothing(rt: HostRuntime) -> Result<(), Fail> {
+    let mut book = full_book(&rt, rt.alloc())?;
+    book.expect_full(&rt, 1, plain(5000, Side::Buy, 41, 2, 5000));
+    book.expect_same(&rt, rt.alloc(), 5002)?;
+    book.withdraw(&rt, 77);
+    book.withdraw(&rt, 2000);
+    expect_copy_apart(&rt, rt.alloc(), &mut book)
+}
