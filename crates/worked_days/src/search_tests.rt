@@ -70,7 +70,13 @@ fn of_two_equal_ways_a_search_answers_that_of_the_lesser_border(
     let some_left = rooms_of(&grid, &[(1, 6), (7, 0), (1, 6), (7, 0)])?;
     let none_left = rooms_of(&grid, &[(1, 6), (7, 0), (0, 7), (7, 0)])?;
     let there = [Arc::over(0, true), Arc::over(2, true)];
-    let (route, is_fresh) = route_and_freshness(alloc, &grid, (&before, &some_left), (0, 3), false)?;
+    let (route, is_fresh) = route_and_freshness(
+        alloc,
+        &grid,
+        (&before, &some_left),
+        (0, 3),
+        false,
+    )?;
     assert_eq!(rt; route.as_slice(), there.as_slice());
     assert!(rt; is_fresh);
     let (route, is_fresh) = route_and_freshness(alloc, &grid, (&before, &none_left), (0, 3), true)?;
