@@ -1,0 +1,164 @@
+-- Two rooms of arcs that agree inside a set of zones which nothing enters, or leaves: what is carried
+-- inside, and by which routes, is the same.
+use Rattle.std.proofs.Common.{◌≡◌, ◌∙◌, ◌+◌, ◌-◌, ◌<◌, inl, inr, ℕ, Bool, true, false, List, [], ◌∷◌, min, Option, Some, None, refl, sym, ap, subst, arith}
+use Rattle.order_kinds.specs.declared.side.Side.{Side}
+use Rattle.order_kinds.specs.declared.side.Side.TheVariants.{Buy, Sell}
+use Rattle.zone_graph.specs.declared.route.Arc.{Arc}
+use Rattle.zone_graph.specs.declared.route.RouteLeg.{RouteLeg}
+use Rattle.zone_graph.specs.Graph.{Graph, HasArc, IsGraph, end_of, start_of}
+use Rattle.zone_graph.specs.Pour.{lots_if, opposite_arc, room_after, uses}
+use Rattle.zone_graph.specs.Route.{IsIn, IsRoute, IsWay, best_route, carried}
+use Rattle.zone_graph.proofs.Arcs.{IsIn-uses, opposite-end, opposite-start}
+use Rattle.zone_graph.proofs.BestRoute.{best_route-is, best_route-none, best_route-unique}
+use Rattle.cut_proof.proofs.Ways.{way_has_arc}
+
+-- ---- rooms that agree on the arcs that matter
+
+-- a way has room where its arcs have the same rooms
+way-same : (graph : Graph) (room other : Arc → ℕ) (from to : ℕ) (arcs : List Arc) → ((arc : Arc) → IsIn arc arcs → room arc ≡ other arc)
+    → IsWay graph room from arcs to → IsWay graph other from arcs to
+way-same graph room other from to [] same way = way
+way-same graph room other from to (arc ∷ arcs) same way = (
+  way.0,
+  way.1,
+  subst (λ n. 0 < n) (same arc (inl refl)) way.2,
+  way-same graph room other (end_of graph arc) to arcs (λ a i. same a (inr i)) way.3,
+)
+
+-- a route carries as much where its arcs have the same rooms
+pub carried-same : (room other : Arc → ℕ) (lots : ℕ) (route : List Arc) → ((arc : Arc) → IsIn arc route → room arc ≡ other arc)
+    → carried room lots route ≡ carried other lots route
+carried-same room other lots [] same = refl
+carried-same room other lots (arc ∷ arcs) same =
+    ap (λ n. carried room (min lots n) arcs) (same arc (inl refl))
+    ∙ carried-same room other (min lots (other arc)) arcs (λ a i. same a (inr i))
+
+-- all arcs of the routes from a zone to a zone have the same rooms
+abbrev pub SameOnRoutes : Graph → (room other : Arc → ℕ) → (from to : ℕ) → Type 0
+SameOnRoutes graph room other from to = (arcs : List Arc) → IsRoute graph room from to arcs → (arc : Arc) → IsIn arc arcs → room arc ≡ other arc
+
+route-same : (graph : Graph) (room other : Arc → ℕ) (from to : ℕ) (arcs : List Arc) → SameOnRoutes graph room other from to
+    → IsRoute graph room from to arcs → IsRoute graph other from to arcs
+route-same graph room other from to arcs same route =
+    record { way = way-same graph room other from to arcs (same arcs route) route.way; simple = route.simple }
+
+-- so the best route is the same
+pub best-same : (graph : Graph) (room other : Arc → ℕ) (from to : ℕ) → IsGraph graph → SameOnRoutes graph room other from to → SameOnRoutes graph other room from to
+    → best_route graph room from to ≡ best_route graph other from to
+best-same graph room other from to is same back = found (best_route graph room from to) refl (best_route graph other from to) refl
+  where
+    found : (o : Option (List Arc)) → best_route graph room from to ≡ o → (p : Option (List Arc)) → best_route graph other from to ≡ p
+        → best_route graph room from to ≡ best_route graph other from to
+    found None e None f = e ∙ sym f
+    found None e (Some arcs) f =
+        absurd (best_route-none graph room from to arcs is e (route-same graph other room from to arcs back (best_route-is graph other from to arcs is f).route))
+    found (Some arcs) e p f =
+        let best = best_route-is graph room from to arcs is e in
+        e ∙ sym (best_route-unique graph other from to arcs is (record {
+          route = route-same graph room other from to arcs same best.route;
+          best = λ another h. best.best another (route-same graph other room from to another back h);
+        }))
+
+-- ---- a set of zones
+
+-- where the taker of a view buys, an arc leads to the zone from which it is nearer; where it sells, the
+-- other way round
+abbrev pub near_end : Graph → Side → Arc → ℕ
+near_end graph Sell arc = end_of graph arc
+near_end graph Buy arc = start_of graph arc
+
+abbrev pub far_end : Graph → Side → Arc → ℕ
+far_end graph Sell arc = start_of graph arc
+far_end graph Buy arc = end_of graph arc
+
+-- the zones that a route joins, from the one of the maker and that of the taker
+abbrev pub first_zone : Side → (zone other : ℕ) → ℕ
+first_zone Sell zone other = other
+first_zone Buy zone other = zone
+
+abbrev pub last_zone : Side → (zone other : ℕ) → ℕ
+last_zone Sell zone other = zone
+last_zone Buy zone other = other
+
+-- two rooms agree inside a set, and from there no arc with room leads out, against the way of the energy
+-- for a taker that buys
+pub record Agree (graph : Graph) (side : Side) (inside : ℕ → Bool) (room other : Arc → ℕ) : Type 0 where
+  pub same : (arc : Arc) → HasArc graph arc → inside (near_end graph side arc) ≡ true → room arc ≡ other arc
+  pub closed : (arc : Arc) → HasArc graph arc → inside (near_end graph side arc) ≡ true → 0 < room arc → inside (far_end graph side arc) ≡ true
+
+pub agree-back : (graph : Graph) (side : Side) (inside : ℕ → Bool) (room other : Arc → ℕ) → Agree graph side inside room other → Agree graph side inside other room
+agree-back graph side inside room other agree = record {
+  same = λ arc known near. sym (agree.same arc known near);
+  closed = λ arc known near some. agree.closed arc known near (subst (λ n. 0 < n) (sym (agree.same arc known near)) some);
+}
+
+-- both ends of each arc are inside
+abbrev pub AreInside : Graph → Side → (ℕ → Bool) → List Arc → Type 0
+AreInside graph side inside arcs = (arc : Arc) → IsIn arc arcs → (inside (near_end graph side arc) ≡ true) × (inside (far_end graph side arc) ≡ true)
+
+-- a way to a zone inside, or for a taker that sells a way from it, stays inside
+to-inside : (graph : Graph) (inside : ℕ → Bool) (room other : Arc → ℕ) (from to : ℕ) (arcs : List Arc) → Agree graph Sell inside room other → inside to ≡ true
+    → IsWay graph room from arcs to → (inside from ≡ true) × AreInside graph Sell inside arcs
+to-inside graph inside room other from to [] agree own way = (ap inside way ∙ own, λ arc never. absurd never)
+to-inside graph inside room other from to (arc ∷ arcs) agree own way =
+    let rest = to-inside graph inside room other (end_of graph arc) to arcs agree own way.3 in
+    let far = agree.closed arc way.0 rest.0 way.2 in (
+      ap inside (sym way.1) ∙ far,
+      λ a i. elim i [
+        | inl e ↦ subst (λ (x : Arc). (inside (end_of graph x) ≡ true) × (inside (start_of graph x) ≡ true)) (sym e) (rest.0, far)
+        | inr later ↦ rest.1 a later
+      ],
+    )
+
+from-inside : (graph : Graph) (inside : ℕ → Bool) (room other : Arc → ℕ) (from to : ℕ) (arcs : List Arc) → Agree graph Buy inside room other → inside from ≡ true
+    → IsWay graph room from arcs to → (inside to ≡ true) × AreInside graph Buy inside arcs
+from-inside graph inside room other from to [] agree own way = (ap inside (sym way) ∙ own, λ arc never. absurd never)
+from-inside graph inside room other from to (arc ∷ arcs) agree own way =
+    let near : inside (start_of graph arc) ≡ true = ap inside way.1 ∙ own in
+    let far = agree.closed arc way.0 near way.2 in
+    let rest = from-inside graph inside room other (end_of graph arc) to arcs agree far way.3 in (
+      rest.0,
+      λ a i. elim i [
+        | inl e ↦ subst (λ (x : Arc). (inside (start_of graph x) ≡ true) × (inside (end_of graph x) ≡ true)) (sym e) (near, far)
+        | inr later ↦ rest.1 a later
+      ],
+    )
+
+pub way-inside : (graph : Graph) (side : Side) (inside : ℕ → Bool) (room other : Arc → ℕ) (zone another : ℕ) (arcs : List Arc) → Agree graph side inside room other
+    → inside zone ≡ true → IsWay graph room (first_zone side zone another) arcs (last_zone side zone another)
+    → (inside another ≡ true) × AreInside graph side inside arcs
+way-inside graph Sell inside room other zone another arcs agree own way = to-inside graph inside room other another zone arcs agree own way
+way-inside graph Buy inside room other zone another arcs agree own way = from-inside graph inside room other zone another arcs agree own way
+
+-- so all routes to it, or from it, are the same
+pub routes-same : (graph : Graph) (is : IsGraph graph) (side : Side) (inside : ℕ → Bool) (room other : Arc → ℕ) (zone another : ℕ) → Agree graph side inside room other
+    → inside zone ≡ true
+    → best_route graph room (first_zone side zone another) (last_zone side zone another) ≡ best_route graph other (first_zone side zone another) (last_zone side zone another)
+routes-same graph is side inside room other zone another agree own =
+    best-same graph room other (first_zone side zone another) (last_zone side zone another) is (on room other agree) (on other room (agree-back graph side inside room other agree))
+  where
+    on : (one two : Arc → ℕ) → Agree graph side inside one two → SameOnRoutes graph one two (first_zone side zone another) (last_zone side zone another)
+    on one two both arcs route arc i =
+        both.same arc (way_has_arc graph one (first_zone side zone another) (last_zone side zone another) arcs arc route.way i)
+        ((way-inside graph side inside one two zone another arcs both own route.way).1 arc i).0
+
+-- ---- a leg inside
+
+opposite-near : (graph : Graph) (side : Side) (arc : Arc) → near_end graph side (opposite_arc arc) ≡ far_end graph side arc
+opposite-near graph Sell arc = opposite-end graph arc
+opposite-near graph Buy arc = opposite-start graph arc
+
+-- after a leg inside they still agree: an arc that got room leads back over the leg
+pub agree-after : (graph : Graph) (side : Side) (inside : ℕ → Bool) (room other : Arc → ℕ) (leg : RouteLeg) → Agree graph side inside room other
+    → AreInside graph side inside leg.route → Agree graph side inside (room_after room leg) (room_after other leg)
+agree-after graph side inside room other leg agree all = record {
+  same = λ arc known near. ap (λ n. (n + lots_if (uses leg.route (opposite_arc arc)) leg.lots) - lots_if (uses leg.route arc) leg.lots) (agree.same arc known near);
+  closed = λ arc known near some. by arc known near some (uses leg.route (opposite_arc arc)) refl;
+}
+  where
+    by : (arc : Arc) → HasArc graph arc → inside (near_end graph side arc) ≡ true → 0 < room_after room leg arc → (b : Bool) → uses leg.route (opposite_arc arc) ≡ b
+        → inside (far_end graph side arc) ≡ true
+    by arc known near some true e = ap inside (sym (opposite-near graph side arc)) ∙ (all (opposite_arc arc) (IsIn-uses leg.route (opposite_arc arc) e)).0
+    by arc known near some false e =
+        let nothing = ap (λ b. lots_if b leg.lots) e in
+        agree.closed arc known near (omega (arith, nothing, some))
