@@ -1,0 +1,5 @@
+pub mod Parties
+pub mod RouteSums
+pub mod Evened
+pub mod Positions
+pub mod Flows
