@@ -61,8 +61,8 @@ best-same graph room other from to is same back = found (best_route graph room f
 
 -- ---- a set of zones
 
--- where the taker of a view buys, an arc leads to the zone from which it is nearer; where it sells, the
--- other way round
+-- the end of an arc that is nearer to the taker of a view, and the other one: energy comes to the taker
+-- from sells, and goes from it to buys
 abbrev pub near_end : Graph → Side → Arc → ℕ
 near_end graph Sell arc = end_of graph arc
 near_end graph Buy arc = start_of graph arc
@@ -71,17 +71,8 @@ abbrev pub far_end : Graph → Side → Arc → ℕ
 far_end graph Sell arc = start_of graph arc
 far_end graph Buy arc = end_of graph arc
 
--- the zones that a route joins, from the one of the maker and that of the taker
-abbrev pub first_zone : Side → (zone other : ℕ) → ℕ
-first_zone Sell zone other = other
-first_zone Buy zone other = zone
-
-abbrev pub last_zone : Side → (zone other : ℕ) → ℕ
-last_zone Sell zone other = zone
-last_zone Buy zone other = other
-
--- two rooms agree inside a set, and from there no arc with room leads out, against the way of the energy
--- for a taker that buys
+-- two rooms agree on the arcs whose near end is in a set of zones, and the far end of those that have room
+-- is in it too
 pub record Agree (graph : Graph) (side : Side) (inside : ℕ → Bool) (room other : Arc → ℕ) : Type 0 where
   pub same : (arc : Arc) → HasArc graph arc → inside (near_end graph side arc) ≡ true → room arc ≡ other arc
   pub closed : (arc : Arc) → HasArc graph arc → inside (near_end graph side arc) ≡ true → 0 < room arc → inside (far_end graph side arc) ≡ true
@@ -97,7 +88,7 @@ abbrev pub AreInside : Graph → Side → (ℕ → Bool) → List Arc → Type 0
 AreInside graph side inside arcs = (arc : Arc) → IsIn arc arcs → (inside (near_end graph side arc) ≡ true) × (inside (far_end graph side arc) ≡ true)
 
 -- a way to a zone inside, or for a taker that sells a way from it, stays inside
-to-inside : (graph : Graph) (inside : ℕ → Bool) (room other : Arc → ℕ) (from to : ℕ) (arcs : List Arc) → Agree graph Sell inside room other → inside to ≡ true
+pub to-inside : (graph : Graph) (inside : ℕ → Bool) (room other : Arc → ℕ) (from to : ℕ) (arcs : List Arc) → Agree graph Sell inside room other → inside to ≡ true
     → IsWay graph room from arcs to → (inside from ≡ true) × AreInside graph Sell inside arcs
 to-inside graph inside room other from to [] agree own way = (ap inside way ∙ own, λ arc never. absurd never)
 to-inside graph inside room other from to (arc ∷ arcs) agree own way =
@@ -110,7 +101,7 @@ to-inside graph inside room other from to (arc ∷ arcs) agree own way =
       ],
     )
 
-from-inside : (graph : Graph) (inside : ℕ → Bool) (room other : Arc → ℕ) (from to : ℕ) (arcs : List Arc) → Agree graph Buy inside room other → inside from ≡ true
+pub from-inside : (graph : Graph) (inside : ℕ → Bool) (room other : Arc → ℕ) (from to : ℕ) (arcs : List Arc) → Agree graph Buy inside room other → inside from ≡ true
     → IsWay graph room from arcs to → (inside to ≡ true) × AreInside graph Buy inside arcs
 from-inside graph inside room other from to [] agree own way = (ap inside (sym way) ∙ own, λ arc never. absurd never)
 from-inside graph inside room other from to (arc ∷ arcs) agree own way =
@@ -124,23 +115,24 @@ from-inside graph inside room other from to (arc ∷ arcs) agree own way =
       ],
     )
 
-pub way-inside : (graph : Graph) (side : Side) (inside : ℕ → Bool) (room other : Arc → ℕ) (zone another : ℕ) (arcs : List Arc) → Agree graph side inside room other
-    → inside zone ≡ true → IsWay graph room (first_zone side zone another) arcs (last_zone side zone another)
-    → (inside another ≡ true) × AreInside graph side inside arcs
-way-inside graph Sell inside room other zone another arcs agree own way = to-inside graph inside room other another zone arcs agree own way
-way-inside graph Buy inside room other zone another arcs agree own way = from-inside graph inside room other zone another arcs agree own way
-
 -- so all routes to it, or from it, are the same
-pub routes-same : (graph : Graph) (is : IsGraph graph) (side : Side) (inside : ℕ → Bool) (room other : Arc → ℕ) (zone another : ℕ) → Agree graph side inside room other
-    → inside zone ≡ true
-    → best_route graph room (first_zone side zone another) (last_zone side zone another) ≡ best_route graph other (first_zone side zone another) (last_zone side zone another)
-routes-same graph is side inside room other zone another agree own =
-    best-same graph room other (first_zone side zone another) (last_zone side zone another) is (on room other agree) (on other room (agree-back graph side inside room other agree))
+pub routes-to : (graph : Graph) (is : IsGraph graph) (inside : ℕ → Bool) (room other : Arc → ℕ) (from to : ℕ) → Agree graph Sell inside room other
+    → inside to ≡ true → best_route graph room from to ≡ best_route graph other from to
+routes-to graph is inside room other from to agree own =
+    best-same graph room other from to is (on room other agree) (on other room (agree-back graph Sell inside room other agree))
   where
-    on : (one two : Arc → ℕ) → Agree graph side inside one two → SameOnRoutes graph one two (first_zone side zone another) (last_zone side zone another)
+    on : (one two : Arc → ℕ) → Agree graph Sell inside one two → SameOnRoutes graph one two from to
     on one two both arcs route arc i =
-        both.same arc (way_has_arc graph one (first_zone side zone another) (last_zone side zone another) arcs arc route.way i)
-        ((way-inside graph side inside one two zone another arcs both own route.way).1 arc i).0
+        both.same arc (way_has_arc graph one from to arcs arc route.way i) ((to-inside graph inside one two from to arcs both own route.way).1 arc i).0
+
+pub routes-from : (graph : Graph) (is : IsGraph graph) (inside : ℕ → Bool) (room other : Arc → ℕ) (from to : ℕ) → Agree graph Buy inside room other
+    → inside from ≡ true → best_route graph room from to ≡ best_route graph other from to
+routes-from graph is inside room other from to agree own =
+    best-same graph room other from to is (on room other agree) (on other room (agree-back graph Buy inside room other agree))
+  where
+    on : (one two : Arc → ℕ) → Agree graph Buy inside one two → SameOnRoutes graph one two from to
+    on one two both arcs route arc i =
+        both.same arc (way_has_arc graph one from to arcs arc route.way i) ((from-inside graph inside one two from to arcs both own route.way).1 arc i).0
 
 -- ---- a leg inside
 

@@ -7,16 +7,17 @@ use Rattle.order_kinds.specs.declared.order.OrderName.{OrderName}
 use Rattle.order_kinds.specs.declared.side.Side.{Side}
 use Rattle.order_kinds.specs.declared.side.Side.TheVariants.{Buy, Sell}
 use Rattle.order_kinds.specs.Period.{contract_quarters}
+use Rattle.order_kinds.specs.Same.{same_side}
 use Rattle.order_kinds.specs.Side.{opposite}
 use Rattle.zone_graph.specs.declared.route.Arc.{Arc}
 use Rattle.zone_graph.specs.Graph.{Graph, HasArc, HasZone, IsGraph, end_of, start_of, zone_count}
-use Rattle.zone_graph.specs.Reach.{reaches}
 use Rattle.zone_graph.specs.Route.{has}
 use Rattle.zone_graph.specs.Steps.{IsRun, steps}
 use Rattle.zone_graph.proofs.GridLemmas.{start_within}
 use Rattle.zone_graph.proofs.Membership.{IsIn-has, from_map}
 use Rattle.zone_graph.proofs.Routes.{end_within}
 use Rattle.zone_graph.proofs.Runs.{run-measured}
+use Rattle.cut_proof.proofs.Reaching.{reaches_in}
 use Rattle.cut_proof.proofs.ReachLaws.{has-beyond, has-towards, reaches-way, way-reaches}
 use Rattle.cut_proof.proofs.Ways.{way_longer}
 use Rattle.market_model.specs.declared.event.Event.{Event}
@@ -41,15 +42,14 @@ use Rattle.plain_view.proofs.RowLemmas.{rows-are}
 use Rattle.plain_view.proofs.Start.{depth-start, taker_name}
 use Rattle.plain_view.proofs.Views.{legs-are, trades-of}
 use Rattle.view_near.specs.Nearby.{DifferWithin, HaveNoZoneInCommon, ReachChangesNearby, RoutesDependOnWhatIsReached, RoutesDependOnWhatReaches, ViewsChangeNearby, is_elsewhere, is_within, zones_of_view}
-use Rattle.view_near.proofs.Agreement.{Agree, far_end, near_end, routes-same}
+use Rattle.view_near.proofs.Agreement.{Agree, far_end, near_end, routes-from, routes-to}
 use Rattle.view_near.proofs.Running.{AgreeInside, run-same}
 
 -- ---- the zones in reach as a set
 
--- a zone can trade with the taker's: it reaches that zone, or is reached from it
+-- a zone can trade with the taker of a view: it reaches that one's zone, or is reached from there
 abbrev pub in_reach : Graph → (Arc → ℕ) → Side → (zone other : ℕ) → Bool
-in_reach graph room Sell zone other = reaches graph room other zone
-in_reach graph room Buy zone other = reaches graph room zone other
+in_reach graph room side zone other = reaches_in graph room other zone (same_side side Sell)
 
 pub reach-own : (graph : Graph) (is : IsGraph graph) (room : Arc → ℕ) (side : Side) (zone : ℕ) → in_reach graph room side zone zone ≡ true
 reach-own graph is room Sell zone = reaches-way graph room zone zone [] is refl
@@ -73,11 +73,11 @@ agree-there graph is side room other zone same = record { same = same; closed = 
 
 pub towards_same : RoutesDependOnWhatReaches
 towards_same graph room other from to is same =
-    routes-same graph is Sell (in_reach graph room Sell to) room other to from (agree-there graph is Sell room other to same) (reach-own graph is room Sell to)
+    routes-to graph is (in_reach graph room Sell to) room other from to (agree-there graph is Sell room other to same) (reach-own graph is room Sell to)
 
 pub beyond_same : RoutesDependOnWhatIsReached
 beyond_same graph room other from to is same =
-    routes-same graph is Buy (in_reach graph room Buy from) room other from to (agree-there graph is Buy room other from same) (reach-own graph is room Buy from)
+    routes-from graph is (in_reach graph room Buy from) room other from to (agree-there graph is Buy room other from same) (reach-own graph is room Buy from)
 
 -- ---- two lists of events
 
@@ -129,10 +129,12 @@ module _ (graph : Graph) (is : IsGraph graph) (before after : List Event) (contr
       → zones_in_reach graph rooms_after (opposite side) zone ≡ zones_in_reach graph rooms_before (opposite side) zone
   reach-same Sell both =
       ap (λ (test : ℕ → Bool). filter test (range_with_len 0 (zone_count graph)))
-      (fun_ext (λ other. ap is_some (sym (routes-same graph is Sell (in_reach graph rooms_before Sell zone) rooms_before rooms_after zone other both (reach-own graph is rooms_before Sell zone)))))
+      (fun_ext (λ other. ap is_some (sym (
+      routes-to graph is (in_reach graph rooms_before Sell zone) rooms_before rooms_after other zone both (reach-own graph is rooms_before Sell zone)))))
   reach-same Buy both =
       ap (λ (test : ℕ → Bool). filter test (range_with_len 0 (zone_count graph)))
-      (fun_ext (λ other. ap is_some (sym (routes-same graph is Buy (in_reach graph rooms_before Buy zone) rooms_before rooms_after zone other both (reach-own graph is rooms_before Buy zone)))))
+      (fun_ext (λ other. ap is_some (sym (
+      routes-from graph is (in_reach graph rooms_before Buy zone) rooms_before rooms_after zone other both (reach-own graph is rooms_before Buy zone)))))
 
   pub reach-is : zones_of_view graph after contract side zone ≡ zones_of_view graph before contract side zone
   reach-is = reach-same side agree
@@ -178,7 +180,8 @@ module _ (setup : Setup) (is : IsMarketSetup setup) (events : List Event) (fit :
   }
 
   -- the view is the rows of its trades
-  pub view-rows : (fills : List Fill) → IsRun (next_fill (graph_of setup) side zone) after_fill found fills → view (graph_of setup) events contract side zone ≡ map row_in (rows_with fills)
+  pub view-rows : (fills : List Fill) → IsRun (next_fill (graph_of setup) side zone) after_fill found fills
+      → view (graph_of setup) events contract side zone ≡ map row_in (rows_with fills)
   unfolding view
   view-rows fills run =
       let of = depth-start setup events fit contract side zone (graph_of setup) (room events (contract_quarters contract)) (λ arc on. refl) in
@@ -206,6 +209,7 @@ views_nearby setup before after contract side zone touched is fit_before fit_aft
     let made = fills setup is before fit_before contract side zone in
     let run = fills-run setup is before fit_before contract side zone in
     view-rows setup is after fit_after contract side zone made
-    (run-same graph is side zone (in_reach graph (room before (contract_quarters contract)) side zone) (reach-own graph is (room before (contract_quarters contract)) side zone)
+    (run-same graph is side zone (in_reach graph (room before (contract_quarters contract)) side zone)
+    (reach-own graph is (room before (contract_quarters contract)) side zone)
     (found setup is before fit_before contract side zone) (found setup is after fit_after contract side zone) made alike run)
     ∙ sym (view-rows setup is before fit_before contract side zone made run)

@@ -12,15 +12,14 @@ use Rattle.zone_graph.specs.Graph.{Graph, IsGraph}
 use Rattle.zone_graph.specs.Route.{IsWay}
 use Rattle.zone_graph.specs.Steps.{IsRun}
 use Rattle.zone_graph.proofs.Carrying.{best_route-route}
-use Rattle.zone_graph.proofs.Finding.{find-filter}
 use Rattle.cut_proof.proofs.Ways.{way_has_arc}
-use Rattle.market_locality.proofs.Restrict.{filter-same, find-same}
+use Rattle.market_locality.proofs.Restrict.{filter-same, find-filter, find-same}
 use Rattle.plain_orders.proofs.LineLaws.{filter-map}
 use Rattle.plain_view.specs.declared.filling.Fill.{Fill}
 use Rattle.plain_view.specs.declared.maker.Maker.{Maker}
 use Rattle.plain_view.specs.Depth.{Depth, after_fill, buyer_zone, can_fill, crosses_any, fill_over, fill_with, next_fill, route_with, seller_zone, taken_of}
 use Rattle.plain_view.proofs.Fills.{carried_by, next_fill-is}
-use Rattle.view_near.proofs.Agreement.{Agree, AreInside, agree-after, carried-same, routes-same, way-inside}
+use Rattle.view_near.proofs.Agreement.{Agree, AreInside, agree-after, carried-same, from-inside, routes-from, routes-to, to-inside}
 
 taken-zone : (name : OrderName) (lots : ℕ) (maker : Maker) → (taken_of name lots maker).zone ≡ maker.zone
 taken-zone name lots maker = by (same_name maker.name name)
@@ -28,15 +27,6 @@ taken-zone name lots maker = by (same_name maker.name name)
     by : (b : Bool) → (if b then record maker { left = maker.left - lots } else maker).zone ≡ maker.zone
     by true = refl
     by false = refl
-
--- what is found is found among those that pass a weaker test
-find-among : {X : Type 0} (p q : X → Bool) (xs : List X) → ((x : X) → p x ≡ true → q x ≡ true) → find p xs ≡ find p (filter q xs)
-find-among {X} p q xs weaker = sym (find-filter p q xs ∙ find-same (λ x. q x && p x) p xs (λ x i. by x (p x) refl (q x) refl))
-  where
-    by : (x : X) (b : Bool) → p x ≡ b → (c : Bool) → q x ≡ c → (q x && p x) ≡ p x
-    by x b e true f = ap (λ t. t && p x) f
-    by x true e false f = absurd (true≢false (sym (weaker x e) ∙ f))
-    by x false e false f = ap (λ t. t && p x) f ∙ sym e
 
 module _ (graph : Graph) (is : IsGraph graph) (side : Side) (zone : ℕ) (inside : ℕ → Bool) (own : inside zone ≡ true) where
   abbrev pub maker_inside : Maker → Bool
@@ -58,20 +48,21 @@ module _ (graph : Graph) (is : IsGraph graph) (side : Side) (zone : ℕ) (inside
       where
         on : (s : Side) → Agree graph s inside room other → IsWay graph room (seller_zone s zone maker) arcs (buyer_zone s zone maker)
             → (inside maker.zone ≡ true) × AreInside graph s inside arcs
-        on Sell a w = way-inside graph Sell inside room other zone maker.zone arcs a own w
-        on Buy a w = way-inside graph Buy inside room other zone maker.zone arcs a own w
+        on Sell a w = to-inside graph inside room other maker.zone zone arcs a own w
+        on Buy a w = from-inside graph inside room other zone maker.zone arcs a own w
 
     same-route : (maker : Maker) → route_with graph room side zone maker ≡ route_with graph other side zone maker
     same-route maker = on side agree
       where
         on : (s : Side) → Agree graph s inside room other → route_with graph room s zone maker ≡ route_with graph other s zone maker
-        on Sell a = routes-same graph is Sell inside room other zone maker.zone a own
-        on Buy a = routes-same graph is Buy inside room other zone maker.zone a own
+        on Sell a = routes-to graph is inside room other maker.zone zone a own
+        on Buy a = routes-from graph is inside room other zone maker.zone a own
 
     -- who can trade is inside
     can-inside : (maker : Maker) → can_fill graph room side zone maker ≡ true → maker_inside maker ≡ true
     can-inside maker can =
-        by (route_with graph room side zone maker) refl (and_parts (nat_lt 0 maker.left && crosses_any side maker) (is_some (route_with graph room side zone maker)) can).1
+        by (route_with graph room side zone maker) refl
+        (and_parts (nat_lt 0 maker.left && crosses_any side maker) (is_some (route_with graph room side zone maker)) can).1
       where
         by : (o : Option (List Arc)) → route_with graph room side zone maker ≡ o → is_some (route_with graph room side zone maker) ≡ true → maker_inside maker ≡ true
         by None e there = absurd (true≢false (sym there ∙ ap is_some e))
@@ -102,9 +93,9 @@ module _ (graph : Graph) (is : IsGraph graph) (side : Side) (zone : ℕ) (inside
     same-found : (makers others : List Maker) → filter maker_inside makers ≡ filter maker_inside others
         → find (can_fill graph room side zone) makers ≡ find (can_fill graph other side zone) others
     same-found makers others alike =
-        find-among (can_fill graph room side zone) maker_inside makers can-inside
+        sym (find-filter (can_fill graph room side zone) maker_inside makers (λ maker i. can-inside maker))
         ∙ ap (find (can_fill graph room side zone)) alike
-        ∙ sym (find-among (can_fill graph room side zone) maker_inside others can-inside)
+        ∙ find-filter (can_fill graph room side zone) maker_inside others (λ maker i. can-inside maker)
         ∙ find-same (can_fill graph room side zone) (can_fill graph other side zone) others (λ maker i. same-can maker)
 
   -- ---- trade by trade
@@ -120,17 +111,23 @@ module _ (graph : Graph) (is : IsGraph graph) (side : Side) (zone : ℕ) (inside
       by None = refl
       by (Some maker) = same-fill one.room two.room alike.rooms two.left maker
 
-  taken-inside : (name : OrderName) (lots : ℕ) (makers : List Maker) → filter maker_inside (map (taken_of name lots) makers) ≡ map (taken_of name lots) (filter maker_inside makers)
+  taken-inside : (name : OrderName) (lots : ℕ) (makers : List Maker)
+      → filter maker_inside (map (taken_of name lots) makers) ≡ map (taken_of name lots) (filter maker_inside makers)
   taken-inside name lots makers =
       filter-map maker_inside (taken_of name lots) makers
-      ∙ ap (map (taken_of name lots)) (filter-same (λ maker. maker_inside (taken_of name lots maker)) maker_inside makers (λ maker i. ap inside (taken-zone name lots maker)))
+      ∙ ap (map (taken_of name lots))
+      (filter-same (λ maker. maker_inside (taken_of name lots maker)) maker_inside makers (λ maker i. ap inside (taken-zone name lots maker)))
 
-  after-same : (one two : Depth) (fill : Fill) → AgreeInside one two → next_fill graph side zone one ≡ Some fill → AgreeInside (after_fill one fill) (after_fill two fill)
+  after-same : (one two : Depth) (fill : Fill) → AgreeInside one two → next_fill graph side zone one ≡ Some fill
+      → AgreeInside (after_fill one fill) (after_fill two fill)
   after-same one two fill alike next =
       let f = next_fill-is graph side zone one fill is next in
       record {
-        makers = taken-inside fill.maker fill.lots one.makers ∙ ap (map (taken_of fill.maker fill.lots)) alike.makers ∙ sym (taken-inside fill.maker fill.lots two.makers);
-        rooms = agree-after graph side inside one.room two.room (carried_by fill) alike.rooms (trade-inside one.room two.room alike.rooms f.with fill.route f.fits.is_route.way).1;
+        makers =
+            taken-inside fill.maker fill.lots one.makers
+            ∙ ap (map (taken_of fill.maker fill.lots)) alike.makers ∙ sym (taken-inside fill.maker fill.lots two.makers);
+        rooms = agree-after graph side inside one.room two.room (carried_by fill) alike.rooms
+            (trade-inside one.room two.room alike.rooms f.with fill.route f.fits.is_route.way).1;
         left = ap (λ n. n - fill.lots) alike.left;
       }
 
