@@ -5,6 +5,5 @@ pub mod Partners
 pub mod Seeking
 pub mod Buys
 pub mod MarketLegs
-pub mod MarketBooks
 pub mod MarketDeals
 pub mod MarketEntries

@@ -1,10 +1,8 @@
 -- A block finds in a book what it finds in the market, and so does a period.
-use Rattle.std.proofs.Common.{◌≡◌, ◌∙◌, inl, inr, ℕ, ◌==◌, ◌&&◌, Bool, true, false, List, [], ◌∷◌, filter, find, map, nat_eq, Option, Some, None, if◌then◌else◌, refl, sym, ap, subst, eqb-true}
+use Rattle.std.proofs.Common.{◌≡◌, ◌∙◌, ℕ, ◌==◌, ◌&&◌, Bool, true, false, List, [], ◌∷◌, filter, find, map, nat_eq, Option, Some, None, if◌then◌else◌, refl, sym, ap, eqb-true}
 use Rattle.std.proofs.lemmas.Bool.{and_parts, true≢false}
 use Rattle.std.specs.Option.{option_map}
 use Rattle.std.specs.Ordering.{is_lt}
-use Rattle.order_kinds.specs.declared.order.OrderName.{OrderName}
-use Rattle.order_kinds.specs.declared.price.Lots.{Lots}
 use Rattle.order_kinds.specs.declared.side.Side.{Side}
 use Rattle.order_kinds.specs.declared.side.Side.TheVariants.{Buy}
 use Rattle.order_kinds.specs.Same.{same_side}
@@ -16,11 +14,10 @@ use Rattle.zone_graph.specs.Route.{IsIn}
 use Rattle.zone_graph.proofs.Finding.{find-map, from_find}
 use Rattle.zone_graph.proofs.Membership.{from_filter}
 use Rattle.block_book.specs.declared.block.RestingBlock.{RestingBlock}
-use Rattle.block_book.specs.Book.{line_of}
 use Rattle.market_model.specs.declared.event.Event.{Event}
 use Rattle.market_model.specs.declared.event.Event.TheVariants as event
 use Rattle.market_model.specs.declared.setup.Setup.{Setup}
-use Rattle.market_model.specs.Blocks.{StandingBlock, block_deal, block_legs, block_line, block_partner, block_priority_cmp, block_stands_in, block_time_cmp, can_trade_blocks, carries_whole as all_carried, deal_of_buy as market_deal, is_of_period, resting_block_legs, standing_block}
+use Rattle.market_model.specs.Blocks.{StandingBlock, block_deal, block_legs, block_partner, block_priority_cmp, block_stands_in, block_time_cmp, can_trade_blocks, carries_whole as all_carried, deal_of_buy as market_deal, is_of_period, resting_block_legs, standing_block}
 use Rattle.market_model.specs.Grid.{graph_of}
 use Rattle.market_model.specs.Orders.{PlacedBlock, blocks_placed, is_open, left}
 use Rattle.market_model.specs.Sweep.{first_answer, or_else}
@@ -33,10 +30,11 @@ use Rattle.market_laws.proofs.Tests.{same_side-eq}
 use Rattle.market_locality.proofs.Lines.{first_answer-same}
 use Rattle.market_locality.proofs.Restrict.{find-same}
 use Rattle.block_match.specs.declared.deal.BlockDeal.{BlockDeal}
-use Rattle.block_match.specs.Deals.{deal_of_buy, deal_with, is_earlier, partner_of, resting_deal}
-use Rattle.block_match.specs.Market.{IsMarketDeal, OpenBlocksDealAsInTheMarket, PeriodsDealAsInTheMarket, blocks_of, deal_events, resting_block, rooms_over}
+use Rattle.block_match.specs.Deals.{deal_of_buy, deal_with, partner_of, resting_deal}
+use Rattle.block_lines.specs.BlocksOf.{blocks_of, resting_block}
+use Rattle.block_match.specs.Market.{IsMarketDeal, OpenBlocksDealAsInTheMarket, PeriodsDealAsInTheMarket, deal_events, rooms_over}
 use Rattle.block_match.specs.Meeting.{can_trade, carries_whole, is_crossed, legs_between}
-use Rattle.block_match.proofs.MarketBooks.{block_line-are, line-are, lined}
+use Rattle.block_lines.proofs.MarketBooks.{block_line-are, line-are, lined}
 use Rattle.block_match.proofs.MarketLegs.{carries-are, legs-are}
 
 -- two open blocks that may trade

@@ -1,6 +1,6 @@
 -- A block that enters finds in the book and the rooms as they were before what it finds in the market.
-use Rattle.std.proofs.Common.{◌≡◌, ◌≢◌, ◌∙◌, inl, inr, ℕ, ◌+◌, ◌≤◌, ◌==◌, ◌&&◌, Bool, true, false, List, [], ◌∷◌, ◌++◌, find, nat_lt, length, Option, Some, None, if◌then◌else◌, refl, sym, ap, subst, eq-eqb, arith}
-use Rattle.std.proofs.lemmas.Bool.{and_parts, lt-ltb, true≢false}
+use Rattle.std.proofs.Common.{◌≡◌, ◌≢◌, ◌∙◌, inl, inr, ℕ, ◌+◌, ◌≤◌, ◌==◌, ◌&&◌, true, false, List, [], ◌∷◌, find, nat_lt, length, if◌then◌else◌, refl, sym, ap, subst, eq-eqb, arith}
+use Rattle.std.proofs.lemmas.Bool.{lt-ltb}
 use Rattle.std.specs.Option.{option_map}
 use Rattle.order_kinds.specs.declared.order.BlockOrder.{BlockOrder}
 use Rattle.order_kinds.specs.declared.order.OrderName.{OrderName}
@@ -9,23 +9,22 @@ use Rattle.order_kinds.specs.declared.side.Side.{Side}
 use Rattle.order_kinds.specs.declared.side.Side.TheVariants.{Buy, Sell}
 use Rattle.order_kinds.specs.Period.{block_quarters}
 use Rattle.order_kinds.specs.Side.{opposite}
-use Rattle.zone_graph.specs.declared.route.Arc.{Arc}
 use Rattle.zone_graph.specs.Graph.{Graph}
 use Rattle.zone_graph.specs.Route.{IsIn}
 use Rattle.zone_graph.proofs.Membership.{IsIn-right}
 use Rattle.block_book.specs.declared.block.RestingBlock.{RestingBlock}
-use Rattle.block_book.specs.Book.{is_of, line_of}
+use Rattle.block_book.specs.Book.{line_of}
 use Rattle.block_book.proofs.Lists.{is_of-side}
 use Rattle.market_model.specs.declared.event.Event.{Event}
 use Rattle.market_model.specs.declared.event.Event.TheVariants as event
 use Rattle.market_model.specs.declared.setup.Setup.{Setup}
-use Rattle.market_model.specs.Blocks.{block_legs, block_partner, standing_block, with_block}
+use Rattle.market_model.specs.Blocks.{with_block}
 use Rattle.market_model.specs.Grid.{graph_of}
-use Rattle.market_model.specs.History.{and_then, of_hour}
+use Rattle.market_model.specs.History.{of_hour}
 use Rattle.market_model.specs.Orders.{PlacedBlock, block_moment, block_placed_by, blocks_placed, is_open, left, next_name}
-use Rattle.market_model.specs.Room.{halt_by, phase_by, room}
+use Rattle.market_model.specs.Room.{halt_by, phase_by}
 use Rattle.market_model.specs.WellFormed.{BlockEnters, IsHistory, IsMarketSetup}
-use Rattle.market_laws.proofs.Capacities.{SameCapacity, allocated-more, last_said-more, offered-more, room-same}
+use Rattle.market_laws.proofs.Capacities.{allocated-more, last_said-more, offered-more, room-same}
 use Rattle.market_laws.proofs.Members.{IsIn-filter_map, from_filter_map}
 use Rattle.market_laws.proofs.Names.{block_name-new, names-once, times_entered}
 use Rattle.market_laws.proofs.Placed.{from_picked-more, picked-stays}
@@ -34,10 +33,11 @@ use Rattle.market_laws.proofs.Unique.{enters-block_placed, times-some}
 use Rattle.market_laws.proofs.Wholes.{history-more, left-untouched, new_block-whole, other_name}
 use Rattle.market_locality.proofs.Moments.{block_moment-more}
 use Rattle.zone_graph.specs.Pour.{lots_if}
-use Rattle.block_match.specs.Deals.{deal_with, partner_of}
-use Rattle.block_match.specs.Market.{EnteringBlocksDealAsInTheMarket, IsMarketDeal, blocks_of, deal_events, entered_block, rests_from, resting_block, rooms_over}
+use Rattle.block_match.specs.Deals.{deal_with}
+use Rattle.block_lines.specs.BlocksOf.{blocks_of, rests_from, resting_block}
+use Rattle.block_match.specs.Market.{EnteringBlocksDealAsInTheMarket, IsMarketDeal, deal_events, entered_block, rooms_over}
 use Rattle.block_match.specs.Meeting.{can_trade}
-use Rattle.block_match.proofs.MarketBooks.{book-differ, from-book, line-same, rests-named, to-book}
+use Rattle.block_lines.proofs.MarketBooks.{book-differ, from-book, line-same, rests-named, to-book}
 use Rattle.block_match.proofs.MarketDeals.{open-deal}
 
 not-opposite : (side : Side) → side ≢ opposite side

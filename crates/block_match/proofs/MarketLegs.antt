@@ -1,27 +1,23 @@
 -- The legs of the market's pour between two open blocks are those of the pour over the rooms of the
 -- history.
-use Rattle.std.proofs.Common.{◌≡◌, ◌∙◌, ℕ, zero, suc, ◌+◌, ◌-◌, ◌<◌, ◌≤◌, ◌==◌, Bool, true, false, List, [], ◌∷◌, ◌++◌, fold, map, nat_le, nat_lt, ltb-true, Some, None, eq-eqb, eqb-true, refl, sym, ap, subst, arith}
+use Rattle.std.proofs.Common.{◌≡◌, ◌∙◌, ℕ, ◌+◌, ◌-◌, ◌≤◌, ◌==◌, Bool, true, false, List, [], ◌∷◌, ◌++◌, fold, map, nat_le, nat_lt, ltb-true, Some, eq-eqb, eqb-true, refl, sym, ap, subst, arith}
 use Rattle.std.proofs.Math.Path.{fun_ext}
-use Rattle.std.proofs.lemmas.Bool.{and_parts, eqb-false, true≢false}
+use Rattle.std.proofs.lemmas.Bool.{and_parts, eqb-false}
 use Rattle.std.proofs.lemmas.List.Sums.{sum_by-cons}
 use Rattle.std.specs.Option.{option_map}
-use Rattle.order_kinds.specs.Period.{block_quarters}
 use Rattle.zone_graph.specs.declared.route.Arc.{Arc}
 use Rattle.zone_graph.specs.declared.route.RouteLeg.{RouteLeg}
 use Rattle.zone_graph.specs.Graph.{Graph}
 use Rattle.zone_graph.specs.Pour.{pour, pour_leg, room_after}
 use Rattle.zone_graph.specs.Route.{IsIn}
-use Rattle.zone_graph.specs.Steps.{IsRun}
 use Rattle.zone_graph.proofs.Runs.{run-unique}
 use Rattle.market_model.specs.declared.event.Event.{Event}
-use Rattle.market_model.specs.declared.event.Event.TheVariants as event
 use Rattle.market_model.specs.declared.event.Leg.{Leg}
 use Rattle.market_model.specs.declared.setup.Setup.{Setup}
 use Rattle.market_model.specs.Blocks.{IsBlockPour, StandingBlock, block_buyer_zone, block_leg, block_leg_over, block_legs, block_seller_zone, carries_whole as all_carried, standing_block}
 use Rattle.market_model.specs.Grid.{graph_of}
 use Rattle.market_model.specs.History.{and_then}
 use Rattle.market_model.specs.Orders.{PlacedBlock, blocks_placed, is_open, left}
-use Rattle.market_model.specs.Room.{room}
 use Rattle.market_model.specs.WellFormed.{IsHistory, IsMarketSetup}
 use Rattle.market_laws.proofs.Balances.{left-block_leg, names-taker}
 use Rattle.market_laws.proofs.BlockDeals.{pour-start}
@@ -32,7 +28,8 @@ use Rattle.market_laws.proofs.Rooms.{room-block_leg}
 use Rattle.market_laws.proofs.Uses.{within_offers}
 use Rattle.route_choice.specs.Poured.{lots_of}
 use Rattle.route_choice.proofs.Pours.{Poured, pour-run as poured-run}
-use Rattle.block_match.specs.Market.{resting_block, rooms_over}
+use Rattle.block_lines.specs.BlocksOf.{resting_block}
+use Rattle.block_match.specs.Market.{rooms_over}
 use Rattle.block_match.specs.Meeting.{carries_whole, legs_between}
 use Rattle.block_match.proofs.Rooms.{pour-within}
 

@@ -1,47 +1,24 @@
--- The market's own blocks and deals: what a book holds of a history, and a deal as the market's legs.
-use Rattle.std.specs.Prelude.{◌≡◌, ℕ, Bool, true, ◌==◌, ◌&&◌, List, map, filter, Option}
+-- The market's own deals: a deal as the market's legs, over the book of a history.
+use Rattle.std.specs.Prelude.{◌≡◌, ℕ, true, List, map, Option}
 use Rattle.std.specs.Option.{option_map}
 use Rattle.order_kinds.specs.declared.order.BlockOrder.{BlockOrder}
-use Rattle.order_kinds.specs.declared.order.OrderName.{OrderName}
 use Rattle.order_kinds.specs.Period.{block_quarters}
 use Rattle.zone_graph.specs.declared.route.Arc.{Arc}
 use Rattle.zone_graph.specs.declared.route.RouteLeg.{RouteLeg}
 use Rattle.zone_graph.specs.Graph.{Graph}
-use Rattle.zone_graph.specs.InOrder.{in_order}
 use Rattle.zone_graph.specs.Route.{IsIn}
 use Rattle.block_book.specs.declared.block.RestingBlock.{RestingBlock}
-use Rattle.block_book.specs.Blocks.{number_cmp}
 use Rattle.market_model.specs.declared.event.Event.{Event}
 use Rattle.market_model.specs.declared.event.Event.TheVariants as event
 use Rattle.market_model.specs.declared.setup.Setup.{Setup}
 use Rattle.market_model.specs.Blocks.{block_deal, block_legs, block_partner, standing_block, with_block}
 use Rattle.market_model.specs.Grid.{graph_of}
-use Rattle.market_model.specs.Orders.{PlacedBlock, block_moment, blocks_placed, is_open, left, next_name}
+use Rattle.market_model.specs.Orders.{PlacedBlock, blocks_placed, is_open, next_name}
 use Rattle.market_model.specs.Room.{room}
 use Rattle.market_model.specs.WellFormed.{BlockEnters, IsHistory, IsMarketSetup}
+use Rattle.block_lines.specs.BlocksOf.{blocks_of, resting_block}
 use Rattle.block_match.specs.declared.deal.BlockDeal.{BlockDeal}
 use Rattle.block_match.specs.Deals.{deal_of_block, deal_of_period, partner_of}
-
--- a block of a history as it stands
-abbrev pub resting_block : List Event → PlacedBlock → RestingBlock
-resting_block events block = record {
-  number = block.name.number;
-  caller = block.caller;
-  zone = block.order.zone;
-  side = block.order.side;
-  price = block.order.price;
-  quantity = left events block.name;
-  last = block.order.last;
-  moment = block_moment events block;
-}
-
--- a block is open and starts in an hour
-abbrev pub rests_from : List Event → (first : ℕ) → PlacedBlock → Bool
-rests_from events first block = is_open events block.name && (block.order.first == first)
-
--- the open blocks of a history that start in an hour, by ascending number
-unfoldable pub blocks_of : List Event → (first : ℕ) → List RestingBlock
-blocks_of events first = in_order number_cmp (map (resting_block events) (filter (rests_from events first) (blocks_placed events)))
 
 -- the rooms after a history over a whole period
 abbrev pub rooms_over : List Event → (first last : ℕ) → Arc → ℕ

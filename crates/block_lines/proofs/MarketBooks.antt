@@ -1,14 +1,13 @@
 -- The book of the open blocks of a history that start in an hour: their numbers differ, and its lines
 -- are the market's.
-use Rattle.std.proofs.Common.{◌≡◌, ◌≢◌, ◌∙◌, inl, inr, ℕ, ◌+◌, ◌≤◌, ◌==◌, ◌&&◌, Bool, true, false, List, [], ◌∷◌, filter, fold, map, Option, Some, None, refl, sym, ap, subst, eqb-true, arith}
+use Rattle.std.proofs.Common.{◌≡◌, ◌≢◌, ◌∙◌, inl, inr, ℕ, ◌≤◌, ◌==◌, ◌&&◌, Bool, true, false, List, [], ◌∷◌, filter, fold, map, Option, Some, None, refl, sym, ap, subst, eqb-true, arith}
 use Rattle.std.proofs.lemmas.Bool.{and_parts, true≢false}
 use Rattle.std.specs.List.{cons_option}
-use Rattle.std.specs.Ordering.{is_lt}
 use Rattle.std.specs.declared.cmp.Ordering.{Ordering}
 use Rattle.order_kinds.specs.declared.order.OrderName.{OrderName}
 use Rattle.order_kinds.specs.declared.side.Side.{Side}
 use Rattle.order_kinds.specs.Same.{same_side}
-use Rattle.zone_graph.specs.InOrder.{in_order, put_in_order}
+use Rattle.zone_graph.specs.InOrder.{IsStrictlyInOrder, in_order, put_in_order}
 use Rattle.zone_graph.specs.Route.{IsIn}
 use Rattle.zone_graph.proofs.InOrder.{put_in_order-map}
 use Rattle.zone_graph.proofs.Membership.{IsIn-filter, IsIn-map, from_filter, from_map}
@@ -26,7 +25,7 @@ use Rattle.market_laws.proofs.Members.{IsIn-in_order, from_filter_map, from_in_o
 use Rattle.market_laws.proofs.Names.{enters_as, names-once, times_entered}
 use Rattle.market_laws.proofs.Placed.{all_are_sound}
 use Rattle.market_laws.proofs.Unique.{enters-block_placed, times-cons, times-some}
-use Rattle.block_match.specs.Market.{blocks_of, rests_from, resting_block}
+use Rattle.block_lines.specs.BlocksOf.{blocks_of, rests_from, resting_block}
 
 -- no two blocks have one name
 abbrev NamesDiffer : List PlacedBlock → Type 0
@@ -133,9 +132,13 @@ module _ (setup : Setup) (events : List Event) (fit : FitAfter setup [] events) 
   differ_made : Differ made
   differ_made = differ-resting events first (rests_from events first) (blocks_placed events) (placed-differ events (names-once setup events fit).once) rests-named
 
-  pub book-differ : Differ (blocks_of events first)
+  -- it stands by ascending number, no number twice
+  pub book-strict : IsStrictlyInOrder number_cmp (blocks_of events first)
   unfolding blocks_of
-  book-differ = ascending-differ (in_order number_cmp made) (strict-in_order number_cmp number_total number-ties made differ_made)
+  book-strict = strict-in_order number_cmp number_total number-ties made differ_made
+
+  pub book-differ : Differ (blocks_of events first)
+  book-differ = ascending-differ (blocks_of events first) book-strict
 
   -- what rests in the book is an open block that starts in the hour
   pub record RestsFrom (found : RestingBlock) : Type 0 where

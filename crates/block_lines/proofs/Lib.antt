@@ -1,0 +1,6 @@
+pub mod MarketBooks
+pub mod Kept
+pub mod Elsewhere
+pub mod EnteredAndWithdrawn
+pub mod DealsInBooks
+pub mod Whole

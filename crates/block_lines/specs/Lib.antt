@@ -1,0 +1,4 @@
+-- What the contracts of this crate cite.
+pub mod BlocksOf
+pub mod BlockLaws
+pub mod DealLaws
