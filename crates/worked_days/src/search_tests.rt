@@ -60,28 +60,33 @@ fn route_and_freshness(
     Ok((route, is_fresh))
 }
 
+// Whether a search over the diamond answers the way over the lesser borders, and whether it is fresh over
+// later rooms.
+fn lesser_way_and_freshness(
+    alloc: Global,
+    grid: &Grid,
+    later: &[(u32, u32)],
+    towards: bool,
+) -> Result<(bool, bool), Fail> {
+    let before = rooms_of(grid, &[(7, 0); 4])?;
+    let after = rooms_of(grid, later)?;
+    let (route, is_fresh) = route_and_freshness(alloc, grid, (&before, &after), (0, 3), towards)?;
+    let there = [Arc::over(0, true), Arc::over(2, true)];
+    Ok((route.as_slice() == there.as_slice(), is_fresh))
+}
+
 #[test]
 fn of_two_equal_ways_a_search_answers_that_of_the_lesser_border(
     rt: HostRuntime,
 ) -> Result<(), Fail> {
     let alloc = rt.alloc();
     let grid = diamond(alloc)?;
-    let before = rooms_of(&grid, &[(7, 0), (7, 0), (7, 0), (7, 0)])?;
-    let some_left = rooms_of(&grid, &[(1, 6), (7, 0), (1, 6), (7, 0)])?;
-    let none_left = rooms_of(&grid, &[(1, 6), (7, 0), (0, 7), (7, 0)])?;
-    let there = [Arc::over(0, true), Arc::over(2, true)];
-    let (route, is_fresh) = route_and_freshness(
-        alloc,
-        &grid,
-        (&before, &some_left),
-        (0, 3),
-        false,
-    )?;
-    assert_eq!(rt; route.as_slice(), there.as_slice());
-    assert!(rt; is_fresh);
-    let (route, is_fresh) = route_and_freshness(alloc, &grid, (&before, &none_left), (0, 3), true)?;
-    assert_eq!(rt; route.as_slice(), there.as_slice());
-    assert!(rt; !is_fresh);
+    let some_left = [(1, 6), (7, 0), (1, 6), (7, 0)];
+    let none_left = [(1, 6), (7, 0), (0, 7), (7, 0)];
+    for (later, towards, want) in [(some_left, false, true), (none_left, true, false)] {
+        let found = lesser_way_and_freshness(alloc, &grid, &later, towards)?;
+        assert_eq!(rt; found, (true, want));
+    }
     Ok(())
 }
 
