@@ -3,4 +3,5 @@ pub mod Kept
 pub mod Elsewhere
 pub mod EnteredAndWithdrawn
 pub mod DealsInBooks
+pub mod Partners
 pub mod Whole

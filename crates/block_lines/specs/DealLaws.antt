@@ -1,6 +1,6 @@
 -- What a deal of two blocks makes of the books of the hours. The laws ask for a well-formed history:
 -- its open blocks are whole, so blocks of one quantity have as much left.
-use Rattle.std.specs.Prelude.{◌≡◌, ◌≢◌, ℕ, true, List, ◌++◌}
+use Rattle.std.specs.Prelude.{◌≡◌, ◌≢◌, ℕ, true, List, ◌++◌, Some}
 use Rattle.order_kinds.specs.declared.order.BlockOrder.{BlockOrder}
 use Rattle.order_kinds.specs.declared.order.OrderName.{OrderName}
 use Rattle.order_kinds.specs.Side.{opposite}
@@ -8,7 +8,7 @@ use Rattle.block_book.specs.Book.{without}
 use Rattle.market_model.specs.declared.event.Event.{Event}
 use Rattle.market_model.specs.declared.event.Event.TheVariants as event
 use Rattle.market_model.specs.declared.setup.Setup.{Setup}
-use Rattle.market_model.specs.Blocks.{block_legs, carries_whole, standing_block}
+use Rattle.market_model.specs.Blocks.{StandingBlock, block_legs, block_partner, carries_whole, standing_block}
 use Rattle.market_model.specs.Grid.{graph_of}
 use Rattle.market_model.specs.History.{and_then}
 use Rattle.market_model.specs.Orders.{PlacedBlock}
@@ -43,7 +43,14 @@ DealsTakeBothOut = (setup : Setup) (events : List Event) (taker maker : PlacedBl
     ≡ without (without (blocks_of events taker.order.first) taker.name.number) maker.name.number)
     × ((hour : ℕ) → hour ≢ taker.order.first → blocks_of (with_deal setup events taker maker) hour ≡ blocks_of events hour)
 
--- so a block that trades as it enters takes its maker out of the book that it found, and is in none
+-- an open block and the partner that the market finds for it make such a deal, whichever of the two is
+-- the taker
+abbrev pub PartnersMakeDeals : Type 0
+PartnersMakeDeals = (setup : Setup) (events : List Event) (own : PlacedBlock) (found : StandingBlock) → IsMarketSetup setup → IsHistory setup events
+    → IsOpenBlock events own own.name → block_partner (graph_of setup) events (standing_block events own) ≡ Some found
+    → (partner : PlacedBlock) × (found ≡ standing_block events partner) × IsDeal setup events own partner × IsDeal setup events partner own
+
+-- a block that trades as it enters takes its maker out of the book that it found, and is in none
 abbrev pub EnteringDealsTakeTheMakerOut : Type 0
 EnteringDealsTakeTheMakerOut = (setup : Setup) (events : List Event) (name : OrderName) (caller : ℕ) (order : BlockOrder) (maker : PlacedBlock)
     → IsMarketSetup setup → IsHistory setup events → Fits setup events (event.EnteredBlock name caller order)

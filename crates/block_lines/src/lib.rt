@@ -10,7 +10,7 @@ pub use changes::{
     blocks_come_to_rest, entering_numbers_are_free, other_events_leave_the_blocks,
     withdrawn_blocks_leave,
 };
-pub use deals::{deals_take_both_out, entering_deals_take_the_maker_out};
+pub use deals::{deals_take_both_out, entering_deals_take_the_maker_out, partners_make_deals};
 pub use lines::{
     block_books_are_books, block_books_are_their_lines, block_books_begin_empty,
     hours_have_their_block_books, no_more_blocks_rest_than_are_open, open_blocks_are_found,
