@@ -19,3 +19,6 @@ pub use laws::{
     periods_deal_as_in_the_market,
 };
 pub use matching::{match_block, match_resting};
+
+#[cfg(test)]
+mod tests;
