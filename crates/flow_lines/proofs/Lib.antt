@@ -1,0 +1,6 @@
+pub mod Rooms
+pub mod Noted
+pub mod Ranges
+pub mod OtherEvents
+pub mod InTurn
+pub mod Callable

@@ -1,0 +1,4 @@
+-- What the contracts of this crate cite.
+pub mod Standing
+pub mod FlowLaws
+pub mod CallLaws
