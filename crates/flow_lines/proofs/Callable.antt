@@ -1,9 +1,9 @@
 -- What fits the events can be kept in the flows that stand for them.
-use Rattle.std.proofs.Common.{◌≡◌, ◌∙◌, ◌<◌, ◌&&◌, ℕ, pos, ◌≤ℤ◌, Bool, true, false, List, [], refl, sym, ap, ap₂, subst, arith}
-use Rattle.order_kinds.specs.Period.{EachQuarter, block_has, contract_has, is_quarter, quarter_of, range_has}
+use Rattle.std.proofs.Common.{◌≡◌, ◌∙◌, ◌&&◌, ℕ, pos, ◌≤ℤ◌, Bool, List, [], refl, sym, ap, ap₂, subst, arith}
+use Rattle.order_kinds.specs.Period.{EachQuarter, block_has, contract_has, is_quarter, quarter_of}
 use Rattle.zone_graph.specs.declared.route.Arc.{Arc}
 use Rattle.zone_graph.specs.Graph.{HasArc}
-use Rattle.zone_graph.specs.Pour.{lots_if, same_arc, uses}
+use Rattle.zone_graph.specs.Pour.{lots_if, uses}
 use Rattle.zone_graph.specs.Route.{IsIn}
 use Rattle.zone_graph.proofs.Arcs.{same_arc-itself, uses-IsIn}
 use Rattle.cut_proof.proofs.Ways.{borders_once, way_has_arc}
@@ -57,13 +57,16 @@ module _ (setup : Setup) (events : List Event) (e : Event) (hour : ℕ) (flows :
 
 pub legs : LegsCanBeCarried
 legs setup events contract leg set flows fit fits is of_part =
-    can-carry setup events (event.Leg contract leg) contract.hour flows fit fits is _ _ _ leg set (λ number. contract_has contract (quarter_of contract.hour number)) fits.carried
+    can-carry setup events (event.Leg contract leg) contract.hour flows fit fits is _ _ _ leg set
+    (λ number. contract_has contract (quarter_of contract.hour number)) fits.carried
     (λ number first last. of_part number first last ∙ contract-covers contract number) (λ number arc. refl)
 
 pub block_legs : BlockLegsCanBeCarried
 block_legs setup events from to leg set hour flows fit fits is within of_hour =
-    can-carry setup events (event.BlockLeg from to leg) hour flows fit fits is _ _ _ leg set (λ number. block_has from to (quarter_of hour number)) fits.carried
-    (λ number first last. of_hour number first last ∙ hour-covers number first last ∙ ap (λ b. b && is_quarter (quarter_of hour number)) (sym within)) (λ number arc. refl)
+    can-carry setup events (event.BlockLeg from to leg) hour flows fit fits is _ _ _ leg set
+    (λ number. block_has from to (quarter_of hour number)) fits.carried
+    (λ number first last. of_hour number first last ∙ hour-covers number first last ∙ ap (λ b. b && is_quarter (quarter_of hour number)) (sym within))
+    (λ number arc. refl)
 
 pub grants : GrantsCanBeMade
 grants setup events arc from to lots hour flows fit fits is = record {
@@ -78,5 +81,6 @@ offers setup events arc from to lots hour flows fits is = record {
   border = let known : HasArc (graph_of setup) arc = fits.range.on_arc in let size = is.size in omega arith;
   most = fits.most;
   covers = λ number first last inside.
-      subst (λ z. z ≤ℤ pos lots) (sym (is.flow_same arc fits.range.on_arc number first last)) (fits.covers_flow (quarter_of hour number) (range_has-is from to (quarter_of hour number) inside));
+      subst (λ z. z ≤ℤ pos lots) (sym (is.flow_same arc fits.range.on_arc number first last))
+      (fits.covers_flow (quarter_of hour number) (range_has-is from to (quarter_of hour number) inside));
 }

@@ -1,6 +1,5 @@
 -- What is carried and offered in one quarter after the other.
 use Rattle.std.proofs.Common.{◌≡◌, ◌∙◌, ◌==◌, ◌&&◌, ◌||◌, ℕ, ◌+ℤ◌, ℤ, Bool, true, false, if◌then◌else◌, eqb-true, refl, sym, ap}
-use Rattle.zone_graph.specs.declared.route.Arc.{Arc}
 use Rattle.zone_graph.specs.Pour.{same_arc}
 use Rattle.flow_netting.specs.Flows.{added_by}
 use Rattle.flow_netting.specs.Flows as kept
@@ -44,7 +43,8 @@ pub carried_in_turn : QuartersAreCarriedInTurn
 carried_in_turn carries counts more number lots old mid new before apart now is = record {
   flows = λ arc quarter first last.
       flow-in_turn (quarter == number) (counts quarter) (more quarter) (kept.flow_of old arc quarter) (kept.flow_of mid arc quarter) (kept.flow_of new arc quarter)
-      (added_by carries lots arc) (λ same. ap counts (eqb-true quarter number same) ∙ apart) (is quarter first last) (before.flows arc quarter first last) (now.flows arc quarter first last);
+      (added_by carries lots arc) (λ same. ap counts (eqb-true quarter number same) ∙ apart) (is quarter first last)
+      (before.flows arc quarter first last) (now.flows arc quarter first last);
   offers = λ arc quarter first last. now.offers arc quarter first last ∙ before.offers arc quarter first last;
   halts = λ border. now.halts border ∙ before.halts border;
   phase = now.phase ∙ before.phase;

@@ -1,6 +1,5 @@
 -- The flows of an hour after one more event.
-use Rattle.std.proofs.Common.{◌≡◌, ◌∙◌, ◌+◌, ◌<◌, ◌==◌, ◌&&◌, ℕ, pos, ◌+ℤ◌, ◌-ℤ◌, ℤ, Bool, true, false, List, Some, None, unwrap_or, nat_eq, nat_le, if◌then◌else◌, eq-eqb, eqb-true, refl, sym, ap, ap₂, arith}
-use Rattle.std.proofs.lemmas.Bool.{and_from, le-leb}
+use Rattle.std.proofs.Common.{◌≡◌, ◌∙◌, ◌+◌, ◌<◌, ◌&&◌, ℕ, ◌+ℤ◌, ℤ, Bool, true, false, List, Some, None, unwrap_or, if◌then◌else◌, eq-eqb, refl, sym, ap, ap₂, arith}
 use Rattle.std.proofs.lemmas.Int.{ints}
 use Rattle.order_kinds.specs.declared.contract.Contract.{Contract}
 use Rattle.order_kinds.specs.declared.phase.Phase.TheVariants as phase

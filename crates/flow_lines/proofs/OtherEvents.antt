@@ -1,5 +1,5 @@
 -- Histories that agree on an hour have its flows, so an event of another hour leaves them.
-use Rattle.std.proofs.Common.{◌≡◌, ◌∙◌, ◌+◌, ◌++◌, inl, inr, ℕ, false, List, [], ◌∷◌, None, unwrap_or, ◌+ℤ◌, refl, sym, ap, ap₂, subst}
+use Rattle.std.proofs.Common.{◌≡◌, ◌∙◌, ◌++◌, inl, inr, ℕ, false, List, [], ◌∷◌, None, unwrap_or, ◌+ℤ◌, refl, sym, ap, ap₂, subst}
 use Rattle.std.proofs.lemmas.List.{append-nil}
 use Rattle.std.proofs.lemmas.List.Elements.{filter-append}
 use Rattle.order_kinds.specs.declared.contract.Quarter.{Quarter}
@@ -21,7 +21,7 @@ use Rattle.market_locality.proofs.States.{Agree, allocated-agree, halted-agree, 
 use Rattle.hour_lists.proofs.OfHours.{one-agrees}
 use Rattle.flow_netting.specs.Flows.{Flows}
 use Rattle.flow_netting.specs.Flows as kept
-use Rattle.flow_lines.specs.FlowLaws.{HoursHaveTheirFlows, LeavesTheFlows, OtherEventsLeaveTheFlows}
+use Rattle.flow_lines.specs.FlowLaws.{HoursHaveTheirFlows, OtherEventsLeaveTheFlows}
 use Rattle.flow_lines.specs.Standing.{Stands}
 use Rattle.flow_lines.proofs.Noted.{no_more, noted-stands}
 
@@ -29,10 +29,12 @@ use Rattle.flow_lines.proofs.Noted.{no_more, noted-stands}
 agree-stands : (graph : Graph) (a b : List Event) (hour : ℕ) (flows : Flows) → Agree (hour ∷ []) a b → Stands graph a hour flows → Stands graph b hour flows
 agree-stands graph a b hour flows agree is = record {
   size = is.size;
-  offered_same = λ arc there number first last. is.offered_same arc there number first last ∙ offered-agree (hour ∷ []) a b agree (quarter_of hour number) arc (inl refl);
+  offered_same = λ arc there number first last.
+      is.offered_same arc there number first last ∙ offered-agree (hour ∷ []) a b agree (quarter_of hour number) arc (inl refl);
   flow_same = λ arc there number first last.
       is.flow_same arc there number first last
-      ∙ ap₂ flow_of (allocated-agree (hour ∷ []) a b agree (quarter_of hour number) arc (inl refl)) (allocated-agree (hour ∷ []) a b agree (quarter_of hour number) (opposite_arc arc) (inl refl));
+      ∙ ap₂ flow_of (allocated-agree (hour ∷ []) a b agree (quarter_of hour number) arc (inl refl))
+      (allocated-agree (hour ∷ []) a b agree (quarter_of hour number) (opposite_arc arc) (inl refl));
   halted_same = λ border there. is.halted_same border there ∙ halted-agree (hour ∷ []) a b agree border hour (inl refl);
   phase_same = is.phase_same ∙ phase-agree (hour ∷ []) a b agree hour (inl refl);
 }
@@ -55,15 +57,18 @@ untouched hour events e none =
     alone : touches hour e ≡ false → of_hour hour (e ∷ []) ≡ []
     alone h = rw h refl
 
-module _ (setup : Setup) (graph : Graph) (events : List Event) (e : Event) (hour : ℕ) (flows : Flows) (fit : FitAfter setup [] events) (fits : Fits setup events e)
-    (is : Stands graph events hour flows) where
+module _ (setup : Setup) (graph : Graph) (events : List Event) (e : Event) (hour : ℕ) (flows : Flows)
+    (fit : FitAfter setup [] events) (fits : Fits setup events e) (is : Stands graph events hour flows) where
   -- an event of another hour leaves the flows
   pub untouched-stands : touches hour e ≡ false → Stands graph (and_then events e) hour flows
   untouched-stands none = agree-stands graph events (and_then events e) hour flows (record {
     named_a = history-named setup events fit;
     named_b = history-named setup (and_then events e) (fit-more setup events e fit fits);
-    same = λ other i. elim i [ inl same ↦ subst (λ h. of_hour h events ≡ of_hour h (and_then events e)) (sym same) (untouched hour events e none) | inr j ↦ absurd j ];
+    same = λ other i. elim i [ inl same ↦ here other same | inr j ↦ absurd j ];
   }) is
+    where
+      here : (other : ℕ) → other ≡ hour → of_hour other events ≡ of_hour other (and_then events e)
+      here other same = subst (λ h. of_hour h events ≡ of_hour h (and_then events e)) (sym same) (untouched hour events e none)
 
 -- an event that says nothing of offers, flows, halts and phases leaves the flows
 unsaid-stands : (graph : Graph) (events : List Event) (e : Event) (hour : ℕ) (flows : Flows) → Stands graph events hour flows
@@ -74,7 +79,8 @@ unsaid-stands graph events e hour flows is allocates offers halts gates = noted-
   offers = λ arc there number first last. sym (ap (λ o. unwrap_or o (kept.offered_of flows arc number)) (offers (quarter_of hour number) arc));
   flows = λ arc there number first last.
       no_more (kept.flow_of flows arc number)
-      ∙ sym (ap₂ (λ m l. kept.flow_of flows arc number +ℤ flow_of m l) (allocates (quarter_of hour number) arc) (allocates (quarter_of hour number) (opposite_arc arc)));
+      ∙ sym (ap₂ (λ m l. kept.flow_of flows arc number +ℤ flow_of m l) (allocates (quarter_of hour number) arc)
+      (allocates (quarter_of hour number) (opposite_arc arc)));
   halts = λ border there. sym (ap (λ o. unwrap_or o (kept.is_halted flows border)) (halts border));
   phase = sym (ap (λ o. unwrap_or o flows.phase) gates);
 })
@@ -88,10 +94,17 @@ others setup graph events (event.Withdrawn name lots) hour flows fit fits is lea
     unsaid-stands graph events (event.Withdrawn name lots) hour flows is (λ quarter arc. refl) (λ quarter arc. refl) (λ border. refl) refl
 others setup graph events (event.Reduced name by) hour flows fit fits is leaves =
     unsaid-stands graph events (event.Reduced name by) hour flows is (λ quarter arc. refl) (λ quarter arc. refl) (λ border. refl) refl
-others setup graph events (event.Leg contract leg) hour flows fit fits is leaves = untouched-stands setup graph events (event.Leg contract leg) hour flows fit fits is leaves
-others setup graph events (event.BlockLeg first last leg) hour flows fit fits is leaves = untouched-stands setup graph events (event.BlockLeg first last leg) hour flows fit fits is leaves
-others setup graph events (event.Granted arc first last lots) hour flows fit fits is leaves = untouched-stands setup graph events (event.Granted arc first last lots) hour flows fit fits is leaves
-others setup graph events (event.Offered arc first last lots) hour flows fit fits is leaves = untouched-stands setup graph events (event.Offered arc first last lots) hour flows fit fits is leaves
-others setup graph events (event.Halted border first last) hour flows fit fits is leaves = untouched-stands setup graph events (event.Halted border first last) hour flows fit fits is leaves
-others setup graph events (event.Resumed border first last) hour flows fit fits is leaves = untouched-stands setup graph events (event.Resumed border first last) hour flows fit fits is leaves
-others setup graph events (event.Gated gated moved) hour flows fit fits is leaves = untouched-stands setup graph events (event.Gated gated moved) hour flows fit fits is leaves
+others setup graph events (event.Leg contract leg) hour flows fit fits is leaves =
+    untouched-stands setup graph events (event.Leg contract leg) hour flows fit fits is leaves
+others setup graph events (event.BlockLeg first last leg) hour flows fit fits is leaves =
+    untouched-stands setup graph events (event.BlockLeg first last leg) hour flows fit fits is leaves
+others setup graph events (event.Granted arc first last lots) hour flows fit fits is leaves =
+    untouched-stands setup graph events (event.Granted arc first last lots) hour flows fit fits is leaves
+others setup graph events (event.Offered arc first last lots) hour flows fit fits is leaves =
+    untouched-stands setup graph events (event.Offered arc first last lots) hour flows fit fits is leaves
+others setup graph events (event.Halted border first last) hour flows fit fits is leaves =
+    untouched-stands setup graph events (event.Halted border first last) hour flows fit fits is leaves
+others setup graph events (event.Resumed border first last) hour flows fit fits is leaves =
+    untouched-stands setup graph events (event.Resumed border first last) hour flows fit fits is leaves
+others setup graph events (event.Gated gated moved) hour flows fit fits is leaves =
+    untouched-stands setup graph events (event.Gated gated moved) hour flows fit fits is leaves

@@ -1,12 +1,10 @@
 -- The flows of an hour after what happens in quarters and hours of a range, and before any event.
-use Rattle.std.proofs.Common.{◌≡◌, ◌∙◌, ◌<◌, ◌==◌, ◌&&◌, ℕ, ℤ, Bool, true, false, List, [], Some, None, unwrap_or, nat_le, if◌then◌else◌, refl, sym, ap}
+use Rattle.std.proofs.Common.{◌≡◌, ◌∙◌, ◌==◌, ◌&&◌, ℕ, Bool, true, false, Some, None, unwrap_or, nat_le, if◌then◌else◌, refl, sym, ap}
 use Rattle.order_kinds.specs.declared.contract.Part.TheVariants as part
-use Rattle.order_kinds.specs.declared.contract.Quarter.{Quarter}
 use Rattle.order_kinds.specs.Contract.{covers}
 use Rattle.order_kinds.specs.Period.{EachQuarter, block_has, is_quarter, quarter_of, range_has}
 use Rattle.zone_graph.specs.Pour.{opposite_arc, same_arc, uses}
 use Rattle.zone_graph.proofs.Arcs.{eqb-symm}
-use Rattle.market_model.specs.declared.event.Event.{Event}
 use Rattle.market_model.specs.declared.event.Event.TheVariants as event
 use Rattle.flow_netting.specs.Flows as kept
 use Rattle.flow_netting.specs.QuarterSet.{has}

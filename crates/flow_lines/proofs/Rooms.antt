@@ -1,5 +1,5 @@
 -- The rooms of flows that stand for a list of events.
-use Rattle.std.proofs.Common.{◌≡◌, ◌∙◌, ◌-◌, ◌*◌, ◌≤◌, ◌&&◌, not, ℕ, zero, suc, Bool, true, List, [], ◌∷◌, filter, map, min, nat_le, if◌then◌else◌, ℤ, refl, ap, ap₂, arith}
+use Rattle.std.proofs.Common.{◌≡◌, ◌∙◌, ◌-◌, ◌*◌, ◌&&◌, not, ℕ, zero, suc, Bool, true, List, [], ◌∷◌, filter, map, min, nat_le, if◌then◌else◌, ℤ, refl, ap, ap₂, arith}
 use Rattle.std.proofs.lemmas.Bool.{leb-true, and_parts}
 use Rattle.order_kinds.specs.declared.contract.Part.{Part}
 use Rattle.order_kinds.specs.declared.contract.Part.TheVariants as part

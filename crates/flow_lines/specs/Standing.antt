@@ -38,7 +38,8 @@ pub record IsIdle (graph : Graph) (flows : Flows) : Type 0 where
 
 -- some arcs carry so many more lots in the quarters that count, and nothing else changed
 pub record IsCarried (carries : Arc → Bool) (counts : (number : ℕ) → Bool) (lots : ℕ) (old new : Flows) : Type 0 where
-  pub flows : InEachQuarter (λ arc number. kept.flow_of new arc number ≡ (if counts number then kept.flow_of old arc number +ℤ added_by carries lots arc else kept.flow_of old arc number))
+  pub flows : InEachQuarter (λ arc number. kept.flow_of new arc number
+      ≡ (if counts number then kept.flow_of old arc number +ℤ added_by carries lots arc else kept.flow_of old arc number))
   pub offers : SameOffers old.borders new.borders
   pub halts : SameHalts old.borders new.borders
   pub phase : new.phase ≡ old.phase
@@ -46,7 +47,8 @@ pub record IsCarried (carries : Arc → Bool) (counts : (number : ℕ) → Bool)
 
 -- so many lots are offered on an arc in the quarters that count, and nothing else changed
 pub record IsOffered (arc : Arc) (counts : (number : ℕ) → Bool) (lots : ℕ) (old new : Flows) : Type 0 where
-  pub offers : InEachQuarter (λ other number. kept.offered_of new other number ≡ (if same_arc arc other && counts number then lots else kept.offered_of old other number))
+  pub offers : InEachQuarter (λ other number. kept.offered_of new other number
+      ≡ (if same_arc arc other && counts number then lots else kept.offered_of old other number))
   pub flows : SameFlows old.borders new.borders
   pub halts : SameHalts old.borders new.borders
   pub phase : new.phase ≡ old.phase
