@@ -1,16 +1,16 @@
 //! Searches that are asked for many routes, on small grids.
 
 ghost use Rattle.std.specs.Prelude.{◌≡◌, length};
-ghost use Rattle.zone_graph.specs.Graph.{border_count};
+ghost use Rattle.zone_graph.specs.Graph.{border_count, zone_count};
 
 use crate::{diamond, ring_of_twelve, rooms_of};
 use route_choice::{RouteSearch, best_route};
 use std::alloc::Global;
 use std::test::Fail;
-use zone_graph::{Arc, Grid, Rooms, Route};
+use zone_graph::{Arc, Grid, Rooms};
 
 // Whether a search for the routes to a zone, or from it, answers the best route between it and
-// another zone.
+// another zone, and tells whether there is one.
 fn answers_the_best(
     alloc: Global,
     grid: &Grid,
@@ -24,55 +24,48 @@ fn answers_the_best(
     if from >= grid.zones() || to >= grid.zones() {
         return Ok(false);
     }
+    let best = best_route(alloc, grid, rooms, from, to)?;
     let (zone, other) = if towards { (to, from) } else { (from, to) };
     let search = RouteSearch::new(grid, rooms, zone, towards);
-    let is_reached = search.reaches(other);
     let found = search.route(alloc, grid, rooms, other)?;
-    Ok(match (found, best_route(alloc, grid, rooms, from, to)?) {
-        (Some(route), Some(best)) => is_reached && route.as_slice() == best.as_slice(),
-        (None, None) => !is_reached,
-        _ => false,
-    })
+    Ok(found == best && search.reaches(other) == best.is_some())
 }
 
-// The route that a search answers over rooms, and whether the search is fresh over later ones.
-fn route_and_freshness(
+// The way over the lesser borders of the diamond, from its first zone to its last.
+fn lesser_way() -> [Arc; 2] {
+    [Arc::over(0, true), Arc::over(2, true)]
+}
+
+// Whether a search over the diamond answers that way.
+fn answers_the_lesser_way(
     alloc: Global,
     grid: &Grid,
-    rooms: (&Rooms, &Rooms),
-    ends: (u32, u32),
+    rooms: &Rooms,
     towards: bool,
-) -> Result<(Route, bool), Fail>
-    requires before { length rooms.0.now ≡ border_count grid.now }
-    requires after { length rooms.1.now ≡ border_count grid.now }
+) -> Result<bool, Fail>
+    requires zones { zone_count grid.now ≡ 4 }
+    requires size { length rooms.now ≡ border_count grid.now }
 {
-    let (from, to) = ends;
-    if from >= grid.zones() || to >= grid.zones() {
-        return Err(Fail::from("no zone"));
+    let (zone, other) = if towards { (3, 0) } else { (0, 3) };
+    let search = RouteSearch::new(grid, rooms, zone, towards);
+    match search.route(alloc, grid, rooms, other)? {
+        Some(route) => Ok(route.as_slice() == lesser_way().as_slice()),
+        None => Ok(false),
     }
-    let (before, after) = rooms;
-    let (zone, other) = if towards { (to, from) } else { (from, to) };
-    let search = RouteSearch::new(grid, before, zone, towards);
-    let Some(route) = search.route(alloc, grid, before, other)? else {
-        return Err(Fail::from("no route"));
-    };
-    let is_fresh = search.is_fresh_after(after, route.as_slice());
-    Ok((route, is_fresh))
 }
 
-// Whether a search over the diamond answers the way over the lesser borders, and whether it is fresh over
-// later rooms.
-fn lesser_way_and_freshness(
-    alloc: Global,
-    grid: &Grid,
-    later: &[(u32, u32)],
-    towards: bool,
-) -> Result<(bool, bool), Fail> {
-    let before = rooms_of(grid, &[(7, 0); 4])?;
+// Whether a search over the diamond that was made over some rooms is fresh over later ones after a leg
+// over its first arc and its third one.
+fn is_fresh_over(grid: &Grid, before: &Rooms, later: &[(u32, u32)]) -> Result<bool, Fail>
+    requires zones { zone_count grid.now ≡ 4 }
+    requires borders { border_count grid.now ≡ 4 }
+    requires size { length before.now ≡ border_count grid.now }
+{
     let after = rooms_of(grid, later)?;
-    let (route, is_fresh) = route_and_freshness(alloc, grid, (&before, &after), (0, 3), towards)?;
-    let there = [Arc::over(0, true), Arc::over(2, true)];
-    Ok((route.as_slice() == there.as_slice(), is_fresh))
+    let search = RouteSearch::new(grid, before, 3, true);
+    let is_first_left = search.is_fresh_after(&after, &[Arc::over(0, true)]);
+    let is_third_left = search.is_fresh_after(&after, &[Arc::over(2, true)]);
+    Ok(is_first_left && is_third_left)
 }
 
 #[test]
@@ -81,12 +74,12 @@ fn of_two_equal_ways_a_search_answers_that_of_the_lesser_border(
 ) -> Result<(), Fail> {
     let alloc = rt.alloc();
     let grid = diamond(alloc)?;
-    let some_left = [(1, 6), (7, 0), (1, 6), (7, 0)];
-    let none_left = [(1, 6), (7, 0), (0, 7), (7, 0)];
-    for (later, towards, want) in [(some_left, false, true), (none_left, true, false)] {
-        let found = lesser_way_and_freshness(alloc, &grid, &later, towards)?;
-        assert_eq!(rt; found, (true, want));
+    let before = rooms_of(&grid, &[(7, 0); 4])?;
+    for towards in [true, false] {
+        assert!(rt; answers_the_lesser_way(alloc, &grid, &before, towards)?);
     }
+    assert!(rt; is_fresh_over(&grid, &before, &[(1, 6), (7, 0), (1, 6), (7, 0)])?);
+    assert!(rt; !is_fresh_over(&grid, &before, &[(1, 6), (7, 0), (0, 7), (7, 0)])?);
     Ok(())
 }
 
