@@ -51,11 +51,11 @@ PROGRAM
 cat >"$crate/src/orders.rt" <<'PROGRAM'
 //! Calls of a book of orders.
 
-ghost use Rattle.std.specs.Prelude.{◌≡◌, ◌≤◌};
+ghost use Rattle.std.specs.Prelude.{◌≡◌, ◌<◌, ◌≤◌, ◌≤ℤ◌, pos, negsuc};
 ghost use Rattle.contract_book.specs.Book.{parts_of};
 ghost use Rattle.contract_book.specs.Resting.{IsSound};
 
-use contract_book::{ContractBook, Resting};
+use contract_book::{ContractBook, Ice, Resting};
 use order_kinds::{Price, Side};
 use std::alloc::Global;
 use std::test::Fail;
@@ -71,6 +71,7 @@ enum Call {
     Fill,
     Renew,
     Emptied,
+    NewPeak,
     Middle,
     Copy,
 }
@@ -85,6 +86,7 @@ fn call_of(word: &str) -> Call {
         "fill" => Call::Fill,
         "renew" => Call::Renew,
         "emptied" => Call::Emptied,
+        "new_peak" => Call::NewPeak,
         "middle" => Call::Middle,
         "copy" => Call::Copy,
         _ => Call::Nothing,
@@ -94,7 +96,9 @@ fn call_of(word: &str) -> Call {
 // An order of so many lots: sells and buys by turns.
 fn order(number: u32, left: u32, moment: u32) -> Resting
     requires { 1 ≤ left }
-    ensures { IsSound result }
+    ensures left { result.left ≡ left }
+    ensures price { result.price.0 ≡ pos 4000 }
+    ensures sound { IsSound result }
 {
     Resting {
         number,
@@ -106,6 +110,27 @@ fn order(number: u32, left: u32, moment: u32) -> Resting
         shown: left,
         moment: u64::from(moment),
         ice: None,
+    }
+}
+
+// The order as an iceberg that shows one of its lots.
+fn iced(order: Resting) -> Resting
+    requires some { 0 < order.left }
+    requires few { order.left < 100 }
+    requires low { negsuc 9999 ≤ℤ order.price.0 }
+    requires high { order.price.0 ≤ℤ pos 10000 }
+    ensures { IsSound result }
+{
+    Resting {
+        shown: order.left.min(1),
+        ice: Some(Ice {
+            price: order.price,
+            total: order.left,
+            peak: 1,
+            delta: 0,
+            filled: 0,
+        }),
+        ..order
     }
 }
 
@@ -179,6 +204,14 @@ impl Open {
         self.fill(number, moment);
     }
 
+    // Rests an iceberg at the end of its line, fills its first peak, and withdraws what is left.
+    fn show_next_peak(&mut self, moment: u32) {
+        let number = self.resting;
+        self.rest(iced(order(number, 2, moment)));
+        self.fill(number, moment);
+        let _ = self.book.withdraw(number);
+    }
+
     // Rests an order in the middle of its line, and withdraws it.
     fn visit_middle(&mut self) {
         let number = self.resting;
@@ -198,6 +231,7 @@ impl Open {
             Call::Fill => self.fill(number, moment),
             Call::Renew => self.renew(number, moment),
             Call::Emptied => self.empty(moment),
+            Call::NewPeak => self.show_next_peak(moment),
             Call::Middle => self.visit_middle(),
             Call::Copy => return Ok(self.book.copy()?.len()),
         }
@@ -415,6 +449,7 @@ row 'orders: reduce' orders:reduce get
 row 'orders: fill that empties nothing' orders:fill get
 row 'orders: withdraw, and rest at the end' orders:renew get_none
 row 'orders: rest at the end, and fill of all of it' orders:emptied get_none get
+row 'orders: rest at the end, fill of a peak, withdraw' orders:new_peak get_none get
 row 'orders: rest in the middle, and withdraw' orders:middle get_none
 row 'orders: copy' orders:copy
 row 'blocks: get' blocks:get
