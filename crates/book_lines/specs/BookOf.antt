@@ -43,12 +43,6 @@ resting_of standing = record {
 abbrev pub contract_of : (hour : ℕ) → Part → Contract
 contract_of hour part = record { hour = hour; part = part }
 
--- the number of a part of the hour: the hour has 0, its quarters 1 to 4, its halves 5 and 6
-abbrev pub part_number : Part → ℕ
-part_number part.Hour = 0
-part_number (part.Quarter number) = number
-part_number (part.Half number) = 4 + number
-
 -- the parts of an hour in the order of their numbers
 abbrev pub numbered_parts : List Part
 numbered_parts =

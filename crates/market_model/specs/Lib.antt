@@ -1,4 +1,5 @@
 pub mod Blocks
+pub mod Board
 pub mod Capacity
 pub mod Certificate
 pub mod Command

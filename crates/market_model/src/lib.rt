@@ -5,6 +5,7 @@
 //! of their declaration, hours from 1 through the delivery day.
 #![tactic(auto)]
 
+mod board;
 mod command;
 mod copying;
 mod early_rules;
@@ -17,6 +18,7 @@ mod setup;
 mod touched_hours;
 mod who;
 
+pub use board::{Board, Shown};
 pub use command::{Command, Commands, Orders};
 pub use early_rules::refuse_early;
 pub use entry::{Entries, Entry};

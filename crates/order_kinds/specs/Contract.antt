@@ -1,5 +1,5 @@
 -- Contracts: the quarters of a part of an hour, which parts there are, and how they are printed.
-use Rattle.std.specs.Prelude.{ℕ, ◌-◌, ◌*◌, Bool, true, ◌&&◌, ◌==◌, List, [], ◌∷◌, ◌++◌, nat_le, decimal, codes}
+use Rattle.std.specs.Prelude.{ℕ, ◌+◌, ◌-◌, ◌*◌, Bool, true, ◌&&◌, ◌==◌, List, [], ◌∷◌, ◌++◌, nat_le, decimal, codes, if◌then◌else◌}
 use Rattle.std.specs.List.{list_any}
 use Rattle.order_kinds.specs.declared.contract.Part.{Part}
 use Rattle.order_kinds.specs.declared.contract.Part.TheVariants as part
@@ -22,6 +22,23 @@ abbrev pub is_known : Part → Bool
 is_known part.Hour = true
 is_known (part.Quarter number) = nat_le 1 number && nat_le number 4
 is_known (part.Half number) = nat_le 1 number && nat_le number 2
+
+-- the number of a part of the hour: the hour has 0, its quarters 1 to 4, its halves 5 and 6
+abbrev pub part_number : Part → ℕ
+part_number part.Hour = 0
+part_number (part.Quarter number) = number
+part_number (part.Half number) = 4 + number
+
+-- the part of an hour that has this number
+abbrev pub part_at : ℕ → Part
+part_at number =
+    if number == 0 then part.Hour
+    else if nat_le number 4 then part.Quarter number
+    else part.Half (number - 4)
+
+-- the contract of the part of this number
+abbrev pub contract_at : (hour number : ℕ) → Contract
+contract_at hour number = record { hour = hour; part = part_at number }
 
 -- an hour: `h` and its number
 abbrev pub hour_text : ℕ → List ℕ
