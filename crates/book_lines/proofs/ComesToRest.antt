@@ -11,7 +11,7 @@ use Rattle.order_kinds.specs.declared.order.OrderName.{OrderName}
 use Rattle.order_kinds.specs.declared.price.Price.{Price}
 use Rattle.order_kinds.specs.declared.side.Side.{Side}
 use Rattle.order_kinds.specs.declared.side.Side.TheVariants.{Buy, Sell}
-use Rattle.order_kinds.specs.Contract.{is_known}
+use Rattle.order_kinds.specs.Contract.{is_known, part_number}
 use Rattle.order_kinds.specs.Same.{same_part, same_side}
 use Rattle.iceberg_peak.specs.Peak.{showing_price}
 use Rattle.zone_graph.specs.InOrder.{put_in_order}
@@ -38,7 +38,7 @@ use Rattle.market_laws.proofs.States.{entered-more, filled-more, taken_off-more}
 use Rattle.market_laws.proofs.Tests.{same_name-refl, same_part-eq, same_side-eq}
 use Rattle.market_laws.proofs.Wholes.{new-untouched, other_name}
 use Rattle.market_locality.proofs.Moments.{moment-more}
-use Rattle.book_lines.specs.BookOf.{book_of, contract_of, entered_resting, next_moment, part_number, resting_line, resting_of}
+use Rattle.book_lines.specs.BookOf.{book_of, contract_of, entered_resting, next_moment, resting_line, resting_of}
 use Rattle.book_lines.proofs.Elsewhere.{named}
 use Rattle.book_lines.proofs.LineOrders.{StandsIn, entered-other, from_resting, in_resting, resting-apart, resting-strict, resting_weak, same_names}
 use Rattle.book_lines.proofs.PartLines.{book_by-same, line_put, with_order-by}

@@ -5,7 +5,7 @@ use Rattle.order_kinds.specs.declared.contract.Part.{Part}
 use Rattle.order_kinds.specs.declared.contract.Part.TheVariants as part
 use Rattle.order_kinds.specs.declared.side.Side.{Side}
 use Rattle.order_kinds.specs.declared.side.Side.TheVariants.{Buy, Sell}
-use Rattle.order_kinds.specs.Contract.{is_known}
+use Rattle.order_kinds.specs.Contract.{is_known, part_number}
 use Rattle.order_kinds.specs.Same.{same_part, same_side}
 use Rattle.zone_graph.specs.InOrder.{put_in_order}
 use Rattle.zone_graph.specs.Route.{IsIn}
@@ -15,7 +15,7 @@ use Rattle.contract_book.specs.Book.{has_number, line_of, order_of, parts_of, wi
 use Rattle.contract_book.specs.Resting.{resting_cmp}
 use Rattle.contract_book.proofs.BookShapes.{find-only, has-number}
 use Rattle.market_model.specs.declared.event.Event.{Event}
-use Rattle.book_lines.specs.BookOf.{book_by, book_of, contract_of, numbered_parts, part_number, resting_line}
+use Rattle.book_lines.specs.BookOf.{book_by, book_of, contract_of, numbered_parts, resting_line}
 
 -- the parts that an hour has are the seven
 pub known-in : (part : Part) → is_known part ≡ true → IsIn part numbered_parts

@@ -11,7 +11,7 @@ use Rattle.order_kinds.specs.declared.contract.Part.TheVariants as part
 use Rattle.order_kinds.specs.declared.order.OrderName.{OrderName}
 use Rattle.order_kinds.specs.declared.side.Side.{Side}
 use Rattle.order_kinds.specs.declared.side.Side.TheVariants.{Buy, Sell}
-use Rattle.order_kinds.specs.Contract.{is_known}
+use Rattle.order_kinds.specs.Contract.{is_known, part_number}
 use Rattle.zone_graph.specs.InOrder.{IsStrictlyInOrder}
 use Rattle.zone_graph.specs.Route.{AreDifferent, IsIn}
 use Rattle.zone_graph.proofs.Membership.{IsIn-append, IsIn-filter, IsIn-map, from_flat_map, from_map}
@@ -28,7 +28,7 @@ use Rattle.market_model.specs.WellFormed.{FitAfter}
 use Rattle.market_laws.proofs.Members.{IsIn-filter_map, from_filter_map}
 use Rattle.market_laws.proofs.Names.{names-once}
 use Rattle.market_laws.proofs.Unique.{one_order}
-use Rattle.book_lines.specs.BookOf.{book_by, book_of, contract_of, numbered_parts, part_number, resting_line, resting_of}
+use Rattle.book_lines.specs.BookOf.{book_by, book_of, contract_of, numbered_parts, resting_line, resting_of}
 use Rattle.book_lines.proofs.ChangedOrders.{hour_of}
 use Rattle.book_lines.proofs.LineOrders.{from_resting, resting-strict, resting_weak, same_names}
 use Rattle.book_lines.proofs.PartLines.{from_book, line_of-by}

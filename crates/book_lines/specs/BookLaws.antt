@@ -7,7 +7,7 @@ use Rattle.order_kinds.specs.declared.order.OrderName.{OrderName}
 use Rattle.order_kinds.specs.declared.contract.Contract.{Contract}
 use Rattle.order_kinds.specs.declared.contract.Part.{Part}
 use Rattle.order_kinds.specs.declared.side.Side.{Side}
-use Rattle.order_kinds.specs.Contract.{is_known}
+use Rattle.order_kinds.specs.Contract.{is_known, part_number}
 use Rattle.zone_graph.specs.Route.{IsIn}
 use Rattle.contract_book.specs.Book.{IsBook, filled, line_of, order_count, order_of, parts_of, reduced, with_order, without}
 use Rattle.market_model.specs.declared.event.Event.{Event}
@@ -21,7 +21,7 @@ use Rattle.market_model.specs.Orders.{PlacedBlock, blocks_placed, open_names}
 use Rattle.market_model.specs.Refusals.{desk_room}
 use Rattle.market_model.specs.Taking.{standing_order}
 use Rattle.market_model.specs.WellFormed.{FitAfter, Fits, IsMarketSetup}
-use Rattle.book_lines.specs.BookOf.{book_of, contract_of, entered_resting, next_moment, part_number, resting_of}
+use Rattle.book_lines.specs.BookOf.{book_of, contract_of, entered_resting, next_moment, resting_of}
 
 -- the book of an hour has seven parts, and as the line of each part and side that of its contract
 abbrev pub BooksAreTheirLines : Type 0

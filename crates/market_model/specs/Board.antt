@@ -16,7 +16,7 @@ use Rattle.market_model.specs.History.{and_then, of_hour}
 use Rattle.market_model.specs.Lines.{line}
 use Rattle.market_model.specs.Orders.{Standing, open_names}
 use Rattle.market_model.specs.Refusals.{desk_room}
-use Rattle.market_model.specs.WellFormed.{IsHistory, IsMarketSetup, LegFits}
+use Rattle.market_model.specs.WellFormed.{FitAfter, IsMarketSetup, LegFits}
 
 -- what a board stands for: the grid, the hour, how many of its parts there are, the hour's events,
 -- and the number of the order in hand
@@ -27,13 +27,14 @@ pub record BoardState : Type 0 where
   pub events : List Event
   pub hand : Option ℕ
 
--- the events are those of the hour of some well-formed history over a grid
+-- the events are those of the hour of some history over a grid, each event of which fits those
+-- before it
 pub record IsHourOf (graph : Graph) (hour : ℕ) (events : List Event) : Type 0 where
   pub setup : Setup
   pub history : List Event
   pub over_grid : graph_of setup ≡ graph
   pub is_setup : IsMarketSetup setup
-  pub is_history : IsHistory setup history
+  pub fit : FitAfter setup [] history
   pub in_hour : of_hour hour history ≡ events
 
 -- an order or block is the one in hand
@@ -45,8 +46,7 @@ is_in_hand (Some number) name = name.number == number
 abbrev pub resting_names : BoardState → List OrderName
 resting_names board = filter (λ name. not (is_in_hand board.hand name)) (open_names board.events board.hour)
 
--- what every board keeps: it stands for an hour of a well-formed history, and no more rest than an
--- hour has room for
+-- what every board keeps: it stands for an hour of a history, and no more rest than an hour has room for
 pub record IsBoard (board : BoardState) : Type 0 where
   pub stands : IsHourOf board.grid board.hour board.events
   pub few : length (resting_names board) ≤ desk_room
