@@ -1,6 +1,6 @@
 -- The walk along the buys of a period: each so far has no partner, and the next one is tried.
-use Rattle.std.proofs.Common.{◌≡◌, ◌∙◌, ◌<◌, ℕ, ◌==◌, ◌&&◌, Bool, true, false, List, [], ◌∷◌, length, Option, Some, None, IfSome, IsSome, if◌then◌else◌, refl, sym, ap, subst, eqb-true}
-use Rattle.std.proofs.lemmas.Bool.{and_parts, true≢false}
+use Rattle.std.proofs.Common.{◌≡◌, ◌∙◌, ◌<◌, ℕ, ◌==◌, ◌&&◌, Bool, true, false, List, ◌∷◌, length, Option, Some, None, IfSome, IsSome, if◌then◌else◌, refl, sym, ap, subst, eqb-true}
+use Rattle.std.proofs.lemmas.Bool.{true≢false}
 use Rattle.std.specs.Option.{option_map}
 use Rattle.order_kinds.specs.declared.side.Side.{Side}
 use Rattle.order_kinds.specs.declared.side.Side.TheVariants.{Buy, Sell}
@@ -13,7 +13,6 @@ use Rattle.zone_graph.proofs.Finding.{from_find, map-none}
 use Rattle.block_book.specs.declared.block.RestingBlock.{RestingBlock}
 use Rattle.block_book.specs.Book.{IsBook, after_in, block_of, first_of, line_of}
 use Rattle.market_model.specs.Sweep.{first_answer, or_else}
-use Rattle.block_match.specs.declared.deal.BlockDeal.{BlockDeal}
 use Rattle.block_match.specs.declared.partner.Partner.{Partner}
 use Rattle.block_match.specs.Deals.{deal_of_buy, is_earlier, partner_of, resting_deal}
 use Rattle.block_match.specs.Meeting.{HaveZones, can_trade, carries_whole, is_crossed, legs_between}

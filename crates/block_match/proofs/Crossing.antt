@@ -1,5 +1,5 @@
 -- The blocks that a price crosses stand at the front of their line.
-use Rattle.std.proofs.Common.{◌≡◌, ◌∙◌, ℤ, ◌≤ℤ◌, ◌<ℤ◌, ℕ, Bool, true, false, cond, List, [], ◌∷◌, filter, Option, Some, None, int_le, int_cmp, is_lt, Ordering, if◌then◌else◌, refl, sym, ap, subst, inl, inr, arith}
+use Rattle.std.proofs.Common.{◌≡◌, ◌∙◌, ℤ, ◌≤ℤ◌, ◌<ℤ◌, ℕ, Bool, true, false, cond, List, [], ◌∷◌, filter, Some, None, int_le, int_cmp, is_lt, Ordering, if◌then◌else◌, refl, sym, ap, inl, inr, arith}
 use Rattle.std.proofs.lemmas.Bool.{true≢false}
 use Rattle.std.proofs.lemmas.Int.{ints}
 use Rattle.std.specs.Cmp.{int_ranks}

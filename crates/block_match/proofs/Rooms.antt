@@ -1,24 +1,12 @@
--- Rooms that are set afresh, and how much a pour carries at the most.
-use Rattle.std.proofs.Common.{◌≡◌, ◌∙◌, ℕ, ◌+◌, ◌-◌, ◌<◌, ◌≤◌, true, false, List, [], ◌∷◌, get_or, length, refl, sym, ap, subst, arith}
-use Rattle.std.proofs.lemmas.List.{ext_get_or}
+-- How much a pour carries at the most.
+use Rattle.std.proofs.Common.{ℕ, ◌-◌, ◌≤◌, List, [], ◌∷◌, arith}
 use Rattle.std.proofs.lemmas.List.Sums.{sum_by-cons}
 use Rattle.zone_graph.specs.declared.route.Arc.{Arc}
 use Rattle.zone_graph.specs.declared.route.RouteLeg.{RouteLeg}
 use Rattle.zone_graph.specs.Graph.{Graph, IsGraph}
 use Rattle.zone_graph.specs.Pour.{pour, room_after}
-use Rattle.zone_graph.specs.Rooms.{room_of}
 use Rattle.route_choice.specs.Poured.{lots_of}
 use Rattle.route_choice.proofs.Pours.{Poured, pour-run, pour_leg-is}
-
--- rooms that are the same arc by arc are the same list
-pub rooms-same : (ours given : List (ℕ × ℕ)) → length ours ≡ length given → ((arc : Arc) → arc.border < length ours → room_of ours arc ≡ room_of given arc) → ours ≡ given
-rooms-same ours given size same = ext_get_or (0, 0) ours given size pair
-  where
-    pair : (border : ℕ) → border < length ours → get_or ours border (0, 0) ≡ get_or given border (0, 0)
-    pair border within =
-        let forward = same (record { border = border; forward = true }) within in
-        let backward = same (record { border = border; forward = false }) within in
-        λ i. (forward i, backward i)
 
 -- the legs of a run of a pour carry no more than was left
 run-within : (graph : Graph) (from to : ℕ) (room : Arc → ℕ) (left : ℕ) (legs : List RouteLeg) → IsGraph graph → Poured graph from to room left legs → lots_of legs ≤ left

@@ -1,14 +1,12 @@
 -- The walk that seeks the partner of a block: each block so far was none, and the next one is tried.
-use Rattle.std.proofs.Common.{◌≡◌, ◌∙◌, ◌<◌, ℕ, Bool, true, false, List, [], ◌∷◌, length, find, Option, Some, None, if◌then◌else◌, refl, sym, ap}
+use Rattle.std.proofs.Common.{◌≡◌, ◌∙◌, ◌<◌, ℕ, Bool, true, false, List, ◌∷◌, length, find, Option, Some, None, if◌then◌else◌, refl, sym, ap}
 use Rattle.std.specs.Option.{option_map}
-use Rattle.order_kinds.specs.Side.{opposite}
 use Rattle.zone_graph.specs.declared.route.Arc.{Arc}
 use Rattle.zone_graph.specs.declared.route.RouteLeg.{RouteLeg}
 use Rattle.zone_graph.specs.Graph.{Graph, HasZone}
 use Rattle.zone_graph.specs.Route.{IsIn}
 use Rattle.block_book.specs.declared.block.RestingBlock.{RestingBlock}
 use Rattle.block_book.specs.Book.{IsBook, after_in, block_of, first_of}
-use Rattle.block_match.specs.Deals.{partner_of}
 use Rattle.block_match.specs.Meeting.{HaveZones, carries_whole, legs_between, legs_if_whole}
 use Rattle.block_match.specs.Walking.{crossed_line, from_block, if_crossed, opposite_line, partner_with_legs, with_legs}
 use Rattle.block_match.proofs.Crossing.{crossed-after, crossed-first}

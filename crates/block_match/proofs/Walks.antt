@@ -1,7 +1,7 @@
 -- A line of blocks whose numbers differ, walked from each block to the one behind it.
-use Rattle.std.proofs.Common.{◌≡◌, ◌≢◌, ◌∙◌, ◌⊎◌, inl, inr, ℕ, suc, ◌<◌, Bool, true, false, List, [], ◌∷◌, ◌++◌, append_assoc, length, Option, Some, None, refl, sym, ap, subst, arith}
+use Rattle.std.proofs.Common.{◌≡◌, ◌≢◌, ◌∙◌, inl, inr, ℕ, suc, ◌<◌, Bool, true, false, List, [], ◌∷◌, ◌++◌, append_assoc, length, Option, Some, refl, sym, ap, subst, arith}
 use Rattle.zone_graph.specs.Route.{IsIn}
-use Rattle.zone_graph.proofs.Membership.{IsIn-append, IsIn-right}
+use Rattle.zone_graph.proofs.Membership.{IsIn-right}
 use Rattle.block_book.specs.declared.block.RestingBlock.{RestingBlock}
 use Rattle.block_book.specs.Book.{after_in, first_of, has_number}
 use Rattle.block_book.proofs.Lists.{Differ, after-through, has-number, has_not-number}

@@ -1,5 +1,5 @@
 -- The deals of blocks of a book, within the rooms of a period.
-use Rattle.std.specs.Prelude.{◌≡◌, ℕ, Bool, List, Option, if◌then◌else◌}
+use Rattle.std.specs.Prelude.{ℕ, Bool, List, Option, if◌then◌else◌}
 use Rattle.std.specs.List.{find}
 use Rattle.std.specs.Option.{option_map}
 use Rattle.std.specs.Ordering.{is_lt, nat_cmp, ordering_then}

@@ -1,7 +1,6 @@
 -- How a partner is sought: along the line of the block's own quantity, as far as prices cross. No
 -- public clause cites this module.
-use Rattle.std.specs.Prelude.{ℕ, Bool, List, [], ◌∷◌, filter, Option, Some, None, if◌then◌else◌}
-use Rattle.std.specs.List.{find}
+use Rattle.std.specs.Prelude.{ℕ, List, [], ◌∷◌, filter, Option, Some, None, if◌then◌else◌}
 use Rattle.std.specs.Option.{option_map}
 use Rattle.order_kinds.specs.Side.{opposite}
 use Rattle.zone_graph.specs.declared.route.Arc.{Arc}

@@ -41,9 +41,11 @@ pub(crate) fn pour_whole(
         Some(rooms) => rooms,
         None => Rooms::new(grid)?,
     };
-    set_afresh(grid, &mut copy, rooms);
+    copy.copy_from(rooms);
     let seller = seller_zone(own, other);
     let buyer = buyer_zone(own, other);
+    let zones = grid.zones();
+    prove!(seller < zones);
     let legs = pour(alloc, grid, &mut copy, seller, buyer, own.quantity)?;
     *scratch = Some(copy);
     if lots_of(legs.as_slice()) == own.quantity {
@@ -83,29 +85,4 @@ fn lots_of(legs: &[RouteLeg]) -> u32
         lots += leg.lots;
     }
     lots
-}
-
-// Gives each arc the room that it has in other rooms.
-fn set_afresh(grid: &Grid, rooms: &mut Rooms, given: &Rooms)
-    requires size { length rooms.old ≡ border_count grid.now }
-    requires given { length given.now ≡ border_count grid.now }
-    ensures same { rooms.new ≡ given.now }
-    ensures grid { IsGrid grid.now }
-{
-    for border in 0..grid.borders() {
-        copy_border(rooms, given, border);
-    }
-}
-
-// Gives the two arcs of a border the rooms that they have in other rooms. All others keep theirs.
-fn copy_border(rooms: &mut Rooms, given: &Rooms, border: u32)
-    requires border { border < length rooms.old }
-    requires size { length rooms.old ≡ length given.now }
-    ensures size { length rooms.new ≡ length rooms.old }
-    ensures rooms { (arc : Arc) → room_of rooms.new arc ≡ (if arc.border == border then room_of given.now arc else room_of rooms.old arc) }
-{
-    let forward = Arc::over(border, true);
-    let backward = Arc::over(border, false);
-    rooms.set(forward, given.at(forward));
-    rooms.set(backward, given.at(backward));
 }

@@ -1,8 +1,8 @@
 -- The lines of the order book, and who trades with whom. Price then time is the public
 -- description's; ties are settled by this profile.
-use Rattle.std.specs.Prelude.{ℕ, Bool, ◌&&◌, List, [], ◌∷◌, map, filter, fold, Option, if◌then◌else◌}
+use Rattle.std.specs.Prelude.{ℕ, Bool, ◌&&◌, List, map, filter, Option}
 use Rattle.std.specs.List.{find}
-use Rattle.std.specs.Ordering.{is_lt, nat_cmp, ordering_then}
+use Rattle.std.specs.Ordering.{nat_cmp, ordering_then}
 use Rattle.std.specs.declared.cmp.Ordering.{Ordering}
 use Rattle.order_kinds.specs.declared.contract.Contract.{Contract}
 use Rattle.order_kinds.specs.declared.side.Side.{Side}

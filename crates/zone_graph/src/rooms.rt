@@ -59,6 +59,16 @@ impl Rooms {
         }
     }
 
+    /// Gives each arc the room that it has in other rooms.
+    pub fn copy_from(&mut self, other: &Rooms)
+        requires { length self.old ≡ length other.now }
+        ensures { self.new ≡ other.now }
+    {
+        self.pairs
+            .as_mut_slice()
+            .copy_from_slice(other.pairs.as_slice());
+    }
+
     /// Gives each arc the lesser of its room here and in other rooms.
     pub fn least_with(&mut self, other: &Rooms)
         requires { length self.old ≡ length other.now }

@@ -1,4 +1,4 @@
-use Rattle.std.proofs.Common.{◌≡◌, ◌<◌, inl, inr, subst, ap, arith}
+use Rattle.std.proofs.Common.{inl, inr, subst, ap, arith}
 use Rattle.zone_graph.specs.Route.{IsIn}
 use Rattle.zone_graph.proofs.InOrder.{from_put_in_order}
 use Rattle.block_book.specs.declared.block.RestingBlock.{RestingBlock}
