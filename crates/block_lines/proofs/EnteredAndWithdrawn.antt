@@ -4,7 +4,6 @@ use Rattle.std.proofs.lemmas.Bool.{and_from, lt-ltb, ltb-true}
 use Rattle.std.proofs.lemmas.List.Sorted.{ranks_by}
 use Rattle.order_kinds.specs.declared.order.BlockOrder.{BlockOrder}
 use Rattle.order_kinds.specs.declared.order.OrderName.{OrderName}
-use Rattle.zone_graph.specs.Pour.{lots_if}
 use Rattle.zone_graph.specs.Route.{IsIn}
 use Rattle.zone_graph.proofs.InOrder.{IsIn-put_in_order, from_put_in_order, in_order-filter, in_order-put}
 use Rattle.zone_graph.proofs.Membership.{IsIn-right}
@@ -17,19 +16,19 @@ use Rattle.market_model.specs.declared.event.Event.{Event}
 use Rattle.market_model.specs.declared.event.Event.TheVariants as event
 use Rattle.market_model.specs.declared.setup.Setup.{Setup}
 use Rattle.market_model.specs.History.{and_then, of_hour}
-use Rattle.market_model.specs.Orders.{PlacedBlock, block_moment, block_placed_by, blocks_placed, is_open, left, taken_off_by}
+use Rattle.market_model.specs.Orders.{PlacedBlock, block_moment, block_placed_by, blocks_placed, is_open, left}
 use Rattle.market_model.specs.WellFormed.{FitAfter, Fits}
 use Rattle.market_laws.proofs.Members.{IsIn-filter_map}
 use Rattle.market_laws.proofs.Names.{block_name-new, names-once}
 use Rattle.market_laws.proofs.Placed.{from_picked-more}
 use Rattle.market_laws.proofs.Repeats.{fit-more}
 use Rattle.market_laws.proofs.Soundness.{block_fault-none, lots_in_range-bounds}
-use Rattle.market_laws.proofs.States.{left-more}
 use Rattle.market_laws.proofs.Tests.{same_name-refl}
 use Rattle.market_laws.proofs.Wholes.{new_block-whole, other_name}
 use Rattle.market_locality.proofs.Moments.{block_moment-more}
 use Rattle.book_lines.specs.BookOf.{next_moment}
 use Rattle.book_lines.proofs.LineOrders.{same_names}
+use Rattle.book_lines.proofs.TakenOff.{left-gone}
 use Rattle.block_lines.specs.BlocksOf.{blocks_of, entered_resting_block, resting_block, rests_from}
 use Rattle.block_lines.proofs.Elsewhere.{new-other, open-rests}
 use Rattle.block_lines.proofs.Kept.{book-by, there-after, there-before}
@@ -135,18 +134,11 @@ module _ (setup : Setup) (events : List Event) (fit : FitAfter setup [] events) 
   fit_gone : FitAfter setup [] gone
   fit_gone = fit-more setup events withdrawal fit fits
 
-  left-gone : left gone name ≡ 0
-  left-gone =
-      let less = left-more events withdrawal name refl in
-      let own : taken_off_by name withdrawal ≡ lots = ap (λ b. lots_if b lots) (same_name-refl name) in
-      let all = fits.all_left in
-      omega (arith, less, own, all)
-
   -- a block that is open after it has another name
   other-open : (block : PlacedBlock) → is_open gone block.name ≡ true → name ≢ block.name
   other-open block opened same =
       let some = ltb-true 0 (left gone block.name) opened in
-      let none : left gone block.name ≡ 0 = ap (left gone) (sym same) ∙ left-gone in
+      let none : left gone block.name ≡ 0 = ap (left gone) (sym same) ∙ left-gone setup events fit name lots fits in
       absurd (omega (arith, some, none))
 
   pub book-withdrawn : blocks_of gone name.hour ≡ without (blocks_of events name.hour) name.number

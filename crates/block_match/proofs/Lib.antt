@@ -1,4 +1,3 @@
-pub mod Rooms
 pub mod Crossing
 pub mod Walks
 pub mod Partners

@@ -37,6 +37,7 @@ use Rattle.block_match.specs.Deals.{deal_with}
 use Rattle.block_lines.specs.BlocksOf.{blocks_of, rests_from, resting_block}
 use Rattle.block_match.specs.Market.{EnteringBlocksDealAsInTheMarket, IsMarketDeal, deal_events, entered_block, rooms_over}
 use Rattle.block_match.specs.Meeting.{can_trade}
+use Rattle.block_lines.proofs.Kept.{resting-same}
 use Rattle.block_lines.proofs.MarketBooks.{book-differ, from-book, line-same, rests-named, to-book}
 use Rattle.block_match.proofs.MarketDeals.{open-deal}
 
@@ -100,19 +101,7 @@ module _ (setup : Setup) (is_setup : IsMarketSetup setup) (events : List Event) 
       ∙ ap (λ b. if b then length (of_hour first events) + 1 else block_moment events block) (other_name name block.name (other-named block i))
 
   block-stays : (block : PlacedBlock) → IsIn block (blocks_placed events) → block.name.hour ≡ first → resting_block after block ≡ resting_block events block
-  block-stays block i hour =
-      let lots = left-stays block i in
-      let moment = moment-stays block i hour in
-      λ k. record {
-        number = block.name.number;
-        caller = block.caller;
-        zone = block.order.zone;
-        side = block.order.side;
-        price = block.order.price;
-        quantity = lots k;
-        last = block.order.last;
-        moment = moment k;
-      }
+  block-stays block i hour = resting-same events after block (left-stays block i) (moment-stays block i hour)
 
   rests-stays : (block : PlacedBlock) → IsIn block (blocks_placed events) → rests_from after first block ≡ rests_from events first block
   rests-stays block i = ap (λ n. nat_lt 0 n && (block.order.first == first)) (left-stays block i)

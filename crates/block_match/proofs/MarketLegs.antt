@@ -1,37 +1,30 @@
 -- The legs of the market's pour between two open blocks are those of the pour over the rooms of the
 -- history.
-use Rattle.std.proofs.Common.{◌≡◌, ◌∙◌, ℕ, ◌+◌, ◌-◌, ◌≤◌, ◌==◌, Bool, true, false, List, [], ◌∷◌, ◌++◌, fold, map, nat_le, nat_lt, ltb-true, Some, eq-eqb, eqb-true, refl, sym, ap, subst, arith}
-use Rattle.std.proofs.Math.Path.{fun_ext}
-use Rattle.std.proofs.lemmas.Bool.{and_parts, eqb-false}
+use Rattle.std.proofs.Common.{◌≡◌, ◌∙◌, ℕ, ◌+◌, ◌-◌, ◌≤◌, ◌==◌, Bool, true, false, List, [], ◌∷◌, ◌++◌, fold, map, eq-eqb, eqb-true, refl, sym, ap, subst, arith}
+use Rattle.std.proofs.lemmas.Bool.{eqb-false}
 use Rattle.std.proofs.lemmas.List.Sums.{sum_by-cons}
 use Rattle.std.specs.Option.{option_map}
 use Rattle.zone_graph.specs.declared.route.Arc.{Arc}
 use Rattle.zone_graph.specs.declared.route.RouteLeg.{RouteLeg}
 use Rattle.zone_graph.specs.Graph.{Graph}
-use Rattle.zone_graph.specs.Pour.{pour, pour_leg, room_after}
+use Rattle.zone_graph.specs.Pour.{pour, room_after}
 use Rattle.zone_graph.specs.Route.{IsIn}
 use Rattle.zone_graph.proofs.Runs.{run-unique}
 use Rattle.market_model.specs.declared.event.Event.{Event}
-use Rattle.market_model.specs.declared.event.Leg.{Leg}
 use Rattle.market_model.specs.declared.setup.Setup.{Setup}
 use Rattle.market_model.specs.Blocks.{IsBlockPour, StandingBlock, block_buyer_zone, block_leg, block_leg_over, block_legs, block_seller_zone, carries_whole as all_carried, standing_block}
 use Rattle.market_model.specs.Grid.{graph_of}
 use Rattle.market_model.specs.History.{and_then}
 use Rattle.market_model.specs.Orders.{PlacedBlock, blocks_placed, is_open, left}
 use Rattle.market_model.specs.WellFormed.{IsHistory, IsMarketSetup}
-use Rattle.market_laws.proofs.Balances.{left-block_leg, names-taker}
-use Rattle.market_laws.proofs.BlockDeals.{pour-start}
-use Rattle.market_laws.proofs.Placed.{all_are_sound}
-use Rattle.market_laws.proofs.Pours.{ArePair, PourKeeps, made_leg, pour-leg_fits, pour-run, pour-step, pour_leg-is}
+use Rattle.market_laws.proofs.BlockSteps.{kept, step}
+use Rattle.market_laws.proofs.Pours.{ArePair, PourKeeps, pour-run}
 use Rattle.market_laws.proofs.Repeats.{fold-and_then}
-use Rattle.market_laws.proofs.Rooms.{room-block_leg}
-use Rattle.market_laws.proofs.Uses.{within_offers}
 use Rattle.route_choice.specs.Poured.{lots_of}
-use Rattle.route_choice.proofs.Pours.{Poured, pour-run as poured-run}
+use Rattle.route_choice.proofs.Pours.{Poured, pour-run as poured-run, pour-within}
 use Rattle.block_lines.specs.BlocksOf.{resting_block}
 use Rattle.block_match.specs.Market.{rooms_over}
 use Rattle.block_match.specs.Meeting.{carries_whole, legs_between}
-use Rattle.block_match.proofs.Rooms.{pour-within}
 
 -- nothing is left exactly where all is carried
 none-left : (lots most : ℕ) → lots ≤ most → ((most - lots) == 0) ≡ (lots == most)
@@ -72,38 +65,8 @@ module _ (setup : Setup) (is_setup : IsMarketSetup setup) (start : List Event) (
   abbrev over : RouteLeg → Event
   over = block_leg_over own other
 
-  -- the period is not empty
-  in_order : taker.order.first ≤ taker.order.last
-  in_order =
-      let sound = (all_are_sound setup start history.fit).blocks taker taker_in in
-      let both = and_parts (nat_lt taker.order.first taker.order.last) (nat_le (taker.order.last + 1 - taker.order.first) 24) sound.of_period in
-      let less = ltb-true taker.order.first taker.order.last both.0 in
-      omega (arith, less)
-
-  kept : PourKeeps setup start taker maker start
-  kept = pour-start setup is_setup start history taker maker is_pair (record { is_placed = taker_in; is_left = taker_open }) (record { is_placed = maker_in; is_left = maker_open })
-
-  -- what a leg of the pour does to the history
-  record IsStep (V : List Event) (leg : RouteLeg) : Type 0 where
-    is_leg : block_leg graph own other V ≡ Some (over leg)
-    keeps : PourKeeps setup start taker maker (and_then V (over leg))
-    lowered : rooms (and_then V (over leg)) ≡ room_after (rooms V) leg
-    less : left (and_then V (over leg)) taker.name ≡ left V taker.name - leg.lots
-
-  step : (V : List Event) (leg : RouteLeg) → PourKeeps setup start taker maker V → pour_leg graph (rooms V) from to (left V taker.name) ≡ Some leg → IsStep V leg
-  unfolding block_leg
-  step V leg keeps found =
-      let is_leg = pour_leg-is graph (rooms V) from to (left V taker.name) leg found in
-      let fits = pour-leg_fits setup is_setup start taker maker own other is_pair taker_in maker_in refl refl refl refl V keeps leg is_leg in
-      let here : block_leg graph own other V ≡ Some (over leg) = ap (option_map over) found in
-      let next = pour-step setup is_setup start taker maker own other is_pair taker_in maker_in refl refl refl refl V (over leg) keeps here in
-      let traded : Leg = made_leg setup is_setup start taker maker own other is_pair taker_in maker_in refl refl refl refl leg in
-      record {
-        is_leg = here;
-        keeps = next.kept;
-        lowered = fun_ext (room-block_leg V taker.order.first taker.order.last traded in_order (within_offers setup V keeps.fit) fits.some fits.carried.has_room);
-        less = left-block_leg V taker.order.first taker.order.last traded taker.name (names-taker traded);
-      }
+  begun : PourKeeps setup start taker maker start
+  begun = kept setup is_setup start history taker maker is_pair taker_in taker_open maker_in maker_open
 
   -- legs of the pour over the rooms are those of the pour between the blocks, and lower what is left
   -- of the taker by their lots
@@ -115,7 +78,7 @@ module _ (setup : Setup) (is_setup : IsMarketSetup setup) (start : List Event) (
   unfolding block_leg
   made V [] keeps poured = record { run = ap (option_map over) poured; rest = omega arith }
   made V (leg ∷ legs) keeps poured =
-      let next = step V leg keeps poured.0 in
+      let next = step setup is_setup start history taker maker is_pair taker_in taker_open maker_in maker_open V leg keeps poured.0 in
       let later : Poured graph from to (rooms (and_then V (over leg))) (left (and_then V (over leg)) taker.name) legs =
       subst (λ r. Poured graph from to r (left (and_then V (over leg)) taker.name) legs) (sym next.lowered)
       (subst (λ n. Poured graph from to (room_after (rooms V) leg) n legs) (sym next.less) poured.1) in
@@ -129,12 +92,12 @@ module _ (setup : Setup) (is_setup : IsMarketSetup setup) (start : List Event) (
   legs = pour graph (rooms start) from to (left start taker.name)
 
   all_made : IsMade start legs
-  all_made = made start legs kept (poured-run graph from to (rooms start) (left start taker.name) is_setup)
+  all_made = made start legs begun (poured-run graph from to (rooms start) (left start taker.name) is_setup)
 
   legs-made : block_legs graph own other start ≡ map over legs
   legs-made =
       run-unique (block_leg graph own other) and_then start (block_legs graph own other start) (map over legs)
-      (pour-run setup is_setup start taker maker own other is_pair taker_in maker_in refl refl refl refl start kept) all_made.run
+      (pour-run setup is_setup start taker maker own other is_pair taker_in maker_in refl refl refl refl start begun) all_made.run
 
   -- the legs between the blocks as they rest
   pub legs-are : block_legs graph own other start ≡ map over (legs_between graph (rooms start) (resting_block start taker) (resting_block start maker))

@@ -63,7 +63,8 @@ module _ (setup : Setup) (events : List Event) (fit : FitAfter setup [] events) 
     abbrev gone : Change
     gone = record { number = name.number; next = None }
 
-    left-gone : left (and_then events withdrawal) name ≡ 0
+    -- nothing of it is left
+    pub left-gone : left (and_then events withdrawal) name ≡ 0
     left-gone =
         let less = left-more events withdrawal name refl in
         let own : taken_off_by name withdrawal ≡ lots = ap (λ b. lots_if b lots) (same_name-refl name) in

@@ -1,8 +1,7 @@
 -- The legs of the pour between two blocks are those of a pour between zones, so that they carry all
 -- that any flow does.
-use Rattle.std.proofs.Common.{◌≡◌, ◌∙◌, inl, inr, ℕ, zero, suc, ◌+◌, ◌-◌, ◌<◌, ◌≤◌, ◌==◌, ◌&&◌, Bool, true, false, List, [], ◌∷◌, ◌++◌, find, fold, nat_le, nat_lt, ltb-true, Some, eq-eqb, refl, sym, ap, subst, if◌then◌else◌, arith}
-use Rattle.std.proofs.Math.Path.{fun_ext}
-use Rattle.std.proofs.lemmas.Bool.{and_parts, true≢false}
+use Rattle.std.proofs.Common.{◌≡◌, ◌∙◌, inl, inr, ℕ, zero, suc, ◌+◌, ◌-◌, ◌<◌, ◌≤◌, ◌==◌, ◌&&◌, Bool, true, false, List, [], ◌∷◌, ◌++◌, find, fold, Some, eq-eqb, refl, sym, ap, subst, if◌then◌else◌, arith}
+use Rattle.std.proofs.lemmas.Bool.{true≢false}
 use Rattle.std.proofs.lemmas.List.Sums.{sum_by-cons}
 use Rattle.order_kinds.specs.declared.price.Lots.{Lots}
 use Rattle.order_kinds.specs.declared.side.Side.{Side}
@@ -19,7 +18,6 @@ use Rattle.zone_graph.proofs.Membership.{IsIn-left}
 use Rattle.zone_graph.proofs.Finding.{map-none}
 use Rattle.market_model.specs.declared.event.Event.{Event}
 use Rattle.market_model.specs.declared.event.Event.TheVariants as event
-use Rattle.market_model.specs.declared.event.Leg.{Leg}
 use Rattle.market_model.specs.declared.setup.Setup.{Setup}
 use Rattle.market_model.specs.Blocks.{StandingBlock, block_buyer_zone, block_leg, block_leg_over, block_legs, block_line, block_partner, block_seller_zone, can_trade_blocks, carries_whole, standing_block}
 use Rattle.market_model.specs.Grid.{graph_of}
@@ -27,13 +25,11 @@ use Rattle.market_model.specs.History.{and_then}
 use Rattle.market_model.specs.Orders.{PlacedBlock, blocks_placed, is_open, left}
 use Rattle.market_model.specs.Room.{room}
 use Rattle.market_model.specs.WellFormed.{IsHistory, IsMarketSetup}
-use Rattle.market_laws.proofs.Balances.{left-block_leg, names-taker}
-use Rattle.market_laws.proofs.BlockDeals.{IsInBlockLine, from_block_line, pour-start}
+use Rattle.market_laws.proofs.BlockDeals.{IsInBlockLine, from_block_line}
+use Rattle.market_laws.proofs.BlockSteps.{kept, step}
 use Rattle.market_laws.proofs.Placed.{all_are_sound}
-use Rattle.market_laws.proofs.Pours.{ArePair, PourKeeps, made_leg, pour-leg_fits, pour-run, pour-step, pour_leg-is}
+use Rattle.market_laws.proofs.Pours.{ArePair, PourKeeps, pour-run}
 use Rattle.market_laws.proofs.Repeats.{fold-and_then, map-some}
-use Rattle.market_laws.proofs.Rooms.{room-block_leg}
-use Rattle.market_laws.proofs.Uses.{within_offers}
 use Rattle.route_choice.specs.Poured.{lots_of}
 use Rattle.route_choice.proofs.Flows.{flow_or_all}
 use Rattle.route_choice.proofs.Pours.{Poured, most_of_run}
@@ -82,16 +78,8 @@ module _ (setup : Setup) (is_setup : IsMarketSetup setup) (start : List Event) (
   abbrev rooms : List Event → Arc → ℕ
   rooms V = room V (block_quarters taker.order.first taker.order.last)
 
-  -- the period is not empty
-  in_order : taker.order.first ≤ taker.order.last
-  in_order =
-      let sound = (all_are_sound setup start history.fit).blocks taker taker_in in
-      let both = and_parts (nat_lt taker.order.first taker.order.last) (nat_le (taker.order.last + 1 - taker.order.first) 24) sound.of_period in
-      let less = ltb-true taker.order.first taker.order.last both.0 in
-      omega (arith, less)
-
-  kept : PourKeeps setup start taker maker start
-  kept = pour-start setup is_setup start history taker maker is_pair (record { is_placed = taker_in; is_left = taker_open }) (record { is_placed = maker_in; is_left = maker_open })
+  begun : PourKeeps setup start taker maker start
+  begun = kept setup is_setup start history taker maker is_pair taker_in taker_open maker_in maker_open
 
   -- legs of the pour between the blocks as those of a pour of what is left of the taker
   record ArePoured (V : List Event) (legs : List Event) : Type 0 where
@@ -109,30 +97,23 @@ module _ (setup : Setup) (is_setup : IsMarketSetup setup) (start : List Event) (
   are_poured V (e ∷ legs) keeps run =
       let found = map-some (block_leg_over own other) (pour_leg graph (rooms V) from to (left V taker.name)) e run.0 in
       let leg : RouteLeg = found.0 in
-      let is_leg = pour_leg-is graph (rooms V) from to (left V taker.name) leg found.1 in
-      let fits = pour-leg_fits setup is_setup start taker maker own other is_pair taker_in maker_in refl refl refl refl V keeps leg is_leg in
-      let step = pour-step setup is_setup start taker maker own other is_pair taker_in maker_in refl refl refl refl V e keeps run.0 in
-      let rest = are_poured (and_then V e) legs step.kept run.1 in
-      let traded : Leg = made_leg setup is_setup start taker maker own other is_pair taker_in maker_in refl refl refl refl leg in
-      let happened : Event = event.BlockLeg taker.order.first taker.order.last traded in
-      let after : rooms (and_then V happened) ≡ room_after (rooms V) leg =
-      fun_ext (room-block_leg V taker.order.first taker.order.last traded in_order (within_offers setup V keeps.fit) fits.some fits.carried.has_room) in
-      let lower : left (and_then V happened) taker.name ≡ left V taker.name - leg.lots = left-block_leg V taker.order.first taker.order.last traded taker.name (names-taker traded) in
+      let next = step setup is_setup start history taker maker is_pair taker_in taker_open maker_in maker_open V leg keeps found.1 in
+      let rest = are_poured (and_then V e) legs (subst (λ x. PourKeeps setup start taker maker (and_then V x)) found.2 next.keeps) run.1 in
       let at_rooms : Poured graph from to (room_after (rooms V) leg) (left (and_then V e) taker.name) rest.carried =
-      subst (λ r. Poured graph from to r (left (and_then V e) taker.name) rest.carried) (ap (λ x. rooms (and_then V x)) (sym found.2) ∙ after) rest.poured in
-      let lowered : left (and_then V e) taker.name ≡ left V taker.name - leg.lots = ap (λ x. left (and_then V x) taker.name) (sym found.2) ∙ lower in
+      subst (λ r. Poured graph from to r (left (and_then V e) taker.name) rest.carried) (ap (λ x. rooms (and_then V x)) (sym found.2) ∙ next.lowered) rest.poured in
+      let lowered : left (and_then V e) taker.name ≡ left V taker.name - leg.lots = ap (λ x. left (and_then V x) taker.name) (sym found.2) ∙ next.less in
       record {
         carried = leg ∷ rest.carried;
         poured = (found.1, subst (λ n. Poured graph from to (room_after (rooms V) leg) n rest.carried) lowered at_rooms);
-        lots = (let later = rest.lots in let has = fits.taker_has in omega (arith, later, has, lowered, sum_by-cons (λ (k : RouteLeg). k.lots) leg rest.carried));
+        lots = (let later = rest.lots in let has = next.has in omega (arith, later, has, lowered, sum_by-cons (λ (k : RouteLeg). k.lots) leg rest.carried));
       }
 
   -- where they do not carry all, no flow does
   not_whole : carries_whole graph start own other ≡ false → HasZone graph to → (lots : ℕ) (flow : Arc → ℕ) → IsBlockFlow graph start own other lots flow → lots < taker.order.quantity.0
   not_whole part known lots flow is_flow =
       let legs = block_legs graph own other start in
-      let run = pour-run setup is_setup start taker maker own other is_pair taker_in maker_in refl refl refl refl start kept in
-      let all = are_poured start legs kept run in
+      let run = pour-run setup is_setup start taker maker own other is_pair taker_in maker_in refl refl refl refl start begun in
+      let all = are_poured start legs begun run in
       let whole : left start taker.name ≡ taker.order.quantity.0 = history.whole taker taker_in taker_open in
       let some : 1 ≤ left (fold and_then start legs) taker.name = rest (left (start ++ legs) taker.name) (ap (λ V. left V taker.name) (fold-and_then start legs)) part in
       let lots_all = all.lots in

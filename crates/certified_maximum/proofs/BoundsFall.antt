@@ -14,7 +14,7 @@ use Rattle.zone_graph.specs.Graph.{Graph, IsGraph}
 use Rattle.zone_graph.specs.Pour.{lots_if, room_after}
 use Rattle.zone_graph.specs.Route.{IsIn, has}
 use Rattle.cut_proof.specs.Cut.{HasRoomFor}
-use Rattle.cut_proof.proofs.ArcSums.{sum_parts}
+use Rattle.cut_proof.proofs.ArcSums.{exchanged, sum_parts}
 use Rattle.cut_proof.proofs.Crossing.{entering_after, leaving_after}
 use Rattle.market_model.specs.declared.event.Event.{Event}
 use Rattle.market_model.specs.declared.event.Event.TheVariants as event
@@ -59,13 +59,6 @@ other_side Sell = refl
 and-false : (a : Bool) → (a && false) ≡ false
 and-false true = refl
 and-false false = refl
-
--- tests one behind the other
-both_if : (a b : Bool) (n : ℕ) → lots_if a (lots_if b n) ≡ lots_if b (lots_if a n)
-both_if true true n = refl
-both_if true false n = refl
-both_if false true n = refl
-both_if false false n = refl
 
 parted_if : (b : Bool) (all rest lots : ℕ) → rest + lots ≡ all → lots_if b all ≡ lots_if b rest + lots_if b lots
 parted_if true all rest lots e = sym e
@@ -116,7 +109,7 @@ module _ (graph : Graph) (is_graph : IsGraph graph) (V : List Event) (can : CanT
       ap (λ b. lots_if b (lots_if (has maker.order.zone zones) (crosses_left taker.order maker.order had was))) (of_line V ∙ next.maker_open.is_left) in
       let after : counted taker.order zones (and_then V traded) maker ≡ lots_if (has maker.order.zone zones) (while_left (was - lots) (crosses_left taker.order maker.order (had + lots) (was - lots))) =
       ap (λ b. lots_if b (lots_if (has maker.order.zone zones) (crossing_lots taker.order (standing (and_then V traded) maker)))) (of_line (and_then V traded))
-      ∙ both_if (is_open (and_then V traded) maker.name) (has maker.order.zone zones) (crossing_lots taker.order (standing (and_then V traded) maker))
+      ∙ exchanged (is_open (and_then V traded) maker.name) (has maker.order.zone zones) (crossing_lots taker.order (standing (and_then V traded) maker))
       ∙ ap (λ n. lots_if (has maker.order.zone zones) (while_left n (crosses_left taker.order maker.order (filled (and_then V traded) maker.name) n))) (left-named maker.name true maker_named)
       ∙ ap (λ n. lots_if (has maker.order.zone zones) (while_left (was - lots) (crosses_left taker.order maker.order n (was - lots)))) (filled-named maker.name true maker_named) in
       before

@@ -1,18 +1,13 @@
 -- An iceberg of which some of what shows is filled agrees with itself again.
 use Rattle.std.proofs.Common.{◌≡◌, ℕ, ◌+◌, ◌-◌, ◌/◌, ◌%◌, ◌<◌, ◌≤◌, refl, arith}
-use Rattle.std.proofs.lemmas.Nat.{le-div}
-use Rattle.std.proofs.Math.Nat.{div-mul-le_self}
 use Rattle.std.specs.Prelude.{IsTrue}
 use Rattle.order_kinds.specs.Order.{last_peak, peak_number, peak_price}
 use Rattle.order_kinds.specs.Price.{price_in_range}
 use Rattle.iceberg_peak.specs.Peak.{showing_price}
+use Rattle.iceberg_peak.proofs.PeakLemmas.{number-rises}
 use Rattle.contract_book.specs.declared.resting.Ice.{Ice}
 use Rattle.contract_book.specs.declared.resting.Resting.{Resting}
 use Rattle.contract_book.specs.Resting.{IsIceberg, IsSound, iceberg_after}
-
--- more lots fill no fewer peaks
-number-rises : (peak a b : ℕ) → 1 ≤ peak → a ≤ b → peak_number peak a ≤ peak_number peak b
-number-rises peak a b some more = le-div (a / peak) b peak some (let most = div-mul-le_self a peak in omega (arith, most))
 
 module _ (order : Resting) (ice : Ice) (iceberg : IsIceberg order ice) (lots : ℕ) (rest : lots < order.left) where
   fewer : ice.filled + lots ≤ ice.total - 1

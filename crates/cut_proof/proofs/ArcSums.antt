@@ -25,6 +25,13 @@ sum_passing p f (x ∷ xs) = by (p x) (sum_passing p f xs) ∙ sym (sum_by-cons 
     by true rest = omega (arith, sum_by-cons f x (filter p xs), rest)
     by false rest = omega (arith, rest)
 
+-- tests one behind the other
+pub exchanged : (a b : Bool) (n : ℕ) → lots_if a (lots_if b n) ≡ lots_if b (lots_if a n)
+exchanged true true n = refl
+exchanged true false n = refl
+exchanged false true n = refl
+exchanged false false n = refl
+
 -- sums balance where their parts do
 pub sum_balance : {X : Type 0} (f g h k : X → ℕ) (xs : List X) → ((x : X) → f x + g x ≡ h x + k x)
     → sum_by f xs + sum_by g xs ≡ sum_by h xs + sum_by k xs

@@ -3,5 +3,6 @@ pub mod Bounds
 pub mod Crossing
 pub mod ReachLaws
 pub mod Reaching
+pub mod SameRooms
 pub mod Ways
 pub mod ZoneSets

@@ -29,7 +29,7 @@ pub way-reaches : (graph : Graph) (room : Arc → ℕ) (from to : ℕ) → IsGra
 way-reaches graph room from to is there = let r = route-reaches graph room from to is there in (r.0, r.1.way)
 
 -- an arc that has room after a leg had room before it, or the leg has used the opposite arc
-room_before : (room : Arc → ℕ) (leg : RouteLeg) (arc : Arc) → 0 < room_after room leg arc → (0 < room arc) ⊎ IsIn (opposite_arc arc) leg.route
+pub room_before : (room : Arc → ℕ) (leg : RouteLeg) (arc : Arc) → 0 < room_after room leg arc → (0 < room arc) ⊎ IsIn (opposite_arc arc) leg.route
 room_before room leg arc some = by (cases_lt 0 (room arc))
   where
     used : (b : Bool) → uses leg.route (opposite_arc arc) ≡ b → room arc ≤ 0 → IsIn (opposite_arc arc) leg.route

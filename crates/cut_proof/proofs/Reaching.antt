@@ -1,6 +1,6 @@
 -- A zone has a distance exactly where a route leads from it to the zone that distances are counted
 -- to, and those counted with the arcs turned round where one leads back.
-use Rattle.std.proofs.Common.{◌≡◌, ◌∙◌, ◌+◌, ◌<◌, ℕ, zero, suc, Bool, true, false, List, [], ◌∷◌, ◌++◌, filter, cond, get_or, Option, Some, None, is_some, slice_index_or, refl, sym, ap, subst, arith}
+use Rattle.std.proofs.Common.{◌≡◌, ◌∙◌, ◌+◌, ◌<◌, ℕ, zero, suc, Bool, true, false, List, [], ◌∷◌, ◌++◌, filter, cond, get_or, length, Option, Some, None, is_some, slice_index_or, refl, sym, ap, subst, arith, length-append}
 use Rattle.std.proofs.lemmas.Bool.{true≢false}
 use Rattle.std.proofs.lemmas.List.Elements.{filter-append}
 use Rattle.std.specs.List.{All, range_with_len}
@@ -14,35 +14,31 @@ use Rattle.zone_graph.proofs.Arcs.{opposite-start, opposite-end, opposite-twice}
 use Rattle.zone_graph.proofs.Places.{at_place}
 use Rattle.zone_search.specs.Distance.{AreDistances, arcs_of_distance, directed_room, distance_at}
 use Rattle.zone_search.proofs.Nearest.{way_reached}
-use Rattle.cut_proof.specs.Cut.{reached_zones}
+use Rattle.cut_proof.specs.Cut.{reached_zones, reaches_in}
 use Rattle.cut_proof.proofs.ArcSums.{range_more}
 use Rattle.cut_proof.proofs.ReachLaws.{reaches-way, way-reaches}
 use Rattle.cut_proof.proofs.Ways.{way_longer}
 
 -- ---- ways back
 
--- where each arc with room has an opposite with room, each way has a way back
-way_back : (graph : Graph) (room other : Arc → ℕ) (from to : ℕ) (arcs : List Arc) → ((arc : Arc) → 0 < room arc → 0 < other (opposite_arc arc))
-    → IsWay graph room from arcs to → (back : List Arc) × IsWay graph other to back from
-way_back graph room other from to [] some way = ([], sym way)
-way_back graph room other from to (arc ∷ arcs) some way =
-    let back = way_back graph room other (end_of graph arc) to arcs some way.3 in (
+-- where each arc with room has an opposite with room, each way has one back that is as long
+pub way_turned : (graph : Graph) (room other : Arc → ℕ) (from to : ℕ) (arcs : List Arc) → ((arc : Arc) → 0 < room arc → 0 < other (opposite_arc arc))
+    → IsWay graph room from arcs to → (back : List Arc) × IsWay graph other to back from × (length back ≡ length arcs)
+way_turned graph room other from to [] some way = ([], sym way, refl)
+way_turned graph room other from to (arc ∷ arcs) some way =
+    let back = way_turned graph room other (end_of graph arc) to arcs some way.3 in (
       back.0 ++ opposite_arc arc ∷ [],
       subst (IsWay graph other to (back.0 ++ opposite_arc arc ∷ [])) (opposite-end graph arc ∙ way.1)
           (way_longer graph other to (end_of graph arc) back.0 (opposite_arc arc) back.1 way.0 (opposite-start graph arc) (some arc way.2)),
+      omega (arith, back.2, length-append back.0 (opposite_arc arc ∷ [])),
     )
-
--- a route leads from a zone to another one (towards), or back
-abbrev pub reaches_in : Graph → (Arc → ℕ) → (from to : ℕ) → (towards : Bool) → Bool
-reaches_in graph room from to true = reaches graph room from to
-reaches_in graph room from to false = reaches graph room to from
 
 -- ways by the rooms in a direction
 way_in : (graph : Graph) (room : Arc → ℕ) (from to : ℕ) (towards : Bool) (arcs : List Arc) → IsGraph graph
     → IsWay graph (directed_room room towards) from arcs to → reaches_in graph room from to towards ≡ true
 way_in graph room from to true arcs is way = reaches-way graph room from to arcs is way
 way_in graph room from to false arcs is way =
-    let back = way_back graph (λ arc. room (opposite_arc arc)) room from to arcs (λ arc some. some) way in
+    let back = way_turned graph (λ arc. room (opposite_arc arc)) room from to arcs (λ arc some. some) way in
     reaches-way graph room to from back.0 is back.1
 
 in_way : (graph : Graph) (room : Arc → ℕ) (from to : ℕ) (towards : Bool) → IsGraph graph → reaches_in graph room from to towards ≡ true
@@ -50,18 +46,19 @@ in_way : (graph : Graph) (room : Arc → ℕ) (from to : ℕ) (towards : Bool) �
 in_way graph room from to true is there = way-reaches graph room from to is there
 in_way graph room from to false is there =
     let way = way-reaches graph room to from is there in
-    way_back graph room (λ arc. room (opposite_arc arc)) to from way.0 (λ arc some. subst (λ a. 0 < room a) (sym (opposite-twice arc)) some) way.1
+    let back = way_turned graph room (λ arc. room (opposite_arc arc)) to from way.0 (λ arc some. subst (λ a. 0 < room a) (sym (opposite-twice arc)) some) way.1 in
+    (back.0, back.1)
 
 -- ---- distances
 
 -- a zone that has a distance has a way of so many arcs
-distance_way : (graph : Graph) (room : Arc → ℕ) (to : ℕ) (distances : List (Option ℕ)) (from far : ℕ) → AreDistances graph room to distances
-    → distance_at distances from ≡ far → far < 128 → (arcs : List Arc) × IsWay graph room from arcs to
-distance_way graph room to distances from zero a e near = ([], a.alone from e)
-distance_way graph room to distances from (suc far) a e near =
+pub way_of_distance : (graph : Graph) (room : Arc → ℕ) (to : ℕ) (distances : List (Option ℕ)) (from far : ℕ) → AreDistances graph room to distances
+    → distance_at distances from ≡ far → far < 128 → (arcs : List Arc) × IsWay graph room from arcs to × (length arcs ≡ far)
+way_of_distance graph room to distances from zero a e near = ([], a.alone from e, refl)
+way_of_distance graph room to distances from (suc far) a e near =
     let step = a.nearer from (omega (arith, e)) (omega (arith, e, near)) in
-    let rest = distance_way graph room to distances (end_of graph step.0) far a (omega (arith, e, step.4)) (omega (arith, near)) in
-    (step.0 ∷ rest.0, (step.1, step.2, step.3, rest.1))
+    let rest = way_of_distance graph room to distances (end_of graph step.0) far a (omega (arith, e, step.4)) (omega (arith, near)) in
+    (step.0 ∷ rest.0, (step.1, step.2, step.3, rest.1), omega (arith, rest.2))
 
 -- it has a distance exactly where it reaches
 pub distance_tells : (graph : Graph) (room : Arc → ℕ) (zone : ℕ) (towards : Bool) (distances : List (Option ℕ)) (other : ℕ) → IsGraph graph
@@ -79,7 +76,7 @@ distance_tells graph room zone towards distances other is a = by (slice_index_or
         absurd (omega (arith, near, far))
     by (Some far) e false r =
         let there = ap arcs_of_distance e in
-        let way = distance_way graph (directed_room room towards) zone distances other far a there (let short = a.short other far e in omega (arith, short)) in
+        let way = way_of_distance graph (directed_room room towards) zone distances other far a there (let short = a.short other far e in omega (arith, short)) in
         absurd (true≢false (sym (way_in graph room other zone towards way.0 is way.1) ∙ r))
 
 -- ---- the zones that have a distance

@@ -1,9 +1,11 @@
 -- Ways and routes: the arcs and zones on them, their fronts and ends, and the route that a way
 -- contains.
-use Rattle.std.proofs.Common.{◌≡◌, ◌∙◌, ◌<◌, inl, inr, ℕ, Bool, true, false, List, [], ◌∷◌, ◌++◌, map, refl, sym, ap, subst}
+use Rattle.std.proofs.Common.{◌≡◌, ◌∙◌, ◌+◌, ◌<◌, ◌==◌, inl, inr, ℕ, Bool, true, false, List, [], ◌∷◌, ◌++◌, map, sum_by, refl, sym, ap, subst, arith}
 use Rattle.std.proofs.lemmas.Bool.{true≢false}
+use Rattle.std.proofs.lemmas.List.Sums.{sum_by-cons}
 use Rattle.zone_graph.specs.declared.route.Arc.{Arc}
 use Rattle.zone_graph.specs.Graph.{Graph, HasArc, end_of, start_of}
+use Rattle.zone_graph.specs.Pour.{lots_if}
 use Rattle.zone_graph.specs.Route.{AreDifferent, IsIn, IsRoute, IsWay, has, zones_on}
 use Rattle.zone_graph.proofs.Membership.{IsIn-has, IsIn-map, from_map, has-IsIn}
 use Rattle.zone_graph.proofs.Arcs.{same_border, opposite-start}
@@ -49,6 +51,15 @@ pub way_longer : (graph : Graph) (room : Arc → ℕ) (from to : ℕ) (arcs : Li
 way_longer graph room from to [] arc way known start some = (known, start ∙ sym way, some, refl)
 way_longer graph room from to (next ∷ arcs) arc way known start some =
     (way.0, way.1, way.2, way_longer graph room (end_of graph next) to arcs arc way.3 known start some)
+
+-- a way leaves a zone as often as it comes to it, but for its ends
+pub way-steps : (graph : Graph) (room : Arc → ℕ) (lots zone from to : ℕ) (arcs : List Arc) → IsWay graph room from arcs to
+    → sum_by (λ arc. lots_if (start_of graph arc == zone) lots) arcs + lots_if (to == zone) lots ≡ sum_by (λ arc. lots_if (end_of graph arc == zone) lots) arcs + lots_if (from == zone) lots
+way-steps graph room lots zone from to [] way = ap (λ z. 0 + lots_if (z == zone) lots) (sym way)
+way-steps graph room lots zone from to (arc ∷ arcs) way =
+    let start = ap (λ z. lots_if (z == zone) lots) way.1 in
+    let rest = way-steps graph room lots zone (end_of graph arc) to arcs way.3 in
+    omega (arith, sum_by-cons (λ (a : Arc). lots_if (start_of graph a == zone) lots) arc arcs, sum_by-cons (λ (a : Arc). lots_if (end_of graph a == zone) lots) arc arcs, start, rest)
 
 -- ---- routes
 

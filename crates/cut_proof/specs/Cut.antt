@@ -36,6 +36,11 @@ abbrev pub crossing_room : Graph → (Arc → ℕ) → List ℕ → (towards : B
 crossing_room graph room zones true = entering_room graph room zones
 crossing_room graph room zones false = leaving_room graph room zones
 
+-- a route leads from a zone to another one (towards), or back
+abbrev pub reaches_in : Graph → (Arc → ℕ) → (from to : ℕ) → (towards : Bool) → Bool
+reaches_in graph room from to true = reaches graph room from to
+reaches_in graph room from to false = reaches graph room to from
+
 -- the zones from which a route leads to a zone (towards), or those to which one leads from it
 abbrev pub reached_zones : Graph → (Arc → ℕ) → ℕ → (towards : Bool) → List ℕ
 reached_zones graph room zone true = zones_towards graph room zone

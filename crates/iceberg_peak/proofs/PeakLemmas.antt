@@ -1,8 +1,8 @@
 -- The peaks of an iceberg: what shows of them, how fills go on from one to the next, and what is
 -- left of all of them.
 use Rattle.std.proofs.Common.{◌≡◌, ℕ, zero, suc, ◌+◌, ◌-◌, ◌*◌, ◌/◌, ◌%◌, ◌<◌, ◌≤◌, min, max, [], ◌∷◌, ◌++◌, refl, ap, ◌∙◌, inl, inr, add-one, add-zero, zero-add, arith}
-use Rattle.std.proofs.Math.Nat.{div-add-mod}
-use Rattle.std.proofs.lemmas.Nat.{mod_below}
+use Rattle.std.proofs.Math.Nat.{div-add-mod, div-mul-le_self}
+use Rattle.std.proofs.lemmas.Nat.{le-div, mod_below}
 use Rattle.std.proofs.lemmas.Bool.{cases_lt}
 use Rattle.std.proofs.lemmas.List.Sums.{sum_by_push}
 use Rattle.std.specs.List.{sum_by, range_with_len}
@@ -23,6 +23,10 @@ peak_shown-le_rest peak filled left = omega arith
 
 pub peak_shown-le_peak : (peak filled left : ℕ) → peak_shown peak filled left ≤ peak
 peak_shown-le_peak peak filled left = omega arith
+
+-- more lots fill no fewer peaks
+pub number-rises : (peak a b : ℕ) → 1 ≤ peak → a ≤ b → peak_number peak a ≤ peak_number peak b
+number-rises peak a b some more = le-div (a / peak) b peak some (let most = div-mul-le_self a peak in omega (arith, most))
 
 -- a quotient and its rest are the only ones
 quotient_is : (n peak number rest : ℕ) → n ≡ peak * number + rest → rest < peak → (n / peak ≡ number) × (n % peak ≡ rest)

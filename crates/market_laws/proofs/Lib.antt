@@ -3,6 +3,7 @@ pub mod Ascending
 pub mod Balances
 pub mod BlockDeals
 pub mod BlockEntries
+pub mod BlockSteps
 pub mod Capacities
 pub mod Changes
 pub mod Counts

@@ -1,13 +1,14 @@
 -- The rooms after a leg that they have room for.
-use Rattle.std.proofs.Common.{◌≡◌, ◌∙◌, ◌⊎◌, inl, inr, ℕ, zero, suc, ◌+◌, ◌-◌, ◌≤◌, Bool, true, false, ◌&&◌, not, List, [], ◌∷◌, fold, map, min, ◌*◌, ◌||◌, nat_eq, nat_le, flat_map, None, unwrap_or, eq-eqb, refl, sym, ap, subst, if◌then◌else◌, arith}
-use Rattle.std.proofs.lemmas.Bool.{le-leb, true≢false, and_parts, and_from}
+use Rattle.std.proofs.Common.{◌≡◌, ◌∙◌, ◌⊎◌, inl, inr, ℕ, zero, suc, ◌+◌, ◌-◌, ◌≤◌, Bool, true, false, ◌&&◌, not, List, [], ◌∷◌, fold, map, min, ◌*◌, ◌||◌, nat_eq, nat_le, flat_map, None, unwrap_or, ℤ, eq-eqb, refl, sym, ap, ap₂, subst, if◌then◌else◌, arith}
+use Rattle.std.proofs.lemmas.Bool.{le-leb, leb-true, true≢false, and_parts, and_from}
 use Rattle.std.specs.List.{list_any, range_with_len}
 use Rattle.order_kinds.specs.declared.contract.Contract.{Contract}
 use Rattle.order_kinds.specs.declared.contract.Part.{Part}
 use Rattle.order_kinds.specs.declared.contract.Part.TheVariants as part
 use Rattle.order_kinds.specs.declared.contract.Quarter.{Quarter}
-use Rattle.order_kinds.specs.Contract.{covers, quarters}
-use Rattle.order_kinds.specs.Period.{block_has, block_quarters, contract_has, contract_quarters, hour_quarters, hours_from, is_quarter, is_within, quarter_of}
+use Rattle.order_kinds.specs.declared.phase.Phase.{Phase}
+use Rattle.order_kinds.specs.Contract.{covers, is_known, quarters}
+use Rattle.order_kinds.specs.Period.{EachQuarter, block_has, block_quarters, contract_has, contract_quarters, hour_quarters, hours_from, is_quarter, is_within, quarter_of}
 use Rattle.zone_graph.specs.declared.route.Arc.{Arc}
 use Rattle.zone_graph.specs.Pour.{lots_if, opposite_arc, room_after, uses}
 use Rattle.zone_graph.specs.Route.{IsIn}
@@ -16,9 +17,9 @@ use Rattle.zone_graph.proofs.Arcs.{opposite-twice, IsIn-uses, if_free}
 use Rattle.market_model.specs.declared.event.Event.{Event}
 use Rattle.market_model.specs.declared.event.Event.TheVariants as event
 use Rattle.market_model.specs.declared.event.Leg.{Leg}
-use Rattle.market_model.specs.Capacity.{allocated, allocated_by, offered, offered_by}
+use Rattle.market_model.specs.Capacity.{allocated, allocated_by, offered, offered_by, remaining}
 use Rattle.market_model.specs.History.{and_then}
-use Rattle.market_model.specs.Room.{halt_by, is_halted, is_open_phase, phase_by, least, phase_of, quarter_room, room}
+use Rattle.market_model.specs.Room.{halt_by, is_halted, is_open_phase, phase_by, least, lots_of, phase_of, quarter_room, room}
 use Rattle.market_laws.proofs.Capacities.{allocated-more, last_said-more, offered-more}
 use Rattle.market_laws.proofs.Uses.{IsWithinOffers, block_has-is, contract_has-is, free, lots_of-remaining, quarter_room-le, room-le}
 use Rattle.order_kinds.specs.declared.phase.Phase.TheVariants as phase
@@ -225,6 +226,40 @@ pub room-block_leg : (events : List Event) (first last : ℕ) (leg : Leg) → fi
     ≡ room_after (room events (block_quarters first last)) (record { route = leg.route; lots = leg.lots }) arc
 room-block_leg events first last leg most within some has =
     room-carried events (event.BlockLeg first last leg) (block_quarters first last) leg.route leg.lots (block_leg-carries first last leg most) within some has
+
+-- ---- rooms that are kept
+
+-- what is kept of an hour: its phase, whether a border is halted, and what remains of each quarter
+module _ (events : List Event) (hour : ℕ) (arc : Arc) (at : Phase) (halted : Bool) (remains : ℕ → ℤ) (same_phase : at ≡ phase_of events hour)
+    (same_halt : halted ≡ is_halted events arc.border hour) (same_rest : EachQuarter (λ number. remains number ≡ remaining events (quarter_of hour number) arc)) where
+  abbrev kept_room : (number : ℕ) → ℕ
+  kept_room number = if is_open_phase at && not halted then lots_of (remains number) else 0
+
+  -- the room of a quarter is the one that the events leave
+  pub kept_quarter-is : EachQuarter (λ number. kept_room number ≡ quarter_room events arc (quarter_of hour number))
+  kept_quarter-is number first last =
+      ap (λ p. given p halted (remains number)) same_phase
+      ∙ ap (λ h. given (phase_of events hour) h (remains number)) same_halt
+      ∙ ap (given (phase_of events hour) (is_halted events arc.border hour)) (same_rest number first last)
+    where
+      given : Phase → Bool → ℤ → ℕ
+      given p h z = if is_open_phase p && not h then lots_of z else 0
+
+  -- and so is that of a part of the hour
+  pub kept_part-is : (p : Part) → is_known p ≡ true → least (map kept_room (quarters p)) ≡ room events (map (quarter_of hour) (quarters p)) arc
+  kept_part-is part.Hour e =
+      ap₂ min (ap₂ min (ap₂ min (kept_quarter-is 1 (omega arith) (omega arith)) (kept_quarter-is 2 (omega arith) (omega arith))) (kept_quarter-is 3 (omega arith) (omega arith)))
+      (kept_quarter-is 4 (omega arith) (omega arith))
+  kept_part-is (part.Quarter number) e =
+      let both = and_parts (nat_le 1 number) (nat_le number 4) e in
+      kept_quarter-is number (leb-true 1 number both.0) (leb-true number 4 both.1)
+  kept_part-is (part.Half number) e =
+      let both = and_parts (nat_le 1 number) (nat_le number 2) e in
+      let low = leb-true 1 number both.0 in
+      let high = leb-true number 2 both.1 in
+      ap₂ min (kept_quarter-is (2 * number - 1) (omega arith) (omega arith)) (kept_quarter-is (2 * number) (omega arith) (omega arith))
+
+-- ---- rooms together
 
 -- the two rooms of a border come to no more than what is offered on both
 pub rooms-together : (events : List Event) (contract : Contract) (arc : Arc) → IsWithinOffers events

@@ -1,21 +1,22 @@
 -- The rooms of arcs over several quarters.
-use Rattle.std.proofs.Common.{◌≡◌, ◌∙◌, ◌+◌, ◌-◌, ◌*◌, ◌<◌, ◌≤◌, ◌==◌, ◌&&◌, not, ℕ, zero, suc, Bool, true, false, List, [], ◌∷◌, ◌++◌, fold, length, map, min, nat_le, if◌then◌else◌, ℤ, refl, ap, ap₂, arith}
+use Rattle.std.proofs.Common.{◌≡◌, ◌∙◌, ◌+◌, ◌-◌, ◌<◌, ◌≤◌, ◌==◌, ℕ, zero, suc, Bool, true, false, List, [], ◌∷◌, ◌++◌, fold, length, map, min, if◌then◌else◌, refl, ap, ap₂, arith}
 use Rattle.std.specs.List.{flat_map, range_with_len}
 use Rattle.std.specs.Prelude.{Result, Ok, Err, IfOk}
-use Rattle.std.proofs.lemmas.Bool.{eqb-false, leb-true, and_parts}
+use Rattle.std.proofs.lemmas.Bool.{eqb-false}
 use Rattle.std.proofs.lemmas.Grind.{flat_map-append}
 use Rattle.std.proofs.lemmas.List.{length-map, map-append}
 use Rattle.std.proofs.lemmas.List.Sums.{fold-append}
 use Rattle.order_kinds.specs.declared.contract.Part.{Part}
 use Rattle.order_kinds.specs.declared.contract.Part.TheVariants as part
-use Rattle.order_kinds.specs.declared.phase.Phase.{Phase}
 use Rattle.order_kinds.specs.Contract.{is_known, quarters}
 use Rattle.order_kinds.specs.Period.{EachQuarter, block_quarters, hour_quarters, hours_from, quarter_of}
 use Rattle.quarter_capacity.specs.Capacity.{remaining_of}
 use Rattle.zone_graph.specs.declared.route.Arc.{Arc}
 use Rattle.zone_graph.specs.Graph.{Graph, HasArc}
 use Rattle.market_model.specs.declared.event.Event.{Event}
-use Rattle.market_model.specs.Room.{is_halted, is_open_phase, least, lots_of, phase_of, quarter_room, room}
+use Rattle.market_model.specs.Capacity.{remaining}
+use Rattle.market_model.specs.Room.{least, quarter_room, room}
+use Rattle.market_laws.proofs.Rooms.{kept_part-is, kept_quarter-is}
 use Rattle.plain_capacity.specs.Hour.{Capacity, IsCapacityOf, halted_at, part_room, remaining_in, room_in}
 
 -- one more border
@@ -32,30 +33,16 @@ written_more border place new mid want written before so_far = by (border == pla
 -- ---- rooms by quarter
 
 module _ (graph : Graph) (events : List Event) (hour : ℕ) (capacity : Capacity) (is : IsCapacityOf graph events hour capacity) (arc : Arc) (known : HasArc graph arc) where
+  remains-is : EachQuarter (λ number. remaining_in capacity number arc ≡ remaining events (quarter_of hour number) arc)
+  remains-is number first last = ap₂ remaining_of ((is.quarters number first last).offers arc) ((is.quarters number first last).flows arc)
+
   -- the room of a quarter is the one that the events leave
   pub room-is : EachQuarter (λ number. room_in capacity arc number ≡ quarter_room events arc (quarter_of hour number))
-  room-is number first last =
-      ap (λ p. given p (halted_at capacity arc.border) (remaining_in capacity number arc)) is.phase
-      ∙ ap (λ h. given (phase_of events hour) h (remaining_in capacity number arc)) (is.halts arc.border known)
-      ∙ ap (given (phase_of events hour) (is_halted events arc.border hour))
-      (ap₂ remaining_of ((is.quarters number first last).offers arc) ((is.quarters number first last).flows arc))
-    where
-      given : Phase → Bool → ℤ → ℕ
-      given p h z = if is_open_phase p && not h then lots_of z else 0
+  room-is = kept_quarter-is events hour arc capacity.phase (halted_at capacity arc.border) (λ number. remaining_in capacity number arc) is.phase (is.halts arc.border known) remains-is
 
   -- and so is that of a part of the hour
   pub part-is : (p : Part) → is_known p ≡ true → part_room capacity p arc ≡ room events (map (quarter_of hour) (quarters p)) arc
-  part-is part.Hour e =
-      ap₂ min (ap₂ min (ap₂ min (room-is 1 (omega arith) (omega arith)) (room-is 2 (omega arith) (omega arith))) (room-is 3 (omega arith) (omega arith)))
-      (room-is 4 (omega arith) (omega arith))
-  part-is (part.Quarter number) e =
-      let both = and_parts (nat_le 1 number) (nat_le number 4) e in
-      room-is number (leb-true 1 number both.0) (leb-true number 4 both.1)
-  part-is (part.Half number) e =
-      let both = and_parts (nat_le 1 number) (nat_le number 2) e in
-      let low = leb-true 1 number both.0 in
-      let high = leb-true number 2 both.1 in
-      ap₂ min (room-is (2 * number - 1) (omega arith) (omega arith)) (room-is (2 * number) (omega arith) (omega arith))
+  part-is = kept_part-is events hour arc capacity.phase (halted_at capacity arc.border) (λ number. remaining_in capacity number arc) is.phase (is.halts arc.border known) remains-is
 
 -- ---- the least of several numbers
 

@@ -9,11 +9,12 @@ use Rattle.zone_graph.specs.Graph.{Graph, HasZone}
 use Rattle.zone_graph.specs.Reach.{reaches}
 use Rattle.zone_graph.proofs.Finding.{from_find}
 use Rattle.zone_graph.proofs.Places.{at_place}
+use Rattle.cut_proof.specs.Cut.{reaches_in}
 use Rattle.market_model.specs.Lines.{buyer_zone, can_trade, seller_zone}
 use Rattle.market_model.specs.Orders.{Standing}
 use Rattle.market_locality.proofs.Restrict.{find-same}
 use Rattle.plain_routes.specs.declared.zone_set.ZoneSet.{ZoneSet}
-use Rattle.plain_routes.specs.Reached.{has_zone, is_reached}
+use Rattle.plain_routes.specs.Reached.{has_zone}
 use Rattle.plain_matching.specs.Over.{AreInZones, crosses_price, is_buy, is_in_reach, partner_in}
 use Rattle.plain_matching.proofs.Places.{find-nothing}
 
@@ -40,18 +41,18 @@ module _ (graph : Graph) (own other : Standing) (own_zone : HasZone graph own.or
 
 -- the zones that a route joins with the zone of an order are those of its partners
 reached-is : (graph : Graph) (room : Arc → ℕ) (own other : Standing)
-    → is_reached (is_buy own.order.side) graph room own.order.zone other.order.zone ≡ reaches graph room (seller_zone own other) (buyer_zone own other)
+    → reaches_in graph room other.order.zone own.order.zone (is_buy own.order.side) ≡ reaches graph room (seller_zone own other) (buyer_zone own other)
 unfolding on
 reached-is graph room own other = by own.order.side
   where
     by : (side : Side)
-        → is_reached (is_buy side) graph room own.order.zone other.order.zone ≡ reaches graph room (seller_zone (on side own) other) (buyer_zone (on side own) other)
+        → reaches_in graph room other.order.zone own.order.zone (is_buy side) ≡ reaches graph room (seller_zone (on side own) other) (buyer_zone (on side own) other)
     by Buy = refl
     by Sell = refl
 
 -- the first order in reach is the partner
 pub in_reach-partner : (graph : Graph) (room : Arc → ℕ) (zones : ZoneSet) (line : List Standing) (own : Standing)
-    → ((other : ℕ) → HasZone graph other → has_zone zones other ≡ is_reached (is_buy own.order.side) graph room own.order.zone other)
+    → ((other : ℕ) → HasZone graph other → has_zone zones other ≡ reaches_in graph room other own.order.zone (is_buy own.order.side))
     → AreInZones graph line → find (is_in_reach zones own) line ≡ partner_in graph room line own
 in_reach-partner graph room zones line own are in_zones =
     find-same (is_in_reach zones own) (can_trade graph room own) line
@@ -67,14 +68,14 @@ no_partner graph room line own none =
 -- the first order in reach is the partner, as it is sought
 pub found-partner : (graph : Graph) (room : Arc → ℕ) (zones : ZoneSet) (line : List Standing) (own : Standing) (order : Order) (towards : Bool)
     → order ≡ own.order → towards ≡ is_buy order.side
-    → ((other : ℕ) → HasZone graph other → has_zone zones other ≡ is_reached towards graph room order.zone other)
+    → ((other : ℕ) → HasZone graph other → has_zone zones other ≡ reaches_in graph room other order.zone towards)
     → AreInZones graph line → find (is_in_reach zones own) line ≡ partner_in graph room line own
 found-partner graph room zones line own order towards of_order of_side are in_zones =
     in_reach-partner graph room zones line own
     (λ other known.
     are other known
-    ∙ ap (λ t. is_reached t graph room order.zone other) (of_side ∙ ap (λ (o : Order). is_buy o.side) of_order)
-    ∙ ap (λ (o : Order). is_reached (is_buy own.order.side) graph room o.zone other) of_order)
+    ∙ ap (λ t. reaches_in graph room other order.zone t) (of_side ∙ ap (λ (o : Order). is_buy o.side) of_order)
+    ∙ ap (λ (o : Order). reaches_in graph room other o.zone (is_buy own.order.side)) of_order)
     in_zones
 
 -- the zone of a partner in a line is there

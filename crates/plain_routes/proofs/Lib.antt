@@ -1,4 +1,4 @@
 pub mod Passes
 pub mod Spreads
 pub mod Steps
-pub mod Reach
+pub mod Marked

@@ -3,6 +3,7 @@
 ghost use Rattle.std.specs.Prelude.{◌≡◌, ℕ, length, is_some, map};
 ghost use Rattle.zone_graph.specs.Graph.{HasZone, border_count};
 ghost use Rattle.zone_graph.specs.Rooms.{room_of};
+ghost use Rattle.cut_proof.specs.Cut.{reaches_in};
 ghost use Rattle.plain_routes.specs.Reached as sets;
 
 use crate::rounds::distances;
@@ -30,7 +31,7 @@ impl ZoneSet {
 pub fn reached(grid: &Grid, rooms: &Rooms, zone: u32, towards: bool) -> ZoneSet
     requires zone { HasZone grid.now zone }
     requires size { length rooms.now ≡ border_count grid.now }
-    ensures { (other : ℕ) → HasZone grid.now other → sets.has_zone result other ≡ sets.is_reached towards grid.now (room_of rooms.now) zone other }
+    ensures { (other : ℕ) → HasZone grid.now other → sets.has_zone result other ≡ reaches_in grid.now (room_of rooms.now) other zone towards }
 {
     let zones = grid.zones();
     prove!(zone < zones);

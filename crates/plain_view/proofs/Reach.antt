@@ -12,9 +12,10 @@ use Rattle.zone_graph.specs.Route.{IsIn, best_route}
 use Rattle.zone_graph.proofs.Finding.{from_find}
 use Rattle.zone_graph.proofs.Carrying.{best_route-route}
 use Rattle.market_locality.proofs.Restrict.{find-same}
+use Rattle.cut_proof.specs.Cut.{reaches_in}
 use Rattle.cut_proof.proofs.Ways.{way_has_arc}
 use Rattle.plain_routes.specs.declared.zone_set.ZoneSet.{ZoneSet}
-use Rattle.plain_routes.specs.Reached.{has_zone, is_reached}
+use Rattle.plain_routes.specs.Reached.{has_zone}
 use Rattle.plain_view.specs.declared.maker.Maker.{Maker}
 use Rattle.plain_view.specs.Depth.{AreInZones, buyer_zone, can_fill, crosses_any, fill_with, is_in_reach, next_fill, route_with, seller_zone}
 
@@ -28,18 +29,18 @@ buyer-known graph Sell zone maker own other = own
 
 -- the zones in reach are those to or from which a route leads
 reached-is : (graph : Graph) (room : Arc → ℕ) (side : Side) (zone : ℕ) (maker : Maker)
-    → is_reached (same_side side Sell) graph room zone maker.zone ≡ is_some (route_with graph room side zone maker)
+    → reaches_in graph room maker.zone zone (same_side side Sell) ≡ is_some (route_with graph room side zone maker)
 reached-is graph room Buy zone maker = refl
 reached-is graph room Sell zone maker = refl
 
 module _ (graph : Graph) (room : Arc → ℕ) (side : Side) (zone left : ℕ) (makers : List Maker) where
   -- the first maker in reach is the first with which a trade can be made
   pub reach-find : (zones : ZoneSet) (towards : Bool) → towards ≡ same_side side Sell
-      → ((other : ℕ) → HasZone graph other → has_zone zones other ≡ is_reached towards graph room zone other) → AreInZones graph makers
+      → ((other : ℕ) → HasZone graph other → has_zone zones other ≡ reaches_in graph room other zone towards) → AreInZones graph makers
       → find (is_in_reach zones side) makers ≡ find (can_fill graph room side zone) makers
   reach-find zones towards way are known = find-same (is_in_reach zones side) (can_fill graph room side zone) makers
       (λ maker i. ap (λ b. nat_lt 0 maker.left && crosses_any side maker && b)
-      (are maker.zone (known.each maker i) ∙ ap (λ t. is_reached t graph room zone maker.zone) way ∙ reached-is graph room side zone maker))
+      (are maker.zone (known.each maker i) ∙ ap (λ t. reaches_in graph room maker.zone zone t) way ∙ reached-is graph room side zone maker))
 
   pub found-fill : (found : Option Maker) → 0 < left → found ≡ find (can_fill graph room side zone) makers
       → option_and_then (fill_with graph room side zone left) found ≡ next_fill graph side zone (record { makers = makers; room = room; left = left })

@@ -20,6 +20,7 @@ use Rattle.cut_proof.proofs.Ways.{way_has_arc}
 use Rattle.market_model.specs.declared.event.Event.{Event}
 use Rattle.market_model.specs.declared.event.Leg.{Leg}
 use Rattle.market_model.specs.declared.setup.Setup.{Setup}
+use Rattle.market_model.specs.Grid.{graph_of}
 use Rattle.market_model.specs.History.{and_then}
 use Rattle.market_model.specs.Lines.{line}
 use Rattle.market_model.specs.Orders.{Standing, left}
@@ -40,7 +41,7 @@ use Rattle.plain_view.specs.declared.filling.Fill.{Fill}
 use Rattle.plain_view.specs.declared.maker.Maker.{Maker}
 use Rattle.plain_view.specs.declared.rows.MakerRow.{MakerRow}
 use Rattle.plain_view.specs.Depth.{AreInZones, Depth, after_fill, buyer_zone, depth_of, leg_of, maker_of, next_fill, seller_zone, taken_of}
-use Rattle.plain_view.specs.Filled.{AreRowsFilled, row_in}
+use Rattle.plain_view.specs.Filled.{AreRowsFilled, row_in, rows_with}
 use Rattle.plain_view.proofs.Fills.{IsFill, next_fill-is}
 use Rattle.plain_view.proofs.Kept.{IsAfter, after-leg, left-leg}
 use Rattle.plain_view.proofs.NextLeg.{IsDepth, leg_event, maker_now, next_leg-fill, taker_of}
@@ -151,6 +152,31 @@ legs-are graph is setup events fit contract side zone depth fills of run =
     let few : length (map (leg_event contract name) fills) ≤ left begun name = (let size = length-map fills (leg_event contract name) in omega (arith, size, short, rest)) in
     steps-run (left begun name) (next_leg graph name) and_then begun (map (leg_event contract name) fills) (legs-run graph is events contract side zone name begun depth fills takes run) few
 
+-- the view is the rows of the trades of a taker that finds the line, and the rooms of the graph's arcs
+pub view-rows : (graph : Graph) (is : IsGraph graph) (setup : Setup) (events : List Event) (fit : FitAfter setup [] events) (contract : Contract) (side : Side) (zone : ℕ)
+    (rooms : Arc → ℕ) (are : (arc : Arc) → HasArc graph arc → rooms arc ≡ room events (contract_quarters contract) arc) (fills : List Fill)
+    → IsRun (next_fill graph side zone) after_fill (record { makers = map maker_of (line events contract side); room = rooms; left = 4294967295 }) fills
+    → map row_in (rows_with fills) ≡ view graph events contract side zone
+unfolding view
+view-rows graph is setup events fit contract side zone rooms are fills run =
+    let name = taker_name setup events fit contract side zone in
+    let found : Depth = record { makers = map maker_of (line events contract side); room = rooms; left = 4294967295 } in
+    let of = depth-start setup events fit contract side zone graph rooms are in
+    let legs = legs-are graph is setup events fit contract side zone found fills of run in
+    rows-are name fills ∙ ap rows_of (sym (ap (filter_map trade_of) legs ∙ trades-of graph is events contract side zone name fills))
+
+-- the makers of a line are in zones that there are
+pub makers-known : (setup : Setup) (events : List Event) (fit : FitAfter setup [] events) (contract : Contract) (side : Side)
+    → AreInZones (graph_of setup) (map maker_of (line events contract side))
+makers-known setup events fit contract side = record {
+  each = λ maker i.
+      let from = from_map maker_of maker (line events contract side) i in
+      let there = from_line events contract side from.0 from.1 in
+      let sound = (all_are_sound setup events fit).orders there.order there.is_open.is_placed in
+      subst (λ (m : Maker). HasZone (graph_of setup) m.zone) (sym from.2)
+      (subst (λ (s : Standing). HasZone (graph_of setup) s.order.zone) (sym there.is) sound.in_zone);
+}
+
 module _ (graph : Graph) (is : IsGraph graph) (events : List Event) (legal : IsLegalOver graph events) (contract : Contract) (side : Side) (zone : ℕ) (rooms : List (ℕ × ℕ))
     (are : (arc : Arc) → HasArc graph arc → room_of rooms arc ≡ room events (contract_quarters contract) arc) where
   abbrev depth : Depth
@@ -159,26 +185,13 @@ module _ (graph : Graph) (is : IsGraph graph) (events : List Event) (legal : IsL
   -- the rows of the run are the view
   pub view-is : (rows : List MakerRow) → AreRowsFilled graph side zone (depth_of (map maker_of (line events contract side)) rooms 4294967295) rows
       → map row_in rows ≡ view graph events contract side zone
-  unfolding view
   view-is rows filled =
-      let of = depth-start legal.setup events legal.fit contract side zone graph (room_of rooms) are in
-      let legs = legs-are graph is legal.setup events legal.fit contract side zone depth filled.fills of filled.run in
-      ap (map row_in) filled.are ∙ rows-are name filled.fills
-      ∙ ap rows_of (sym (ap (filter_map trade_of) legs ∙ trades-of graph is events contract side zone name filled.fills))
-    where
-      name : OrderName
-      name = taker_name legal.setup events legal.fit contract side zone
+      ap (map row_in) filled.are ∙ view-rows graph is legal.setup events legal.fit contract side zone (room_of rooms) are filled.fills filled.run
 
   -- the makers are in zones that there are
   pub makers-in_zones : AreInZones graph (map maker_of (line events contract side))
-  makers-in_zones = record {
-    each = λ maker i.
-        let from = from_map maker_of maker (line events contract side) i in
-        let found = from_line events contract side from.0 from.1 in
-        let sound = (all_are_sound legal.setup events legal.fit).orders found.order found.is_open.is_placed in
-        subst (λ (m : Maker). HasZone graph m.zone) (sym from.2)
-        (subst (λ (s : Standing). HasZone graph s.order.zone) (sym found.is) (subst (λ g. HasZone g found.order.order.zone) (sym legal.over) sound.in_zone));
-  }
+  makers-in_zones =
+      subst (λ g. AreInZones g (map maker_of (line events contract side))) (sym legal.over) (makers-known legal.setup events legal.fit contract side)
 
   pub fit-together : FitTogether graph (room_of rooms)
   fit-together arc known =

@@ -6,14 +6,15 @@ use Rattle.std.specs.List.{range_with_len}
 use Rattle.zone_graph.specs.declared.route.Arc.{Arc}
 use Rattle.zone_graph.specs.declared.route.RouteLeg.{RouteLeg}
 use Rattle.zone_graph.specs.Graph.{Graph, HasZone, IsGraph, arcs_of, end_of, start_of, zone_count}
-use Rattle.zone_graph.specs.Pour.{lots_if, opposite_arc, pour}
+use Rattle.zone_graph.specs.Pour.{lots_if, opposite_arc, pour, uses}
 use Rattle.zone_graph.specs.Reach.{enters, entering_room, leaves, reaches, zones_towards}
-use Rattle.zone_graph.specs.Route.{AreDifferent, IsIn, has}
+use Rattle.zone_graph.specs.Route.{AreDifferent, IsIn, IsRoute, has}
 use Rattle.zone_graph.proofs.Membership.{IsIn-has, from_filter, from_range, has-IsIn}
 use Rattle.zone_graph.proofs.Routes.{from_arcs_of}
 use Rattle.zone_graph.proofs.Arcs.{one_or_other}
-use Rattle.cut_proof.proofs.ArcSums.{sum_balance, sum_opposite, sum_parts, sum_passing}
+use Rattle.cut_proof.proofs.ArcSums.{at_route, exchanged, sum_balance, sum_opposite, sum_parts, sum_passing, sum_route}
 use Rattle.cut_proof.proofs.Crossing.{enters-opposite}
+use Rattle.cut_proof.proofs.Ways.{borders_once, way-steps, way_has_arc}
 use Rattle.route_choice.specs.Flow.{IsFlow, NoFlowCarriesMore, sent_out, taken_in}
 use Rattle.route_choice.specs.Poured.{CarryTheMost, lots_of, rooms_after}
 use Rattle.route_choice.proofs.Pours.{end_inside, most_of_run, pour-run}
@@ -60,6 +61,26 @@ sum_zones {X} end flow arcs (zone ∷ zones) once =
         ap (λ b. lots_if (b || has (end arc) zones) (flow arc)) (turned zone (end arc))
         ∙ one_or_other (end arc == zone) (has (end arc) zones) (flow arc)
         (λ here there. once.0 (subst (λ z. IsIn z zones) (eqb-true (end arc) zone here) (IsIn-has (end arc) zones there)))
+
+-- ---- over a route
+
+module _ (graph : Graph) (room : Arc → ℕ) (from to lots : ℕ) (route : List Arc) (is : IsRoute graph room from to route) where
+  abbrev on_route : Arc → ℕ
+  on_route arc = lots_if (uses route arc) lots
+
+  -- over the arcs that pass a test
+  route-sum : (test : Arc → Bool) → sum_by on_route (filter test (arcs_of graph)) ≡ sum_by (λ arc. lots_if (test arc) lots) route
+  route-sum test =
+      sum_passing test on_route (arcs_of graph)
+      ∙ sum_same (λ arc. lots_if (test arc) (on_route arc)) (at_route (λ arc. lots_if (test arc) lots) route) (arcs_of graph) (λ arc. exchanged (test arc) (uses route arc) lots)
+      ∙ sum_route graph (λ arc. lots_if (test arc) lots) route (λ arc i. way_has_arc graph room from to route arc is.way i)
+      (borders_once graph room from to route is.way is.simple)
+
+  -- a route carries its lots out of the zone where it starts, into the zone where it ends, and through
+  -- all others
+  pub route-balance : (zone : ℕ) → sent_out graph on_route zone + lots_if (to == zone) lots ≡ taken_in graph on_route zone + lots_if (from == zone) lots
+  route-balance zone =
+      omega (arith, route-sum (λ arc. start_of graph arc == zone), route-sum (λ arc. end_of graph arc == zone), way-steps graph room lots zone from to route is.way)
 
 -- ---- a flow into a set of zones
 

@@ -11,7 +11,8 @@ use Rattle.zone_graph.proofs.BestRoute.{best_route-is}
 use Rattle.zone_graph.proofs.Finding.{none_from}
 use Rattle.zone_search.specs.Distance.{AreDistances, IsDescent, directed_room, distance_at}
 use Rattle.zone_search.proofs.Nearest.{descent_is_best}
-use Rattle.cut_proof.proofs.Reaching.{distance_tells, reaches_in}
+use Rattle.cut_proof.specs.Cut.{reaches_in}
+use Rattle.cut_proof.proofs.Reaching.{distance_tells}
 use Rattle.cut_proof.proofs.ReachLaws.{reach_from_start, reach_to_end}
 use Rattle.cut_proof.proofs.Ways.{way_has_arc}
 use Rattle.route_choice.specs.declared.route_search.RouteSearch.{RouteSearch}

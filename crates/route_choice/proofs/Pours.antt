@@ -170,6 +170,12 @@ run_ends graph from to room left (leg ∷ legs) is run =
     let later = run_ends graph from to (room_after room leg) (left - leg.lots) legs is run.1 in
     (later.0, later.1, omega (arith, later.2, l.enough, sum_by-cons (λ (k : RouteLeg). k.lots) leg legs))
 
+-- a pour carries no more lots than it is given
+pub pour-within : (graph : Graph) (room : Arc → ℕ) (from to most : ℕ) → IsGraph graph → lots_of (pour graph room from to most) ≤ most
+pour-within graph room from to most is =
+    let end = run_ends graph from to room most (pour graph room from to most) is (pour-run graph from to room most is) in
+    omega (arith, end.2)
+
 -- a zone is among those from which it can be reached
 pub end_inside : (graph : Graph) (room : Arc → ℕ) (to : ℕ) → IsGraph graph → HasZone graph to → has to (zones_towards graph room to) ≡ true
 end_inside graph room to is known =

@@ -1,6 +1,6 @@
 -- Ways and how long they are: what a way contains, how it is turned round, and when the best route
 -- is the same over other rooms.
-use Rattle.std.proofs.Common.{◌≡◌, ◌∙◌, ◌+◌, ◌<◌, ◌≤◌, ◌⊎◌, inl, inr, ℕ, Bool, true, false, List, [], ◌∷◌, ◌++◌, length, map, Option, Some, None, refl, sym, ap, subst, arith, length-append}
+use Rattle.std.proofs.Common.{◌≡◌, ◌∙◌, ◌+◌, ◌<◌, ◌≤◌, ◌⊎◌, inl, inr, ℕ, Bool, true, false, List, [], ◌∷◌, ◌++◌, length, map, Option, Some, None, refl, sym, ap, subst, arith}
 use Rattle.std.specs.Cmp.{nat_cmp_is}
 use Rattle.std.specs.Cmp.Lexicographic.{slice_cmp}
 use Rattle.std.specs.Ordering.{is_gt, nat_cmp, ordering_then}
@@ -8,12 +8,9 @@ use Rattle.std.specs.declared.cmp.Ordering.{Ordering}
 use Rattle.std.proofs.lemmas.Bool.{cases_lt, true≢false}
 use Rattle.zone_graph.specs.declared.route.Arc.{Arc}
 use Rattle.zone_graph.specs.Graph.{Graph, HasArc, IsGraph, end_of, start_of}
-use Rattle.zone_graph.specs.Pour.{opposite_arc}
 use Rattle.zone_graph.specs.Route.{IsBestRoute, IsIn, IsRoute, IsWay, best_route, has, route_cmp, zones_on}
-use Rattle.zone_graph.proofs.Arcs.{opposite-end, opposite-start}
 use Rattle.zone_graph.proofs.BestRoute.{best_route-is, best_route-no_route, best_route-none, best_route-unique}
 use Rattle.zone_graph.proofs.Membership.{IsIn-has, has-IsIn}
-use Rattle.cut_proof.proofs.Ways.{way_longer}
 use Rattle.route_choice.specs.Freshness.{IsShortestRoute}
 
 -- ---- ways
@@ -61,18 +58,6 @@ way_over graph room from to (next ∷ arcs) arc way i = elim i [
         },
       )
 ]
-
--- where each arc with room has an opposite with room, each way has one back that is as long
-pub way_turned : (graph : Graph) (room other : Arc → ℕ) (from to : ℕ) (arcs : List Arc) → ((arc : Arc) → 0 < room arc → 0 < other (opposite_arc arc))
-    → IsWay graph room from arcs to → (back : List Arc) × IsWay graph other to back from × (length back ≡ length arcs)
-way_turned graph room other from to [] some way = ([], sym way, refl)
-way_turned graph room other from to (arc ∷ arcs) some way =
-    let back = way_turned graph room other (end_of graph arc) to arcs some way.3 in (
-      back.0 ++ opposite_arc arc ∷ [],
-      subst (IsWay graph other to (back.0 ++ opposite_arc arc ∷ [])) (opposite-end graph arc ∙ way.1)
-          (way_longer graph other to (end_of graph arc) back.0 (opposite_arc arc) back.1 way.0 (opposite-start graph arc) (some arc way.2)),
-      omega (arith, back.2, length-append back.0 (opposite_arc arc ∷ [])),
-    )
 
 -- ---- routes in ways
 

@@ -1,8 +1,7 @@
 -- A leg over a shortest route that leaves room on each arc of it changes no distance and no best
 -- route to its end, and none from its start: the opposite arcs, which gain room, lead away from its
 -- end and back to its start.
-use Rattle.std.proofs.Common.{◌≡◌, ◌∙◌, ◌+◌, ◌<◌, ◌≤◌, ◌⊎◌, inl, inr, ℕ, zero, suc, Bool, true, false, List, [], ◌∷◌, ◌++◌, length, Option, refl, sym, ap, subst, arith, append_assoc, append-nil, length-append}
-use Rattle.std.proofs.lemmas.Bool.{cases_lt}
+use Rattle.std.proofs.Common.{◌≡◌, ◌∙◌, ◌+◌, ◌<◌, ◌≤◌, ◌⊎◌, inl, inr, ℕ, Bool, true, false, List, [], ◌∷◌, ◌++◌, length, Option, refl, sym, ap, subst, arith, append_assoc, append-nil, length-append}
 use Rattle.zone_graph.specs.declared.route.Arc.{Arc}
 use Rattle.zone_graph.specs.declared.route.RouteLeg.{RouteLeg}
 use Rattle.zone_graph.specs.Graph.{Graph, HasArc, IsGraph, end_of, start_of}
@@ -11,25 +10,13 @@ use Rattle.zone_graph.specs.Route.{IsIn, IsWay}
 use Rattle.zone_graph.proofs.Arcs.{IsIn-uses, opposite-end, opposite-start, opposite-twice}
 use Rattle.zone_search.specs.Distance.{AreDistances, directed_room, distance_at}
 use Rattle.zone_search.proofs.Nearest.{way_long, way_reached}
+use Rattle.cut_proof.proofs.Reaching.{way_of_distance, way_turned}
+use Rattle.cut_proof.proofs.ReachLaws.{room_before}
 use Rattle.cut_proof.proofs.Ways.{way_longer}
 use Rattle.route_choice.specs.Freshness.{IsShortestRoute, KeepsSearches, LeavesRoom, ShortLegsKeepSearches}
-use Rattle.route_choice.proofs.Shortest.{same_best, shortest_way, way_join, way_over, way_turned}
+use Rattle.route_choice.proofs.Shortest.{same_best, shortest_way, way_join, way_over}
 
 -- ---- the arcs that a leg uses
-
--- an arc that has room after a leg had room before it, or the leg has used the opposite arc
-had_or_used : (room : Arc → ℕ) (leg : RouteLeg) (arc : Arc) → 0 < room_after room leg arc → (0 < room arc) ⊎ IsIn (opposite_arc arc) leg.route
-had_or_used room leg arc some = by (cases_lt 0 (room arc))
-  where
-    used : (b : Bool) → uses leg.route (opposite_arc arc) ≡ b → room arc ≤ 0 → IsIn (opposite_arc arc) leg.route
-    used true e none = IsIn-uses leg.route (opposite_arc arc) e
-    used false e none =
-        let nothing = ap (λ b. lots_if b leg.lots) e in
-        absurd (omega (arith, nothing, none, some))
-
-    by : (0 < room arc) ⊎ (room arc ≤ 0) → (0 < room arc) ⊎ IsIn (opposite_arc arc) leg.route
-    by (inl had) = inl had
-    by (inr none) = inr (used (uses leg.route (opposite_arc arc)) refl none)
 
 -- an arc that had room has room, where the leg leaves room on its route
 still_room : (room : Arc → ℕ) (leg : RouteLeg) (arc : Arc) → LeavesRoom room leg → 0 < room arc → 0 < room_after room leg arc
@@ -70,7 +57,7 @@ ways_to_end : (graph : Graph) (room : Arc → ℕ) (from to zone : ℕ) (leg : R
     → IsWay graph (room_after room leg) zone arcs to → IsNoShorter graph room zone to arcs
 ways_to_end graph room from to zone leg [] s way = ([], way, inl refl)
 ways_to_end graph room from to zone leg (arc ∷ arcs) s way =
-    by (had_or_used room leg arc way.2) (ways_to_end graph room from to (end_of graph arc) leg arcs s way.3)
+    by (room_before room leg arc way.2) (ways_to_end graph room from to (end_of graph arc) leg arcs s way.3)
   where
     by : (0 < room arc) ⊎ IsIn (opposite_arc arc) leg.route → IsNoShorter graph room (end_of graph arc) to arcs → IsNoShorter graph room zone to (arc ∷ arcs)
     by (inl had) rest = (
@@ -90,7 +77,7 @@ ways_from_start : (graph : Graph) (room : Arc → ℕ) (from to start zone : ℕ
     → IsWay graph room from front start → IsWay graph (room_after room leg) start arcs zone → IsNoShorter graph room from zone (front ++ arcs)
 ways_from_start graph room from to start zone leg front [] s first way = (front, subst (IsWay graph room from front) way first, inl (sym (append-nil front)))
 ways_from_start graph room from to start zone leg front (arc ∷ arcs) s first way =
-    by (had_or_used room leg arc way.2) (λ until there. ways_from_start graph room from to (end_of graph arc) zone leg until arcs s there way.3)
+    by (room_before room leg arc way.2) (λ until there. ways_from_start graph room from to (end_of graph arc) zone leg until arcs s there way.3)
   where
     here : IsWay graph room from front (start_of graph arc)
     here = subst (IsWay graph room from front) (sym way.1) first
@@ -118,15 +105,6 @@ told graph room from to arcs before = elim before.2 [
 ]
 
 -- ---- distances
-
--- a zone that has a distance has a way of so many arcs
-way_of_distance : (graph : Graph) (room : Arc → ℕ) (to : ℕ) (distances : List (Option ℕ)) (from far : ℕ) → AreDistances graph room to distances
-    → distance_at distances from ≡ far → far < 128 → (arcs : List Arc) × IsWay graph room from arcs to × (length arcs ≡ far)
-way_of_distance graph room to distances from zero a e near = ([], a.alone from e, refl)
-way_of_distance graph room to distances from (suc far) a e near =
-    let step = a.nearer from (omega (arith, e)) (omega (arith, e, near)) in
-    let rest = way_of_distance graph room to distances (end_of graph step.0) far a (omega (arith, e, step.4)) (omega (arith, near)) in
-    (step.0 ∷ rest.0, (step.1, step.2, step.3, rest.1), omega (arith, rest.2))
 
 -- distances are the same over rooms where each arc still has room, and where none that has got room
 -- leads nearer by more than one
@@ -186,7 +164,7 @@ towards_end graph room from to leg is s leaves = record {
   where
     falls : (distances : List (Option ℕ)) → AreDistances graph room to distances → (arc : Arc) → HasArc graph arc → 0 < room_after room leg arc
         → distance_at distances (start_of graph arc) ≤ distance_at distances (end_of graph arc) + 1
-    falls distances a arc known some = elim (had_or_used room leg arc some) [
+    falls distances a arc known some = elim (room_before room leg arc some) [
       | inl had ↦ a.falls arc known had
       | inr used ↦
           let less = leads_to_end graph room from to leg.route distances (opposite_arc arc) s a used in
@@ -206,7 +184,7 @@ from_start graph room from to leg is s leaves = record {
   where
     falls : (distances : List (Option ℕ)) → AreDistances graph (directed_room room false) from distances → (arc : Arc) → HasArc graph arc
         → 0 < room_after room leg (opposite_arc arc) → distance_at distances (start_of graph arc) ≤ distance_at distances (end_of graph arc) + 1
-    falls distances a arc known some = elim (had_or_used room leg (opposite_arc arc) some) [
+    falls distances a arc known some = elim (room_before room leg (opposite_arc arc) some) [
       | inl had ↦ a.falls arc known had
       | inr used ↦
           let less = leads_from_start graph room from to leg.route distances arc s a (subst (λ (x : Arc). IsIn x leg.route) (opposite-twice arc) used) in

@@ -1,9 +1,8 @@
 -- What a fill makes of the lines of a book.
 use Rattle.std.proofs.Common.{◌≡◌, ◌≢◌, ◌∙◌, inl, inr, ℕ, zero, suc, ◌+◌, ◌*◌, ◌/◌, ◌%◌, ◌≤◌, ◌==◌, Bool, true, false, List, [], ◌∷◌, ◌++◌, get_or, map, Option, Some, None, ℤ, pos, ◌+ℤ◌, ◌-ℤ◌, ◌<ℤ◌, ◌≤ℤ◌, eq-eqb, eqb-true, refl, sym, ap, subst, if◌then◌else◌, arith}
-use Rattle.std.proofs.Math.Nat.{div-mul-le_self, mul-le-mul_left}
+use Rattle.std.proofs.Math.Nat.{mul-le-mul_left}
 use Rattle.std.proofs.lemmas.Bool.{false_from_ne_true, true≢false}
 use Rattle.std.proofs.lemmas.List.Sorted.{ranks_by}
-use Rattle.std.proofs.lemmas.Nat.{le-div}
 use Rattle.std.specs.Cmp.{IsStrictWeakOrder, int_ranks}
 use Rattle.std.specs.List.{list_any}
 use Rattle.std.specs.Ordering.{MatchOrdering, int_cmp, is_lt, nat_cmp, ordering_then}
@@ -18,6 +17,7 @@ use Rattle.zone_graph.specs.InOrder.{IsStrictlyInOrder, put_in_order}
 use Rattle.zone_graph.specs.Route.{IsIn}
 use Rattle.zone_graph.proofs.InOrder.{in_order-ahead, in_order-behind, not_before-through}
 use Rattle.zone_graph.proofs.Membership.{IsIn-left, IsIn-right}
+use Rattle.iceberg_peak.proofs.PeakLemmas.{number-rises}
 use Rattle.contract_book.specs.declared.resting.Ice.{Ice}
 use Rattle.contract_book.specs.declared.resting.Resting.{Resting}
 use Rattle.contract_book.specs.Book.{IsBook, changed_line, filled, has_number, line_number, line_of, line_without, order_of}
@@ -78,7 +78,7 @@ not_before-old side order lots moment on_side sound least = go order.ice refl so
     go : (ice : Option Ice) → order.ice ≡ ice → AgreesWith order ice → is_lt (resting_cmp side (order_after order lots moment) order) ≡ false
     go None is agrees = rw is (itself-not side order)
     go (Some ice) is agrees =
-        let rises = le-div (ice.filled / ice.peak) (ice.filled + lots) ice.peak agrees.some (let most = div-mul-le_self ice.filled ice.peak in omega (arith, most)) in
+        let rises = number-rises ice.peak ice.filled (ice.filled + lots) agrees.some (omega arith) in
         let own = later-price order.side ice.price ice.delta (ice.filled / ice.peak) ((ice.filled + lots) / ice.peak) rises in
         let price : is_lt (price_cmp side (peak_price order.side ice.price ice.delta ((ice.filled + lots) / ice.peak)) order.price) ≡ false =
         subst (λ p. is_lt (price_cmp side (peak_price order.side ice.price ice.delta ((ice.filled + lots) / ice.peak)) p) ≡ false) (sym agrees.price_is)

@@ -1,9 +1,8 @@
 -- A leg of a taker brings it no one to trade with.
 use Rattle.std.proofs.Common.{◌≡◌, ◌∙◌, ℕ, ◌*◌, ◌/◌, ◌≤◌, Bool, true, false, List, ℤ, pos, ◌+ℤ◌, ◌-ℤ◌, int_le, refl, sym, ap, subst, arith}
-use Rattle.std.proofs.Math.Nat.{div-mul-le_self, mul-le-mul_left}
+use Rattle.std.proofs.Math.Nat.{mul-le-mul_left}
 use Rattle.std.proofs.Math.Path.{fun_ext}
 use Rattle.std.proofs.lemmas.Bool.{and_from, and_parts, false_from_ne_true, true≢false}
-use Rattle.std.proofs.lemmas.Nat.{le-div}
 use Rattle.order_kinds.specs.declared.order.Kind.{Kind}
 use Rattle.order_kinds.specs.declared.order.Kind.TheVariants as kind
 use Rattle.order_kinds.specs.declared.order.Order.{Order}
@@ -18,6 +17,7 @@ use Rattle.zone_graph.specs.Graph.{Graph, IsGraph}
 use Rattle.zone_graph.specs.Pour.{room_after}
 use Rattle.zone_graph.specs.Reach.{reaches}
 use Rattle.zone_graph.specs.Route.{IsIn, IsRoute}
+use Rattle.iceberg_peak.proofs.PeakLemmas.{number-rises}
 use Rattle.cut_proof.proofs.ReachLaws.{reach_from_start, reach_to_end}
 use Rattle.market_model.specs.declared.event.Event.{Event}
 use Rattle.market_model.specs.Grid.{graph_of}
@@ -57,7 +57,7 @@ before-crosses order has more other = go order.kind refl
     go kind.Fok is some least = rw is (λ h. h)
     go (kind.Iceberg peak delta) is some least = rw is (λ h.
         earlier-crosses order.side order.price other delta (has / peak.0) (more / peak.0)
-        (le-div (has / peak.0) more peak.0 some (let most = div-mul-le_self has peak.0 in omega (arith, most, least))) h)
+        (number-rises peak.0 has more some least) h)
 
 -- ---- reach
 

@@ -9,16 +9,16 @@ use Rattle.order_kinds.specs.Same.{same_name}
 use Rattle.zone_graph.specs.declared.route.Arc.{Arc}
 use Rattle.zone_graph.specs.Graph.{Graph, HasArc, HasZone, IsGraph, arcs_of, end_of, start_of}
 use Rattle.zone_graph.specs.Pour.{lots_if, opposite_arc, room_after, uses}
-use Rattle.zone_graph.specs.Route.{IsIn, IsWay}
+use Rattle.zone_graph.specs.Route.{IsIn}
 use Rattle.zone_graph.specs.Steps.{IsRun}
 use Rattle.zone_graph.proofs.Arcs.{IsIn-uses}
 use Rattle.zone_graph.proofs.Finding.{find-none, from_find}
 use Rattle.zone_graph.proofs.Membership.{IsIn-map}
 use Rattle.cut_proof.specs.Cut.{HasRoomFor}
-use Rattle.cut_proof.proofs.ArcSums.{sum_nothing, sum_parts, sum_passing, sum_route}
-use Rattle.cut_proof.proofs.Ways.{borders_once, way_has_arc}
+use Rattle.cut_proof.proofs.ArcSums.{sum_nothing, sum_parts}
 use Rattle.market_laws.proofs.Tests.{same_name-eq, same_name-refl}
 use Rattle.route_choice.specs.Flow.{sent_out, taken_in}
+use Rattle.route_choice.proofs.Flows.{route-balance}
 use Rattle.plain_view.specs.declared.filling.Fill.{Fill}
 use Rattle.plain_view.specs.declared.maker.Maker.{Maker}
 use Rattle.plain_view.specs.Depth.{after_fill, buyer_zone, can_fill, next_fill, seller_zone, taken_of}
@@ -45,40 +45,6 @@ flow_of makers (fill ∷ fills) arc = lots_if (is_named_in makers fill.maker) (o
 -- what is taken of the makers of a zone
 abbrev pub given : List Maker → List Fill → (zone : ℕ) → ℕ
 given makers fills zone = sum_by (λ maker. lots_if (maker.zone == zone) (gives fills maker.name)) makers
-
--- ---- a route
-
--- a way leaves a zone as often as it comes to it, but for its ends
-way-steps : (graph : Graph) (room : Arc → ℕ) (lots zone from to : ℕ) (arcs : List Arc) → IsWay graph room from arcs to
-    → sum_by (λ arc. lots_if (start_of graph arc == zone) lots) arcs + lots_if (to == zone) lots ≡ sum_by (λ arc. lots_if (end_of graph arc == zone) lots) arcs + lots_if (from == zone) lots
-way-steps graph room lots zone from to [] way = ap (λ z. 0 + lots_if (z == zone) lots) (sym way)
-way-steps graph room lots zone from to (arc ∷ arcs) way =
-    let start = ap (λ z. lots_if (z == zone) lots) way.1 in
-    let rest = way-steps graph room lots zone (end_of graph arc) to arcs way.3 in
-    omega (arith, sum_by-cons (λ (a : Arc). lots_if (start_of graph a == zone) lots) arc arcs, sum_by-cons (λ (a : Arc). lots_if (end_of graph a == zone) lots) arc arcs, start, rest)
-
-swapped : (a b : Bool) (n : ℕ) → lots_if a (lots_if b n) ≡ lots_if b (lots_if a n)
-swapped true true n = refl
-swapped true false n = refl
-swapped false true n = refl
-swapped false false n = refl
-
-pub sum-each : {X : Type 0} (f g : X → ℕ) (xs : List X) → ((x : X) → IsIn x xs → f x ≡ g x) → sum_by f xs ≡ sum_by g xs
-sum-each f g [] each = refl
-sum-each f g (x ∷ xs) each = omega (arith, sum_by-cons f x xs, sum_by-cons g x xs, each x (inl refl), sum-each f g xs (λ y i. each y (inr i)))
-
-module _ (graph : Graph) (room : Arc → ℕ) (from to : ℕ) (fill : Fill) (fits : HasRoomFor graph room from to (carried_by fill)) where
-  -- over the arcs that pass a test
-  over-sum : (test : Arc → Bool) → sum_by (over fill) (filter test (arcs_of graph)) ≡ sum_by (λ arc. lots_if (test arc) fill.lots) fill.route
-  over-sum test =
-      sum_passing test (over fill) (arcs_of graph)
-      ∙ sum-each (λ arc. lots_if (test arc) (over fill arc)) (λ arc. lots_if (uses fill.route arc) (lots_if (test arc) fill.lots)) (arcs_of graph) (λ arc i. swapped (test arc) (uses fill.route arc) fill.lots)
-      ∙ sum_route graph (λ arc. lots_if (test arc) fill.lots) fill.route (λ arc i. way_has_arc graph room from to fill.route arc fits.is_route.way i)
-      (borders_once graph room from to fill.route fits.is_route.way fits.is_route.simple)
-
-  over-balance : (zone : ℕ) → sent_out graph (over fill) zone + lots_if (to == zone) fill.lots ≡ taken_in graph (over fill) zone + lots_if (from == zone) fill.lots
-  over-balance zone =
-      omega (arith, over-sum (λ arc. start_of graph arc == zone), over-sum (λ arc. end_of graph arc == zone), way-steps graph room fill.lots zone from to fill.route fits.is_route.way)
 
 -- ---- sums over makers
 
@@ -296,7 +262,7 @@ module _ (graph : Graph) (is : IsGraph graph) (side : Side) (zone : ℕ) (known 
           → ((other : ℕ) → other ≢ zone → Balances side (flow_of (taken fill.maker fill.lots makers) fills) other (given (taken fill.maker fill.lots makers) fills other))
           → (other : ℕ) → other ≢ zone → Balances side (flow_of makers (fill ∷ fills)) other (given makers (fill ∷ fills) other)
       even Sell fit rest other apart =
-          let own = over-balance graph room with.zone zone fill fit other in
+          let own = route-balance graph room with.zone zone fill.lots fill.route fit.is_route other in
           let not_here : lots_if (zone == other) fill.lots ≡ 0 = ap (λ b. lots_if b fill.lots) (ne_eqb zone other (λ e. apart (sym e))) in
           omega (
             arith,
@@ -309,7 +275,7 @@ module _ (graph : Graph) (is : IsGraph graph) (side : Side) (zone : ℕ) (known 
             given-taken fill.maker fill.lots fills other makers,
           )
       even Buy fit rest other apart =
-          let own = over-balance graph room zone with.zone fill fit other in
+          let own = route-balance graph room zone with.zone fill.lots fill.route fit.is_route other in
           let not_here : lots_if (zone == other) fill.lots ≡ 0 = ap (λ b. lots_if b fill.lots) (ne_eqb zone other (λ e. apart (sym e))) in
           omega (
             arith,

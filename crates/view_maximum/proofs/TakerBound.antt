@@ -29,6 +29,7 @@ use Rattle.market_laws.proofs.LineSums.{sum-filter, sum-map}
 use Rattle.market_laws.proofs.Placed.{all_are_sound}
 use Rattle.market_laws.proofs.Trades.{from_line}
 use Rattle.certified_maximum.proofs.CrossingPeaks.{HasPeaks, crosses-fall, while_left}
+use Rattle.certified_maximum.proofs.Duality.{sum_same_in}
 use Rattle.certified_maximum.proofs.Obtained.{sound-peaks}
 use Rattle.plain_view.specs.declared.maker.Maker.{Maker}
 use Rattle.plain_view.specs.Depth.{maker_of}
@@ -37,7 +38,6 @@ use Rattle.plain_view.proofs.LineAfter.{line-after}
 use Rattle.plain_view.proofs.NextLeg.{maker_now, taker_of}
 use Rattle.plain_view.proofs.Start.{after-start}
 use Rattle.view_maximum.specs.Views.{ViewsHaveTheirTakersBound}
-use Rattle.view_maximum.proofs.Attained.{sum-each}
 use Rattle.view_maximum.proofs.Viewed.{begun, makers-cross, name, of}
 
 -- of an order that shows all that is left of it, at a price that crosses, all crosses
@@ -111,7 +111,7 @@ module _ (setup : Setup) (is_setup : IsMarketSetup setup) (events : List Event) 
       ∙ sum_passing (λ (x : Standing). has x.order.zone zones) (crossing_lots taker) (map (now V) (filter open_now (line events contract side)))
       ∙ sum-map crossing (now V) (filter open_now (line events contract side))
       ∙ sum-filter (λ s. crossing (now V s)) open_now (line events contract side)
-      ∙ sum-each (λ s. lots_if (open_now s) (crossing (now V s))) (λ (s : Standing). lots_if (has s.order.zone zones) s.shown) (line events contract side) counts
+      ∙ sum_same_in (λ s. lots_if (open_now s) (crossing (now V s))) (λ (s : Standing). lots_if (has s.order.zone zones) s.shown) (line events contract side) counts
       ∙ sym (sum_passing (λ (x : Standing). has x.order.zone zones) (λ (x : Standing). x.shown) (line events contract side))
 
   across : (s : Side) → room_across graph (room V (contract_quarters contract)) s zones ≡ room_across graph (room events (contract_quarters contract)) s zones
@@ -119,7 +119,7 @@ module _ (setup : Setup) (is_setup : IsMarketSetup setup) (events : List Event) 
     where
       same : (test : Arc → Bool) → sum_by (room V (contract_quarters contract)) (filter test (arcs_of graph)) ≡ sum_by (room events (contract_quarters contract)) (filter test (arcs_of graph))
       same test =
-          sum-each (room V (contract_quarters contract)) (room events (contract_quarters contract)) (filter test (arcs_of graph))
+          sum_same_in (room V (contract_quarters contract)) (room events (contract_quarters contract)) (filter test (arcs_of graph))
           (λ arc i. sym ((of setup is_setup events history contract side zone known).rooms arc (from_arcs_of graph arc (from_filter test arc (arcs_of graph) i).0)))
 
       by : (s : Side) → room_across graph (room V (contract_quarters contract)) s zones ≡ room_across graph (room events (contract_quarters contract)) s zones

@@ -1,9 +1,8 @@
 -- The laws: routes, the zones in reach, and views.
-use Rattle.std.proofs.Common.{◌≡◌, ◌∙◌, ◌<◌, ◌&&◌, ℕ, Bool, true, false, not, List, [], ◌∷◌, ◌++◌, filter, map, is_some, refl, sym, ap, subst, arith}
+use Rattle.std.proofs.Common.{◌≡◌, ◌∙◌, ◌<◌, ◌&&◌, ℕ, Bool, true, false, not, List, [], ◌∷◌, ◌++◌, filter, map, is_some, refl, sym, ap, arith}
 use Rattle.std.proofs.Math.Path.{fun_ext}
-use Rattle.std.specs.List.{filter_map, range_with_len}
+use Rattle.std.specs.List.{range_with_len}
 use Rattle.order_kinds.specs.declared.contract.Contract.{Contract}
-use Rattle.order_kinds.specs.declared.order.OrderName.{OrderName}
 use Rattle.order_kinds.specs.declared.side.Side.{Side}
 use Rattle.order_kinds.specs.declared.side.Side.TheVariants.{Buy, Sell}
 use Rattle.order_kinds.specs.Period.{contract_quarters}
@@ -14,10 +13,10 @@ use Rattle.zone_graph.specs.Graph.{Graph, HasArc, HasZone, IsGraph, end_of, star
 use Rattle.zone_graph.specs.Route.{has}
 use Rattle.zone_graph.specs.Steps.{IsRun, steps}
 use Rattle.zone_graph.proofs.GridLemmas.{start_within}
-use Rattle.zone_graph.proofs.Membership.{IsIn-has, from_map}
+use Rattle.zone_graph.proofs.Membership.{IsIn-has}
 use Rattle.zone_graph.proofs.Routes.{end_within}
 use Rattle.zone_graph.proofs.Runs.{run-measured}
-use Rattle.cut_proof.proofs.Reaching.{reaches_in}
+use Rattle.cut_proof.specs.Cut.{reaches_in}
 use Rattle.cut_proof.proofs.ReachLaws.{has-beyond, has-towards, reaches-way, way-reaches}
 use Rattle.cut_proof.proofs.Ways.{way_longer}
 use Rattle.market_model.specs.declared.event.Event.{Event}
@@ -25,22 +24,15 @@ use Rattle.market_model.specs.declared.setup.Setup.{Setup}
 use Rattle.market_model.specs.Certificate.{zones_in_reach}
 use Rattle.market_model.specs.Grid.{graph_of}
 use Rattle.market_model.specs.Lines.{line}
-use Rattle.market_model.specs.Orders.{Standing}
 use Rattle.market_model.specs.Room.{room}
-use Rattle.market_model.specs.View.{rows_of, trade_of, view}
 use Rattle.market_model.specs.WellFormed.{FitAfter, IsMarketSetup}
-use Rattle.market_laws.proofs.Placed.{all_are_sound}
-use Rattle.market_laws.proofs.Trades.{from_line}
 use Rattle.market_locality.proofs.Restrict.{filter-filter}
 use Rattle.plain_orders.proofs.LineLaws.{filter-map}
 use Rattle.plain_view.specs.declared.filling.Fill.{Fill}
 use Rattle.plain_view.specs.declared.maker.Maker.{Maker}
 use Rattle.plain_view.specs.Depth.{AreInZones, Depth, after_fill, maker_of, next_fill}
-use Rattle.plain_view.specs.Filled.{row_in, rows_with}
 use Rattle.plain_view.proofs.Fills.{next_fill-is}
-use Rattle.plain_view.proofs.RowLemmas.{rows-are}
-use Rattle.plain_view.proofs.Start.{depth-start, taker_name}
-use Rattle.plain_view.proofs.Views.{legs-are, trades-of}
+use Rattle.plain_view.proofs.Views.{makers-known, view-rows}
 use Rattle.view_near.specs.Nearby.{DifferWithin, HaveNoZoneInCommon, ReachChangesNearby, RoutesDependOnWhatIsReached, RoutesDependOnWhatReaches, ViewsChangeNearby, is_elsewhere, is_within, zones_of_view}
 use Rattle.view_near.proofs.Agreement.{Agree, far_end, near_end, routes-from, routes-to}
 use Rattle.view_near.proofs.Running.{AgreeInside, run-same}
@@ -165,29 +157,6 @@ module _ (setup : Setup) (is : IsMarketSetup setup) (events : List Event) (fit :
   abbrev pub found : Depth
   found = record { makers = map maker_of (line events contract side); room = room events (contract_quarters contract); left = 4294967295 }
 
-  abbrev name : OrderName
-  name = taker_name setup events fit contract side zone
-
-  -- its makers are in zones that there are
-  pub makers-known : AreInZones (graph_of setup) (map maker_of (line events contract side))
-  makers-known = record {
-    each = λ maker i.
-        let from = from_map maker_of maker (line events contract side) i in
-        let there = from_line events contract side from.0 from.1 in
-        let sound = (all_are_sound setup events fit).orders there.order there.is_open.is_placed in
-        subst (λ (m : Maker). HasZone (graph_of setup) m.zone) (sym from.2)
-        (subst (λ (s : Standing). HasZone (graph_of setup) s.order.zone) (sym there.is) sound.in_zone);
-  }
-
-  -- the view is the rows of its trades
-  pub view-rows : (fills : List Fill) → IsRun (next_fill (graph_of setup) side zone) after_fill found fills
-      → view (graph_of setup) events contract side zone ≡ map row_in (rows_with fills)
-  unfolding view
-  view-rows fills run =
-      let of = depth-start setup events fit contract side zone (graph_of setup) (room events (contract_quarters contract)) (λ arc on. refl) in
-      let legs = legs-are (graph_of setup) is setup events fit contract side zone found fills of run in
-      sym (rows-are name fills ∙ ap rows_of (sym (ap (filter_map trade_of) legs ∙ trades-of (graph_of setup) is events contract side zone name fills)))
-
   pub fills : List Fill
   fills = steps 4294967295 (next_fill (graph_of setup) side zone) after_fill found
 
@@ -203,13 +172,13 @@ reach_nearby setup before after contract side zone touched is differ apart = rea
 pub views_nearby : ViewsChangeNearby
 views_nearby setup before after contract side zone touched is fit_before fit_after differ apart =
     let graph = graph_of setup in
-    let known_before = makers-known setup is before fit_before contract side zone in
-    let known_after = makers-known setup is after fit_after contract side zone in
+    let known_before = makers-known setup before fit_before contract side in
+    let known_after = makers-known setup after fit_after contract side in
     let alike = found-agree graph is before after contract side zone touched differ apart known_before known_after in
     let made = fills setup is before fit_before contract side zone in
     let run = fills-run setup is before fit_before contract side zone in
-    view-rows setup is after fit_after contract side zone made
+    sym (view-rows graph is setup after fit_after contract side zone (room after (contract_quarters contract)) (λ arc on. refl) made
     (run-same graph is side zone (in_reach graph (room before (contract_quarters contract)) side zone)
     (reach-own graph is (room before (contract_quarters contract)) side zone)
-    (found setup is before fit_before contract side zone) (found setup is after fit_after contract side zone) made alike run)
-    ∙ sym (view-rows setup is before fit_before contract side zone made run)
+    (found setup is before fit_before contract side zone) (found setup is after fit_after contract side zone) made alike run))
+    ∙ view-rows graph is setup before fit_before contract side zone (room before (contract_quarters contract)) (λ arc on. refl) made run

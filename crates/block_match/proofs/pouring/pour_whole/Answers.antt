@@ -1,7 +1,7 @@
 use Rattle.std.proofs.Common.{◌∙◌, ap, arith}
 use Rattle.zone_graph.specs.Rooms.{room_of}
 use Rattle.route_choice.specs.Poured.{lots_of}
-use Rattle.block_match.proofs.Rooms.{pour-within}
+use Rattle.route_choice.proofs.Pours.{pour-within}
 use Rattle.block_match.proofs.pouring.pour_whole.Goals as goal
 
 pub lots_of-requires : goal.lots_of-requires

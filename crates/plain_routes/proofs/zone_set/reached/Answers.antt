@@ -1,7 +1,8 @@
 use Rattle.std.proofs.Common.{◌∙◌, arith}
 use Rattle.std.proofs.lemmas.List.{length-set}
 use Rattle.zone_graph.specs.Rooms.{room_of}
-use Rattle.plain_routes.proofs.Reach.{found-reached, marked_more}
+use Rattle.cut_proof.proofs.Reaching.{distance_tells}
+use Rattle.plain_routes.proofs.Marked.{marked_more}
 use Rattle.plain_routes.proofs.zone_set.reached.Goals as goal
 
 pub loop-place-preserved : goal.loop-place-preserved
@@ -14,4 +15,4 @@ loop-place-preserved c = record {
 pub returns : goal.returns
 returns c = λ other known.
     c.loop-place.invariant.marked other (omega (arith, known, c.zones-zones.ensures.grid.few_zones, c.distances-distances.ensures.places))
-    ∙ found-reached c.args.grid.now (room_of c.args.rooms.now) c.args.towards c.args.zone other c.distances-distances.result c.zones-zones.ensures.grid.is_graph c.distances-distances.ensures
+    ∙ distance_tells c.args.grid.now (room_of c.args.rooms.now) c.args.zone c.args.towards c.distances-distances.result other c.zones-zones.ensures.grid.is_graph c.distances-distances.ensures
