@@ -1,5 +1,5 @@
 -- What legs make of a board, and that those of the market can be made on it.
-use Rattle.std.specs.Prelude.{◌≡◌, ◌≢◌, ℕ, ◌<◌, List, [], ◌∷◌, ◌++◌, Some, None}
+use Rattle.std.specs.Prelude.{◌≡◌, ℕ, ◌<◌, List, ◌∷◌, ◌++◌, Some}
 use Rattle.order_kinds.specs.declared.order.OrderName.{OrderName}
 use Rattle.order_kinds.specs.declared.contract.Part.{Part}
 use Rattle.order_kinds.specs.declared.side.Side.{Side}
@@ -8,7 +8,6 @@ use Rattle.market_model.specs.declared.event.Event.{Event}
 use Rattle.market_model.specs.declared.event.Event.TheVariants as event
 use Rattle.market_model.specs.declared.event.Leg.{Leg}
 use Rattle.market_model.specs.Board.{BoardState, CanBeMade, IsBoard, after_leg, first_shown, resting_line, shown_behind}
-use Rattle.market_model.specs.History.{and_then}
 use Rattle.market_model.specs.Orders.{Placed, Standing, placed}
 use Rattle.market_model.specs.Sweep.{IsSweep, leg_in, left_in_hour, sweep}
 use Rattle.market_model.specs.Taking.{IsTaking, next_leg, take}

@@ -48,7 +48,7 @@ filled-by book order lots moment found = go (order.left == lots) refl
         filled-rest book order.number order found lots moment (λ all. true≢false (sym (eq-eqb order.left lots all) ∙ e))
         ∙ sym (ap (λ b. by_next (if b then None else Some (order_after order lots moment))) e)
 
-opposite-differs : (side : Side) → side ≡ opposite side → ⊥
+pub opposite-differs : (side : Side) → side ≡ opposite side → ⊥
 opposite-differs Buy is = absurd (cc)
 opposite-differs Sell is = absurd (cc)
 

@@ -168,13 +168,12 @@ module _ (events : List Event) (hour : ℕ) (side : Side) where
       ])
 
 -- the orders of a line stand strictly in priority
-pub resting-strict : (setup : Setup) (events : List Event) → FitAfter setup [] events → (contract : Contract) (side : Side)
-    → IsStrictlyInOrder (resting_cmp side) (resting_line events contract side)
+pub line-strict : (setup : Setup) (events : List Event) → FitAfter setup [] events → (contract : Contract) (side : Side)
+    → IsStrictlyInOrder (priority_cmp side) (line events contract side)
 unfolding line
-resting-strict setup events fit contract side =
-    in_order-map resting_of (priority_cmp side) (resting_cmp side) (λ a b. refl) (line events contract side)
-    (strict-fold events contract.hour side [] (filter (stands_in events contract side) (placed events)) tt named
-    (differ-filter (stands_in events contract side) (placed events) (placed-differ setup events fit)) (λ own order i j. absurd i))
+line-strict setup events fit contract side =
+    strict-fold events contract.hour side [] (filter (stands_in events contract side) (placed events)) tt named
+    (differ-filter (stands_in events contract side) (placed events) (placed-differ setup events fit)) (λ own order i j. absurd i)
   where
     named : (order : Placed) → IsIn order (filter (stands_in events contract side) (placed events)) → order.name.hour ≡ contract.hour
     named order i =
@@ -182,3 +181,9 @@ resting-strict setup events fit contract side =
         let both = and_parts (is_open events order.name && same_contract order.order.contract contract) (same_side order.order.side side) there.1 in
         let first = and_parts (is_open events order.name) (same_contract order.order.contract contract) both.0 in
         ((all_are_sound setup events fit).orders order there.0).named ∙ ap (λ (c : Contract). c.hour) (same_contract-eq order.order.contract contract first.1)
+
+-- and so do their records
+pub resting-strict : (setup : Setup) (events : List Event) → FitAfter setup [] events → (contract : Contract) (side : Side)
+    → IsStrictlyInOrder (resting_cmp side) (resting_line events contract side)
+resting-strict setup events fit contract side =
+    in_order-map resting_of (priority_cmp side) (resting_cmp side) (λ a b. refl) (line events contract side) (line-strict setup events fit contract side)

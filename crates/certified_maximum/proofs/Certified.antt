@@ -92,10 +92,10 @@ certify : (setup : Setup) (events : List Event) (caller : ℕ) (order : Order) �
     (bound_of (graph_of setup) events caller order (unfilled_zones (graph_of setup) events caller order))
 certify setup events caller order is_setup history enters is unfilled =
     let flat = kills-flat order is in
-    let own = zones_have_own setup is_setup events history caller order enters flat in
-    let sums = obtained-rest setup is_setup events history caller order enters flat in
+    let own = zones_have_own setup is_setup events history.fit caller order enters flat in
+    let sums = obtained-rest setup is_setup events history.fit caller order enters flat in
     let rests : rest_of (graph_of setup) events caller order ≢ 0 = λ none. true≢false (sym (eq-eqb (rest_of (graph_of setup) events caller order) 0 none) ∙ unfilled) in
-    elim (filled_or_bound setup is_setup events history caller order enters flat) [
+    elim (filled_or_bound setup is_setup events history.fit caller order enters flat) [
       | inl none ↦ absurd (rests none)
       | inr bound ↦
           let below : bound_of (graph_of setup) events caller order (unfilled_zones (graph_of setup) events caller order) < order.quantity.0 = some_below _ _ _ _ sums bound rests in
@@ -106,7 +106,7 @@ certify setup events caller order is_setup history enters is unfilled =
             is_most = sym bound;
             below = below;
             no_plan_fills = λ plan planned.
-                let most = no_plan_beats_it setup events caller order plan (unfilled_zones (graph_of setup) events caller order) is_setup history planned own in
+                let most = no_plan_beats_it setup events caller order plan (unfilled_zones (graph_of setup) events caller order) is_setup history.fit planned own in
                 omega (arith, most, below);
           }
     ]

@@ -19,7 +19,7 @@ use Rattle.market_model.specs.History.{and_then}
 use Rattle.market_model.specs.Orders.{Placed, left, placed, placed_by}
 use Rattle.market_model.specs.Room.{room}
 use Rattle.market_model.specs.Taking.{next_leg}
-use Rattle.market_model.specs.WellFormed.{FitAfter, IsHistory, IsMarketSetup, OrderEnters}
+use Rattle.market_model.specs.WellFormed.{FitAfter, IsMarketSetup, OrderEnters}
 use Rattle.market_laws.proofs.Balances.{covered}
 use Rattle.market_laws.proofs.Falls.{take-run}
 use Rattle.market_laws.proofs.Members.{IsIn-filter_map}
@@ -59,7 +59,7 @@ pub bound-left : (setup : Setup) (events : List Event) (caller : ℕ) (order : O
 unfolding bound_of
 bound-left setup events caller order zones = refl
 
-module _ (setup : Setup) (is_setup : IsMarketSetup setup) (events : List Event) (history : IsHistory setup events) (caller : ℕ) (order : Order)
+module _ (setup : Setup) (is_setup : IsMarketSetup setup) (events : List Event) (fit : FitAfter setup [] events) (caller : ℕ) (order : Order)
     (enters : OrderEnters setup events (name_of_next events order) caller order) (flat : HasNoDelta order.kind) where
   abbrev graph : Graph
   graph = graph_of setup
@@ -77,7 +77,7 @@ module _ (setup : Setup) (is_setup : IsMarketSetup setup) (events : List Event) 
   entry = event.Entered (name_of_next events order) caller order
 
   pub fit_start : FitAfter setup [] start
-  fit_start = fit-more setup events entry history.fit enters
+  fit_start = fit-more setup events entry fit enters
 
   there : IsIn taker (placed start)
   there = IsIn-filter_map placed_by entry taker start (IsIn-right entry events (entry ∷ []) (inl refl)) refl
@@ -96,9 +96,9 @@ module _ (setup : Setup) (is_setup : IsMarketSetup setup) (events : List Event) 
   pub all-left : left start name ≡ order.quantity.0
   all-left =
       let quantity = entered-order start taker (names-once setup start fit_start) there in
-      let new = order_name-new setup events name caller order (names-once setup events history.fit) enters in
+      let new = order_name-new setup events name caller order (names-once setup events fit) enters in
       let nothing = entered-none name events new in
-      let most = covered setup events history.fit name in
+      let most = covered setup events fit name in
       let fills = filled-more events entry name in
       let takes = taken_off-more events entry name in
       omega (arith, quantity, nothing, most, fills, takes)

@@ -35,7 +35,7 @@ use Rattle.certified_maximum.proofs.Obtained.{fit-can_take}
 use Rattle.certified_maximum.proofs.Takers.{CanTake, IsTakersLeg, can-after, placed-after, rooms-after, takers-leg}
 
 pub legs_leave : LegsLeaveTheRooms
-legs_leave setup events contract leg arc history fits = room-leg events contract leg (within_offers setup events history.fit) fits.some fits.carried.has_room arc
+legs_leave setup events contract leg arc fit fits = room-leg events contract leg (within_offers setup events fit) fits.some fits.carried.has_room arc
 
 legs-cons : (e : Event) (leg : Leg) (events : List Event) → trade_of e ≡ Some leg → route_legs (e ∷ events) ≡ route_leg leg ∷ route_legs events
 legs-cons e leg events is = ap (λ o. map route_leg (cons_option o (filter_map trade_of events))) is
@@ -120,13 +120,13 @@ module _ (graph : Graph) (is_graph : IsGraph graph) (taker : Placed) where
       (subst (IsIn taker) (sym (placed-after graph is_graph V can taker e next)) there) run.1 h)
 
 pub takings_leave : TakingsLeaveTheRooms
-takings_leave setup events taker arc is_setup history there =
+takings_leave setup events taker arc is_setup fit there =
     let legs = take (graph_of setup) events taker.name in
     ap (λ V. room V (contract_quarters taker.order.contract) arc) (sym (fold-and_then events legs))
-    ∙ ap (λ (r : Arc → ℕ). r arc) (rooms_taken (graph_of setup) is_setup taker events legs (fit-can_take setup events history.fit) there (take-run setup is_setup events history.fit taker.name))
+    ∙ ap (λ (r : Arc → ℕ). r arc) (rooms_taken (graph_of setup) is_setup taker events legs (fit-can_take setup events fit) there (take-run setup is_setup events fit taker.name))
 
 pub takings_open : TakingsOpenNoWay
-takings_open setup events taker zone is_setup history there h =
+takings_open setup events taker zone is_setup fit there h =
     let legs = take (graph_of setup) events taker.name in
-    reached_taken (graph_of setup) is_setup taker events legs zone (fit-can_take setup events history.fit) there (take-run setup is_setup events history.fit taker.name)
+    reached_taken (graph_of setup) is_setup taker events legs zone (fit-can_take setup events fit) there (take-run setup is_setup events fit taker.name)
     (ap (λ V. has zone (zones_in_reach (graph_of setup) (room V (contract_quarters taker.order.contract)) taker.order.side taker.order.zone)) (fold-and_then events legs) ∙ h)

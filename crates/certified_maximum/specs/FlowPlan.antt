@@ -1,7 +1,7 @@
 -- Flow plans: what could flow to a taker from the opposite orders, over whatever routes and in whatever
 -- parts. They are flows in a network as textbooks on maximum flow have them, with the orders as
 -- sources and the taker's zone as the sink, and for a sell the other way round.
-use Rattle.std.specs.Prelude.{◌≡◌, ◌≢◌, ℕ, ◌+◌, ◌≤◌, ◌==◌, true, List, filter, sum_by}
+use Rattle.std.specs.Prelude.{◌≡◌, ◌≢◌, ℕ, ◌+◌, ◌≤◌, ◌==◌, true, List, [], filter, sum_by}
 use Rattle.order_kinds.specs.declared.order.Order.{Order}
 use Rattle.order_kinds.specs.declared.side.Side.{Side}
 use Rattle.order_kinds.specs.declared.side.Side.TheVariants.{Buy, Sell}
@@ -19,7 +19,7 @@ use Rattle.market_model.specs.Grid.{graph_of}
 use Rattle.market_model.specs.Lines.{line}
 use Rattle.market_model.specs.Orders.{Standing}
 use Rattle.market_model.specs.Room.{room}
-use Rattle.market_model.specs.WellFormed.{IsHistory, IsMarketSetup}
+use Rattle.market_model.specs.WellFormed.{FitAfter, IsMarketSetup}
 use Rattle.route_choice.specs.Flow.{sent_out, taken_in}
 
 -- what each order gives, and what flows over each arc
@@ -73,9 +73,9 @@ IsPlanFor graph events caller order plan =
     IsFlowPlan graph (room (with_order events caller order) (contract_quarters order.contract)) order.side order.zone
     (orders_met events caller order) (crossing_lots order) plan
 
--- so after a well-formed history no plan for an order is worth more than the bound of any set of zones
--- that has its zone
+-- so after events of which each fits those before it no plan for an order is worth more than the bound
+-- of any set of zones that has its zone
 abbrev pub NoPlanBeatsTheBound : Type 0
 NoPlanBeatsTheBound = (setup : Setup) (events : List Event) (caller : ℕ) (order : Order) (plan : FlowPlan) (zones : List ℕ)
-    → IsMarketSetup setup → IsHistory setup events → IsPlanFor (graph_of setup) events caller order plan → has order.zone zones ≡ true
+    → IsMarketSetup setup → FitAfter setup [] events → IsPlanFor (graph_of setup) events caller order plan → has order.zone zones ≡ true
     → value_of (orders_met events caller order) plan ≤ bound_of (graph_of setup) events caller order zones

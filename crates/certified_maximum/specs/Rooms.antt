@@ -1,5 +1,6 @@
--- What legs leave of the rooms of a history, and that a taking opens no way to its taker.
-use Rattle.std.specs.Prelude.{◌≡◌, ℕ, true, List, ◌++◌, map}
+-- What legs leave of the rooms of a history, and that a taking opens no way to its taker. The laws ask of
+-- the history only that each of its events fits those before it.
+use Rattle.std.specs.Prelude.{◌≡◌, ℕ, true, List, [], ◌++◌, map}
 use Rattle.std.specs.List.{filter_map}
 use Rattle.order_kinds.specs.declared.contract.Contract.{Contract}
 use Rattle.order_kinds.specs.Period.{contract_quarters}
@@ -18,7 +19,7 @@ use Rattle.market_model.specs.Orders.{Placed, placed}
 use Rattle.market_model.specs.Room.{room}
 use Rattle.market_model.specs.Taking.{take}
 use Rattle.market_model.specs.View.{trade_of}
-use Rattle.market_model.specs.WellFormed.{IsHistory, IsMarketSetup, LegFits}
+use Rattle.market_model.specs.WellFormed.{FitAfter, IsMarketSetup, LegFits}
 use Rattle.route_choice.specs.Poured.{rooms_after}
 
 -- a leg as one that a route carries
@@ -29,21 +30,21 @@ route_leg leg = record { route = leg.route; lots = leg.lots }
 abbrev pub route_legs : List Event → List RouteLeg
 route_legs events = map route_leg (filter_map trade_of events)
 
--- a leg that fits a well-formed history lowers the rooms of its arcs, over the quarters of its
+-- a leg that fits a history lowers the rooms of its arcs, over the quarters of its
 -- contract, and raises those of the opposite ones
 abbrev pub LegsLeaveTheRooms : Type 0
-LegsLeaveTheRooms = (setup : Setup) (events : List Event) (contract : Contract) (leg : Leg) (arc : Arc) → IsHistory setup events → LegFits setup events contract leg
+LegsLeaveTheRooms = (setup : Setup) (events : List Event) (contract : Contract) (leg : Leg) (arc : Arc) → FitAfter setup [] events → LegFits setup events contract leg
     → room (and_then events (event.Leg contract leg)) (contract_quarters contract) arc ≡ room_after (room events (contract_quarters contract)) (route_leg leg) arc
 
 -- so a taking leaves the rooms that its legs leave, one after the other
 abbrev pub TakingsLeaveTheRooms : Type 0
-TakingsLeaveTheRooms = (setup : Setup) (events : List Event) (taker : Placed) (arc : Arc) → IsMarketSetup setup → IsHistory setup events → IsIn taker (placed events)
+TakingsLeaveTheRooms = (setup : Setup) (events : List Event) (taker : Placed) (arc : Arc) → IsMarketSetup setup → FitAfter setup [] events → IsIn taker (placed events)
     → let legs = take (graph_of setup) events taker.name in
     room (events ++ legs) (contract_quarters taker.order.contract) arc ≡ rooms_after (room events (contract_quarters taker.order.contract)) (route_legs legs) arc
 
 -- and opens no way: a zone that is in reach of its taker when it ends was so when it began
 abbrev pub TakingsOpenNoWay : Type 0
-TakingsOpenNoWay = (setup : Setup) (events : List Event) (taker : Placed) (zone : ℕ) → IsMarketSetup setup → IsHistory setup events → IsIn taker (placed events)
+TakingsOpenNoWay = (setup : Setup) (events : List Event) (taker : Placed) (zone : ℕ) → IsMarketSetup setup → FitAfter setup [] events → IsIn taker (placed events)
     → let after = events ++ take (graph_of setup) events taker.name in
     has zone (zones_in_reach (graph_of setup) (room after (contract_quarters taker.order.contract)) taker.order.side taker.order.zone) ≡ true
     → has zone (zones_in_reach (graph_of setup) (room events (contract_quarters taker.order.contract)) taker.order.side taker.order.zone) ≡ true

@@ -8,8 +8,8 @@ pub fn no_plan_beats_a_bound()
     ensures { NoPlanBeatsABound }
 {}
 
-/// After a well-formed history no flow plan for an order that enters is worth more than the bound of
-/// any set of zones that has its zone.
+/// After events of which each fits those before it no flow plan for an order that enters is worth more
+/// than the bound of any set of zones that has its zone.
 pub fn no_plan_beats_the_bound()
     ensures { NoPlanBeatsTheBound }
 {}

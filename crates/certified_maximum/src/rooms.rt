@@ -2,13 +2,13 @@
 
 ghost use Rattle.certified_maximum.specs.Rooms.{LegsLeaveTheRooms, TakingsLeaveTheRooms, TakingsOpenNoWay};
 
-/// A leg that fits a well-formed history lowers the rooms of its arcs by its lots, and raises those of
+/// A leg that fits a history lowers the rooms of its arcs by its lots, and raises those of
 /// the opposite arcs, over the quarters of its contract.
 pub fn legs_leave_the_rooms()
     ensures { LegsLeaveTheRooms }
 {}
 
-/// A taking after a well-formed history leaves the rooms that its legs leave, one after the other.
+/// A taking leaves the rooms that its legs leave, one after the other.
 pub fn takings_leave_the_rooms()
     ensures { TakingsLeaveTheRooms }
 {}

@@ -2,8 +2,9 @@
 
 ghost use Rattle.certified_maximum.specs.Takings.{TakingsObtainTheMost, TakingsReachTheirBound};
 
-/// After a well-formed history, what an order obtains of the resting orders as it enters is its
-/// whole quantity, or exactly the bound of the zones that are still in reach when its taking ends.
+/// After events of which each fits those before it, what an order obtains of the resting orders as it
+/// enters is its whole quantity, or exactly the bound of the zones that are still in reach when its
+/// taking ends.
 /// Of an iceberg this holds where its peaks are all at one price.
 pub fn takings_reach_their_bound()
     ensures { TakingsReachTheirBound }

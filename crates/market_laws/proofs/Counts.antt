@@ -7,7 +7,7 @@ use Rattle.zone_graph.specs.Route.{IsIn}
 use Rattle.zone_graph.specs.InOrder.{put_in_order, in_order}
 
 -- putting in order keeps how many there are
-length-put_in_order : {X : Type 0} (cmp : X → X → Ordering) (ys : List X) (x : X) → length (put_in_order cmp ys x) ≡ suc (length ys)
+pub length-put_in_order : {X : Type 0} (cmp : X → X → Ordering) (ys : List X) (x : X) → length (put_in_order cmp ys x) ≡ suc (length ys)
 length-put_in_order cmp [] x = refl
 length-put_in_order cmp (y ∷ ys) x =
     elim (is_lt (cmp x y)) as (λ b. length (if b then (x ∷ y ∷ ys) else (y ∷ put_in_order cmp ys x)) ≡ suc (suc (length ys))) [

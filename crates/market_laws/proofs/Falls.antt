@@ -91,7 +91,7 @@ trade-contract graph events taker maker contract e same is =
     let made = trade-leg graph events taker maker e is in
     subst (λ c. IsLegIn c e) same (record { leg = _; is = made.is })
 
-leg_of_buy-contract : (graph : Graph) (events : List Event) (contract : Contract) (buy : Standing) (e : Event) → IsInLine events contract Buy buy
+pub leg_of_buy-contract : (graph : Graph) (events : List Event) (contract : Contract) (buy : Standing) (e : Event) → IsInLine events contract Buy buy
     → leg_of_buy graph events buy ≡ Some e → IsLegIn contract e
 leg_of_buy-contract graph events contract buy e in_line is =
     let other = bind-some (resting_trade graph events buy) (partner graph events buy) e is in
@@ -131,7 +131,7 @@ sum-lt f g (y ∷ xs) x h lt le = rw (sum_by-cons f y xs, sum_by-cons g y xs) (e
 ])
 
 -- a leg raises what is left of nothing
-leg-lowers : (events : List Event) (contract : Contract) (leg : Leg) (name : OrderName) → left (and_then events (event.Leg contract leg)) name ≤ left events name
+pub leg-lowers : (events : List Event) (contract : Contract) (leg : Leg) (name : OrderName) → left (and_then events (event.Leg contract leg)) name ≤ left events name
 leg-lowers events contract leg name = let same = left-more events (event.Leg contract leg) name refl in omega arith
 
 -- a leg that fits lowers what is left in its contract's hour

@@ -306,7 +306,7 @@ unfolding take
 take-named graph events name named = steps-named (left events name) (next_leg graph name) (λ xs e are is. next_leg-named graph name xs e are is) events named
 
 -- what is left in an hour
-left_in_hour-agree : (hours : List ℕ) (a b : List Event) (hour : ℕ) → Agree hours a b → IsIn hour hours → left_in_hour a hour ≡ left_in_hour b hour
+pub left_in_hour-agree : (hours : List ℕ) (a b : List Event) (hour : ℕ) → Agree hours a b → IsIn hour hours → left_in_hour a hour ≡ left_in_hour b hour
 left_in_hour-agree hours a b hour agree h =
     sum-same (λ (order : Placed). left a order.name) (λ order. left b order.name) (filter (λ (order : Placed). nat_eq order.name.hour hour) (placed a)) (λ order i.
     let own = eqb-true order.name.hour hour (from_filter (λ (o : Placed). nat_eq o.name.hour hour) order (placed a) i).1 in

@@ -126,7 +126,7 @@ last_place-most test before found (e ∷ events) most =
     by true = let size = length-append before (e ∷ []) in omega (arith, size)
     by false = let size = length-append before (e ∷ []) in omega (arith, size, most)
 
-moment-most : (events : List Event) (order : Placed) → moment events order ≤ length (of_hour order.name.hour events)
+pub moment-most : (events : List Event) (order : Placed) → moment events order ≤ length (of_hour order.name.hour events)
 moment-most events order = let most = last_place-most (gives_moment order) [] 0 (of_hour order.name.hour events) (omega arith) in omega (arith, most)
 
 -- an order was there at the start with the moment that it has, or has a later one than all that were

@@ -71,7 +71,7 @@ no_sooner true m n least = least
 no_sooner false m n least = omega arith
 
 -- an order with some of it filled does not go before what it was
-not_before-old : (side : Side) (order : Resting) (lots moment : ℕ) → order.side ≡ side → IsSound order → order.moment ≤ moment
+pub not_before-old : (side : Side) (order : Resting) (lots moment : ℕ) → order.side ≡ side → IsSound order → order.moment ≤ moment
     → is_lt (resting_cmp side (order_after order lots moment) order) ≡ false
 not_before-old side order lots moment on_side sound least = go order.ice refl sound.1
   where
@@ -105,7 +105,7 @@ after-side order lots moment = go order.ice refl
 -- ---- lines
 
 -- an item put behind those that it does not go before
-put-behind : {X : Type 0} (cmp : X → X → Ordering) (front back : List X) (x : X) → ((y : X) → IsIn y front → is_lt (cmp x y) ≡ false)
+pub put-behind : {X : Type 0} (cmp : X → X → Ordering) (front back : List X) (x : X) → ((y : X) → IsIn y front → is_lt (cmp x y) ≡ false)
     → put_in_order cmp (front ++ back) x ≡ front ++ put_in_order cmp back x
 put-behind cmp [] back x behind = refl
 put-behind cmp (y ∷ front) back x behind = rw (behind y (inl refl)) (ap (λ ys. y ∷ ys) (put-behind cmp front back x (λ z i. behind z (inr i))))
