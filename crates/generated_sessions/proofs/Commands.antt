@@ -13,8 +13,8 @@ use Rattle.market_spelling.specs.Numbers.{number_of, digit_of, whole_of, quantit
 use Rattle.market_spelling.specs.Words.{arc_of, side_of, block_verb_of, capacity_verb_of, verb_of}
 use Rattle.market_spelling.specs.declared.words.Verb.{Verb}
 use Rattle.market_spelling.specs.declared.words.Verb.TheVariants as verb
-use Rattle.market_text.specs.CommandLines.{order_of, short_kind_of, iceberg_of, kind_of, enter_of, block_of, offer_of, command_of}
-use Rattle.market_text.specs.Names.{place_of, zone_of, ends_of}
+use Rattle.command_lines.specs.CommandLines.{order_of, short_kind_of, iceberg_of, kind_of, enter_of, block_of, offer_of, command_of}
+use Rattle.command_lines.specs.Names.{place_of, zone_of, ends_of}
 use Rattle.market_text.specs.Steps.{is_clock}
 use Rattle.std.proofs.lemmas.Bool.Decides.{nat_tests}
 use Rattle.load_maker.specs.Lines.{trader_name, kind_words}

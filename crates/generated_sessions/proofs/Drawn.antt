@@ -17,7 +17,7 @@ use Rattle.order_kinds.specs.Side.{side_text}
 use Rattle.market_spelling.specs.Hours.{hour_of, contract_of}
 use Rattle.market_spelling.specs.Numbers.{quantity_of, price_of}
 use Rattle.market_spelling.specs.declared.words.Verb.TheVariants as verb
-use Rattle.market_text.specs.Names.{place_of}
+use Rattle.command_lines.specs.Names.{place_of}
 use Rattle.load_maker.specs.Draws.{number_of, state_after, draw}
 use Rattle.load_maker.specs.Commands.{order_on, block_on, first_hour, entry_of, terms_from, form_of, entry_from, offer_from}
 use Rattle.load_maker.specs.Lines.{spaced, zone_name, trader_name, kind_words, order_line, block_line, line_of}

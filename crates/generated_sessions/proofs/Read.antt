@@ -13,9 +13,9 @@ use Rattle.market_spelling.specs.Dates.{parts_of_date, date_of_parts, date_of}
 use Rattle.market_spelling.specs.Numbers.{digits_value, number_of}
 use Rattle.market_spelling.specs.Words.{heading_of, is_name}
 use Rattle.market_text.specs.declared.reader.Reader.{Reader}
-use Rattle.market_text.specs.CommandLines.{first_word, only_word, command_of}
+use Rattle.command_lines.specs.CommandLines.{first_word, only_word, command_of}
 use Rattle.market_text.specs.Commands.{with_commands}
-use Rattle.market_text.specs.Names.{place_of}
+use Rattle.command_lines.specs.Names.{place_of}
 use Rattle.market_text.specs.Steps.{nothing_read, day_of_word, take_day, may_add_zone, take_zone, may_join, new_ends, take_border, may_add_caller, take_caller, take_begin, header_step, words_step, take_commands}
 use Rattle.market_text.specs.Text.{words_of, line_step}
 use Rattle.market_text.proofs.StepLemmas.{command_is, entry_is, entry_taken}

@@ -1,9 +1,9 @@
 -- What was read stays well formed as lines are added.
 use Rattle.std.proofs.Common.{◌≡◌, ℕ, ℤ, ◌+◌, ◌*◌, ◌<◌, ◌≤◌, ◌==◌, Bool, true, false, ◌&&◌, nat_lt, is_none, cond, List, [], ◌∷◌, ◌++◌, length, get_or, refl, sym, ap, ◌∙◌, arith, All, count_by, length-append, map, subst, Option, Some, None, IfSome, IsSome, replicate}
 use Rattle.std.specs.Prelude.{slice_set}
-use Rattle.std.proofs.lemmas.List.{length-map, length-set, length-replicate, get_or-map, get_or-set_same, get_or-set_other, get_or_append_left}
+use Rattle.std.proofs.lemmas.List.{length-map, length_push, length-set, length-replicate, get_or-map, get_or-set_same, get_or-set_other, get_or_append_left}
 use Rattle.std.proofs.lemmas.List.FromFn.{fill_by_all}
-use Rattle.std.proofs.lemmas.List.Elements.{All-append, All-replicate}
+use Rattle.std.proofs.lemmas.List.Elements.{All-append, All-push, All-replicate}
 use Rattle.std.proofs.Math.Seq.{get_or-append_seam}
 use Rattle.std.proofs.lemmas.Bool.Decides.{nat_tests}
 use Rattle.std.proofs.lemmas.Bool.{and_parts}
@@ -19,20 +19,16 @@ use borrow.Author.Tests.{ltb-true}
 use Rattle.market_spelling.specs.Words.{is_name}
 use Rattle.market_spelling.proofs.NameLemmas.{name_from_test}
 use Rattle.market_text.specs.Commands.{commands_of, with_commands}
-use Rattle.market_text.specs.Names.{place_of}
+use Rattle.command_lines.specs.Names.{place_of}
 use Rattle.market_text.specs.Steps.{may_add_zone, may_add_caller, caller_at, callers_of, session_of}
 use Rattle.market_text.specs.Reading.{IsReading}
-use Rattle.market_text.proofs.Lists.{All-push, All-of-map, count_none, count_more}
-
--- a list with one item more is longer by one
-length-push : {X : Type 0} (xs : List X) (x : X) → length (xs ++ x ∷ []) ≡ length xs + 1
-length-push xs x = simp length-append
+use Rattle.market_text.proofs.Lists.{All-of-map, count_none, count_more}
 
 -- one zone more
 pub with_zone : (reader : Reader) (name : List ℕ) → IsReading reader → length reader.zones < 64 → IsName name
     → IsReading (record reader { zones = reader.zones ++ name ∷ [] })
 with_zone reader name r few is =
-    let more = length-push reader.zones name in
+    let more = length_push reader.zones name in
     record {
       range = r.range;
       some_zone = λ _. omega arith;
@@ -55,7 +51,7 @@ pub with_border : (reader : Reader) (ends : ℕ × ℕ) → IsReading reader →
     → ends.0 < length reader.zones → ends.1 < length reader.zones
     → IsReading (record reader { borders = reader.borders ++ ends ∷ [] })
 with_border reader ends r few one other =
-    let more = length-push reader.borders ends in
+    let more = length_push reader.borders ends in
     record {
       range = r.range;
       some_zone = r.some_zone;
@@ -87,7 +83,7 @@ counted_with_caller commands turns counted known caller lt = by (caller == lengt
         let at : caller ≡ length commands = grind (arith, nat_tests) in
         rw at (rw (get_or-append_seam commands [] [] []) (sym (count_none turns (length commands) known)))
     by false e =
-        let longer = length-push commands [] in
+        let longer = length_push commands [] in
         let differs : caller ≡ length commands → ⊥ = grind (arith, nat_tests) in
         let before : caller < length commands = omega arith in
         rw (get_or_append_left commands ([] ∷ []) [] caller before) (counted caller before)
@@ -96,10 +92,10 @@ counted_with_caller commands turns counted known caller lt = by (caller == lengt
 pub with_caller : (reader : Reader) (name : List ℕ) (role : Role) → IsReading reader → length reader.callers < 64 → IsName name
     → IsReading (record reader { callers = reader.callers ++ name ∷ []; roles = reader.roles ++ role ∷ []; commands = reader.commands ++ [] ∷ []; clocks = reader.clocks ++ None ∷ [] })
 with_caller reader name role r few is =
-    let names = length-push reader.callers name in
-    let roles = length-push reader.roles role in
-    let lists : length (reader.commands ++ [] ∷ []) ≡ length reader.commands + 1 = length-push reader.commands [] in
-    let clocks : length (reader.clocks ++ None ∷ []) ≡ length reader.clocks + 1 = length-push reader.clocks None in
+    let names = length_push reader.callers name in
+    let roles = length_push reader.roles role in
+    let lists : length (reader.commands ++ [] ∷ []) ≡ length reader.commands + 1 = length_push reader.commands [] in
+    let clocks : length (reader.clocks ++ None ∷ []) ≡ length reader.clocks + 1 = length_push reader.clocks None in
     let matched = r.matched in
     let matched_roles = r.matched_roles in
     let clocked = r.clocked in

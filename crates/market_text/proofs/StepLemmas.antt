@@ -1,13 +1,15 @@
 -- The steps of lines, by what their words are.
-use Rattle.std.proofs.Common.{◌≡◌, ℕ, List, [], ◌∷◌, refl, true, false, Some}
+use Rattle.std.proofs.Common.{◌≡◌, ◌∙◌, ℕ, List, [], ◌∷◌, refl, true, false, Option, Some, Result, Ok, Err}
 use Rattle.market_model.specs.declared.command.Command.{Command}
 use Rattle.market_spelling.specs.Words.{heading_of, verb_of}
 use Rattle.market_spelling.specs.declared.words.Heading.{Heading}
 use Rattle.market_spelling.specs.declared.words.Verb.{Verb}
+use Rattle.command_lines.specs.declared.fault.LineFault.{LineFault}
+use Rattle.command_lines.specs.declared.fault.LineFault.TheVariants as line_fault
 use Rattle.market_text.specs.declared.reader.Reader.{Reader}
-use Rattle.market_text.specs.CommandLines.{first_word, command_of}
-use Rattle.market_text.specs.Names.{place_of}
-use Rattle.market_text.specs.Steps.{header_step, heading_step, command_step, verb_step, clock_step, entry_step, is_clock, take_commands}
+use Rattle.command_lines.specs.CommandLines.{first_word, command_of}
+use Rattle.command_lines.specs.Names.{place_of}
+use Rattle.market_text.specs.Steps.{Takes, header_step, heading_step, command_step, verb_step, clock_step, entry_step, is_clock, take_commands}
 
 -- a line with this heading
 pub header_is : (reader : Reader) (all : List (List ℕ)) (word : List ℕ) (words : List (List ℕ)) (heading : Heading)
@@ -40,3 +42,9 @@ pub entry_taken : (verb : Verb) (caller : ℕ) (reader : Reader) (words : List (
     → entry_step verb caller reader words ≡ take_commands reader caller commands
 unfolding entry_step
 entry_taken verb caller reader words command commands is one = rw (is, one) refl
+
+-- a line is taken as the same step says
+pub taken : {a b : Option Reader} {read : Reader} {result : Result (Unit {0}) LineFault} → a ≡ b → Takes b read result → Takes a read result
+taken {result = Ok _} same is = record { is = same ∙ is.is }
+taken {result = Err line_fault.Bad} same is = record { is = same ∙ is.is }
+taken {result = Err line_fault.NoMemory} same is = record { is = tt }

@@ -4,11 +4,12 @@ use Rattle.std.specs.List.{onto_first, position_or_len}
 use Rattle.std.proofs.lemmas.List.Splits.{length-slice_split}
 use Rattle.market_text.specs.declared.reader.Reader.{Reader}
 use Rattle.market_text.specs.declared.session.Session.{Session}
-use Rattle.market_text.specs.declared.fault.LineFault.{LineFault}
-use Rattle.market_text.specs.declared.fault.LineFault.TheVariants as line_fault
-use Rattle.market_text.specs.Fault.{fault_at, Answers}
+use Rattle.command_lines.specs.declared.fault.LineFault.{LineFault}
+use Rattle.command_lines.specs.declared.fault.LineFault.TheVariants as line_fault
+use Rattle.market_text.specs.Fault.{fault_at}
+use Rattle.market_text.specs.Steps.{Takes}
 use Rattle.market_text.specs.Text.{lines_of, line_step, after_line, text_from, IsAnswer}
-use Rattle.market_text.proofs.NameLemmas.{none_past_end, some_place}
+use Rattle.command_lines.proofs.NameLemmas.{none_past_end, some_place}
 
 -- the place of the first line feed, or the length
 abbrev pub first_line_feed : List ℕ → ℕ
@@ -75,7 +76,7 @@ pub line_refused : (reader : Reader) (line : ℕ) (text rest : List ℕ) → lin
 line_refused reader line text rest is = followed reader line text (lines_of rest) None (some_line rest) is
 
 -- a fault at a line answers a text of which that is the first bad one
-pub answer_at : {A : Type 0} (text : Result Session ℕ) (value : Option A) (fault : LineFault) (line : ℕ)
-    → Answers value (Err fault) → (value ≡ None → text ≡ Err line) → IsAnswer text (Err (fault_at fault line))
-answer_at text value line_fault.Bad line none bad = bad none.is
-answer_at text value line_fault.NoMemory line none bad = tt
+pub answer_at : (text : Result Session ℕ) (step : Option Reader) (read : Reader) (fault : LineFault) (line : ℕ)
+    → Takes step read (Err fault) → (step ≡ None → text ≡ Err line) → IsAnswer text (Err (fault_at fault line))
+answer_at text step read line_fault.Bad line none bad = bad none.is
+answer_at text step read line_fault.NoMemory line none bad = tt

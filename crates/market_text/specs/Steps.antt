@@ -1,5 +1,5 @@
 -- What each line makes of what was read before it: none where the line is bad.
-use Rattle.std.specs.Prelude.{ℕ, ◌+◌, Bool, true, false, not, ◌&&◌, ◌==◌, nat_lt, nat_le, List, [], ◌∷◌, ◌++◌, length, map, replicate, get_or, slice_set, is_some, is_none, Option, Some, None, if◌then◌else◌}
+use Rattle.std.specs.Prelude.{◌≡◌, ℕ, ◌+◌, Bool, true, false, not, ◌&&◌, ◌||◌, ◌==◌, nat_lt, nat_le, List, [], ◌∷◌, ◌++◌, length, map, replicate, get_or, slice_set, is_some, is_none, Option, Some, None, Result, Ok, Err, if◌then◌else◌}
 use Rattle.std.specs.List.{list_any, range_with_len}
 use Rattle.contract_calendar.specs.Day.{DeliveryDay, day_of}
 use Rattle.market_model.specs.declared.command.Command.{Command}
@@ -13,12 +13,14 @@ use Rattle.market_spelling.specs.declared.words.Heading.{Heading}
 use Rattle.market_spelling.specs.declared.words.Heading.TheVariants as heading
 use Rattle.market_spelling.specs.declared.words.Verb.{Verb}
 use Rattle.market_spelling.specs.declared.words.Verb.TheVariants as verb
+use Rattle.command_lines.specs.declared.fault.LineFault.{LineFault}
+use Rattle.command_lines.specs.declared.fault.LineFault.TheVariants as line_fault
 use Rattle.market_text.specs.declared.reader.Reader.{Reader}
 use Rattle.market_text.specs.declared.session.Session.{Session}
-use Rattle.market_text.specs.Clocks.{last_clock, gates_of}
-use Rattle.market_text.specs.CommandLines.{first_word, only_word, command_of}
+use Rattle.command_lines.specs.Clocks.{last_clock, gates_of}
+use Rattle.command_lines.specs.CommandLines.{first_word, only_word, command_of}
 use Rattle.market_text.specs.Commands.{commands_of, with_commands}
-use Rattle.market_text.specs.Names.{name_at, place_of, joins_zones}
+use Rattle.command_lines.specs.Names.{name_at, place_of}
 
 -- before the first line
 abbrev pub nothing_read : Reader
@@ -33,6 +35,16 @@ nothing_read = record {
   clocks = [];
   turns = [];
 }
+
+-- what is read after a line, by its step, or `Bad` where it has none; want of memory says nothing
+abbrev pub IsStepTo : Option Reader → Reader → Result (Unit {0}) LineFault → Type 0
+IsStepTo step read (Ok _) = step ≡ Some read
+IsStepTo step read (Err line_fault.Bad) = step ≡ None
+IsStepTo step read (Err line_fault.NoMemory) = Unit {0}
+
+-- a line is taken as its step says, or answered as a bad line where it has none
+pub record Takes (step : Option Reader) (read : Reader) (result : Result (Unit {0}) LineFault) : Type 0 where
+  pub is : IsStepTo step read result
 
 -- the delivery day of a date
 unfoldable pub day_of_word : List ℕ → Option DeliveryDay
@@ -63,6 +75,10 @@ unfoldable pub take_zone : Reader → List (List ℕ) → Option Reader
 take_zone reader words = do
   name ← only_word words
   if may_add_zone reader name then Some (record reader { zones = reader.zones ++ name ∷ [] }) else None
+
+-- the ends of a border are these two zones, in either order
+abbrev pub joins_zones : (one other : ℕ) → ℕ × ℕ → Bool
+joins_zones one other ends = ((ends.0 == one) && (ends.1 == other)) || ((ends.0 == other) && (ends.1 == one))
 
 -- a border comes before any caller, between two different zones that no border joins yet; there are
 -- at most 128

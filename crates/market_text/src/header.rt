@@ -1,17 +1,16 @@
 //! The lines before the commands, and the session at the end.
 
-ghost use Rattle.std.specs.Prelude.{◌≡◌, ◌<◌, ◌≤◌, map, length, IsTrue, IfOk, IfSome};
+ghost use Rattle.std.specs.Prelude.{◌≡◌, ◌<◌, ◌≤◌, map, length, IsTrue, IfOk, IfSome, OnOk};
 ghost use Rattle.std.specs.List.{list_any};
-ghost use Rattle.market_text.specs.Fault.{Answers};
-ghost use Rattle.market_text.specs.Names.{joins_zones};
+ghost use Rattle.command_lines.specs.Fault.{Answers};
 ghost use Rattle.market_text.specs.Reading.{IsReading};
 ghost use Rattle.market_text.specs.Session.{IsSession};
 ghost use Rattle.market_text.specs.Steps as steps;
+ghost use Rattle.market_text.specs.Steps.{Takes, joins_zones};
 
-use crate::fault::LineFault;
 use crate::reader::Reader;
 use crate::session::Session;
-use crate::words::{first_word, only_word};
+use command_lines::{LineFault, first_word, only_word};
 use contract_calendar::Day;
 use market_model::{Caller, Callers, NoMemory, Role, Setup, Word};
 use market_spelling::{Heading, read_date, read_heading, spells_name};
@@ -24,10 +23,10 @@ pub const MOST_CALLERS: usize = 64;
 impl Reader {
     /// Reads a line before the commands, by its heading.
     #[tactic(auto, unfolding(crate::specs::Steps::header_step))]
-    pub fn read_header(self, alloc: Global, words: &[&[u8]]) -> Result<Reader, LineFault>
-        requires { IsReading self }
-        ensures kept { IfOk result IsReading }
-        ensures exact { Answers (steps.header_step self (map (λ word. word.now) words.now)) result }
+    pub fn read_header(&mut self, alloc: Global, words: &[&[u8]]) -> Result<(), LineFault>
+        requires { IsReading self.old }
+        ensures kept { OnOk result (IsReading self.new) }
+        ensures exact { Takes (steps.header_step self.old (map (λ word. word.now) words.now)) self.new result }
     {
         let Some((word, words)) = first_word(words) else {
             return Err(LineFault::Bad);
@@ -47,10 +46,10 @@ impl Reader {
 
     // `day` and a date, the first line that counts.
     #[tactic(auto, unfolding(crate::specs::Steps::take_day))]
-    fn read_day(mut self, words: &[&[u8]]) -> Result<Reader, LineFault>
-        requires { IsReading self }
-        ensures kept { IfOk result IsReading }
-        ensures exact { Answers (steps.take_day self (map (λ word. word.now) words.now)) result }
+    fn read_day(&mut self, words: &[&[u8]]) -> Result<(), LineFault>
+        requires { IsReading self.old }
+        ensures kept { OnOk result (IsReading self.new) }
+        ensures exact { Takes (steps.take_day self.old (map (λ word. word.now) words.now)) self.new result }
     {
         let Some(word) = only_word(words) else {
             return Err(LineFault::Bad);
@@ -62,15 +61,15 @@ impl Reader {
             return Err(LineFault::Bad);
         };
         self.day = Some(day);
-        Ok(self)
+        Ok(())
     }
 
     // `zone` and a name that no zone has, after the day and before any border or caller.
     #[tactic(auto, unfolding(crate::specs::Steps::take_zone))]
-    fn read_zone(mut self, alloc: Global, words: &[&[u8]]) -> Result<Reader, LineFault>
-        requires { IsReading self }
-        ensures kept { IfOk result IsReading }
-        ensures exact { Answers (steps.take_zone self (map (λ word. word.now) words.now)) result }
+    fn read_zone(&mut self, alloc: Global, words: &[&[u8]]) -> Result<(), LineFault>
+        requires { IsReading self.old }
+        ensures kept { OnOk result (IsReading self.new) }
+        ensures exact { Takes (steps.take_zone self.old (map (λ word. word.now) words.now)) self.new result }
     {
         let Some(name) = only_word(words) else {
             return Err(LineFault::Bad);
@@ -79,7 +78,7 @@ impl Reader {
             return Err(LineFault::Bad);
         }
         self.zones.declare(alloc, name)?;
-        Ok(self)
+        Ok(())
     }
 
     // Whether a zone of this name may be declared now.
@@ -97,16 +96,16 @@ impl Reader {
 
     // `border` and two declared zones that no border joins yet, before any caller.
     #[tactic(auto, unfolding(crate::specs::Steps::take_border))]
-    fn read_border(mut self, words: &[&[u8]]) -> Result<Reader, LineFault>
-        requires { IsReading self }
-        ensures kept { IfOk result IsReading }
-        ensures exact { Answers (steps.take_border self (map (λ word. word.now) words.now)) result }
+    fn read_border(&mut self, words: &[&[u8]]) -> Result<(), LineFault>
+        requires { IsReading self.old }
+        ensures kept { OnOk result (IsReading self.new) }
+        ensures exact { Takes (steps.take_border self.old (map (λ word. word.now) words.now)) self.new result }
     {
         let Some(ends) = self.new_ends(words) else {
             return Err(LineFault::Bad);
         };
         self.borders.push(ends)?;
-        Ok(self)
+        Ok(())
     }
 
     // The two zones of a border that may be declared now.
@@ -142,15 +141,10 @@ impl Reader {
 
     // `trader` or `operator` and a name that no caller has, after the zones.
     #[tactic(auto, unfolding(crate::specs::Steps::take_caller))]
-    fn read_caller(
-        mut self,
-        alloc: Global,
-        role: Role,
-        words: &[&[u8]],
-    ) -> Result<Reader, LineFault>
-        requires { IsReading self }
-        ensures kept { IfOk result IsReading }
-        ensures exact { Answers (steps.take_caller role self (map (λ word. word.now) words.now)) result }
+    fn read_caller(&mut self, alloc: Global, role: Role, words: &[&[u8]]) -> Result<(), LineFault>
+        requires { IsReading self.old }
+        ensures kept { OnOk result (IsReading self.new) }
+        ensures exact { Takes (steps.take_caller role self.old (map (λ word. word.now) words.now)) self.new result }
     {
         let Some(name) = only_word(words) else {
             return Err(LineFault::Bad);
@@ -162,7 +156,7 @@ impl Reader {
         self.roles.push(role)?;
         self.commands.add_caller(alloc)?;
         self.clocks.add_caller()?;
-        Ok(self)
+        Ok(())
     }
 
     // Whether a caller of this name may be declared now.
@@ -178,16 +172,16 @@ impl Reader {
 
     // `begin`, after the zones.
     #[tactic(auto, unfolding(crate::specs::Steps::take_begin))]
-    fn read_begin(mut self, words: &[&[u8]]) -> Result<Reader, LineFault>
-        requires { IsReading self }
-        ensures kept { IfOk result IsReading }
-        ensures exact { Answers (steps.take_begin self (map (λ word. word.now) words.now)) result }
+    fn read_begin(&mut self, words: &[&[u8]]) -> Result<(), LineFault>
+        requires { IsReading self.old }
+        ensures kept { OnOk result (IsReading self.new) }
+        ensures exact { Takes (steps.take_begin self.old (map (λ word. word.now) words.now)) self.new result }
     {
         if !words.is_empty() || self.zones.len() == 0 {
             return Err(LineFault::Bad);
         }
         self.has_begun = true;
-        Ok(self)
+        Ok(())
     }
 
     /// The session, where the text ends after `begin`.

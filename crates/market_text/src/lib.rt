@@ -5,14 +5,10 @@
 #![tactic(auto)]
 
 mod callers;
-mod clocks;
-mod commands;
 mod fault;
 mod header;
-mod names;
 mod reader;
 mod session;
-mod words;
 
 pub use fault::TextFault;
 pub use session::{PerCaller, Session, Turns, read_session};

@@ -1,17 +1,15 @@
 //! What was read of a session text so far, and how commands are taken.
 
-ghost use Rattle.std.specs.Prelude.{◌≡◌, ◌<◌, ◌∷◌, ◌++◌, [], length, map, replicate, OnOk, IfOk, unwrap_or};
-ghost use Rattle.market_text.specs.Fault.{Answers};
+ghost use Rattle.std.specs.Prelude.{◌≡◌, ◌<◌, ◌∷◌, ◌++◌, [], length, map, replicate, OnOk, unwrap_or};
 ghost use Rattle.market_text.specs.Reading.{IsReading};
 ghost use Rattle.market_text.specs.Steps as steps;
+ghost use Rattle.market_text.specs.Steps.{Takes};
 
 use crate::callers::CommandLists;
-use crate::clocks::{ClockTable, list_gates};
-use crate::commands::command_of_words;
-use crate::fault::LineFault;
-use crate::names::NameTable;
 use crate::session::Turns;
-use crate::words::{first_word, only_word};
+use command_lines::{
+    ClockTable, LineFault, NameTable, command_of_words, first_word, list_gates, only_word,
+};
 use contract_calendar::Day;
 use market_model::{Commands, NoMemory, Pairs, Role, Sequence};
 use market_spelling::{Verb, read_instant, read_verb};
@@ -63,11 +61,11 @@ impl Reader {
         }
     }
 
-    /// Reads a line that counts, by its words.
-    pub fn read_words(self, alloc: Global, words: &[&[u8]]) -> Result<Reader, LineFault>
-        requires { IsReading self }
-        ensures kept { IfOk result IsReading }
-        ensures exact { Answers (steps.words_step self (map (λ word. word.now) words.now)) result }
+    /// Reads a line that counts, by its words. After a fault nothing is known of what was read.
+    pub fn read_words(&mut self, alloc: Global, words: &[&[u8]]) -> Result<(), LineFault>
+        requires { IsReading self.old }
+        ensures kept { OnOk result (IsReading self.new) }
+        ensures exact { Takes (steps.words_step self.old (map (λ word. word.now) words.now)) self.new result }
     {
         if self.has_begun {
             self.read_command(alloc, words)
@@ -78,10 +76,10 @@ impl Reader {
 
     // Reads the line of a command: the name of a declared caller, a verb, and its words.
     #[tactic(auto, unfolding(crate::specs::Steps::command_step))]
-    fn read_command(self, alloc: Global, words: &[&[u8]]) -> Result<Reader, LineFault>
-        requires { IsReading self }
-        ensures kept { IfOk result IsReading }
-        ensures exact { Answers (steps.command_step self (map (λ word. word.now) words.now)) result }
+    fn read_command(&mut self, alloc: Global, words: &[&[u8]]) -> Result<(), LineFault>
+        requires { IsReading self.old }
+        ensures kept { OnOk result (IsReading self.new) }
+        ensures exact { Takes (steps.command_step self.old (map (λ word. word.now) words.now)) self.new result }
     {
         let Some((name, words)) = first_word(words) else {
             return Err(LineFault::Bad);
@@ -105,16 +103,16 @@ impl Reader {
     // Reads the words after a verb that stands for one command.
     #[tactic(auto, unfolding(crate::specs::Steps::entry_step))]
     fn read_entry(
-        self,
+        &mut self,
         alloc: Global,
         caller: usize,
         verb: Verb,
         words: &[&[u8]],
-    ) -> Result<Reader, LineFault>
-        requires reading { IsReading self }
-        requires known { caller < length self.callers }
-        ensures kept { IfOk result IsReading }
-        ensures exact { Answers (steps.entry_step verb caller self (map (λ word. word.now) words.now)) result }
+    ) -> Result<(), LineFault>
+        requires reading { IsReading self.old }
+        requires known { caller < length self.old.callers }
+        ensures kept { OnOk result (IsReading self.new) }
+        ensures exact { Takes (steps.entry_step verb caller self.old (map (λ word. word.now) words.now)) self.new result }
     {
         let command = match command_of_words(alloc, &self.zones, verb, words) {
             Ok(command) => command,
@@ -127,16 +125,11 @@ impl Reader {
 
     // Reads the instant of a clock line, which stands for gates.
     #[tactic(auto, unfolding(crate::specs::Steps::clock_step))]
-    fn read_clock(
-        mut self,
-        alloc: Global,
-        caller: usize,
-        words: &[&[u8]],
-    ) -> Result<Reader, LineFault>
-        requires reading { IsReading self }
-        requires known { caller < length self.callers }
-        ensures kept { IfOk result IsReading }
-        ensures exact { Answers (steps.clock_step caller self (map (λ word. word.now) words.now)) result }
+    fn read_clock(&mut self, alloc: Global, caller: usize, words: &[&[u8]]) -> Result<(), LineFault>
+        requires reading { IsReading self.old }
+        requires known { caller < length self.old.callers }
+        ensures kept { OnOk result (IsReading self.new) }
+        ensures exact { Takes (steps.clock_step caller self.old (map (λ word. word.now) words.now)) self.new result }
     {
         let Some(word) = only_word(words) else {
             return Err(LineFault::Bad);
@@ -155,18 +148,18 @@ impl Reader {
 
     // Takes the commands of a line.
     #[tactic(auto, unfolding(crate::specs::Steps::take_commands))]
-    fn take(mut self, caller: usize, commands: Commands) -> Result<Reader, LineFault>
-        requires reading { IsReading self }
-        requires known { caller < length self.callers }
-        ensures kept { IfOk result IsReading }
-        ensures exact { Answers (steps.take_commands self caller commands) result }
+    fn take(&mut self, caller: usize, commands: Commands) -> Result<(), LineFault>
+        requires reading { IsReading self.old }
+        requires known { caller < length self.old.callers }
+        ensures kept { OnOk result (IsReading self.new) }
+        ensures exact { Takes (steps.take_commands self.old caller commands) self.new result }
     {
         if commands.len() > MOST_COMMANDS - self.turns.len() {
             return Err(LineFault::Bad);
         }
         add_turns(&mut self.turns, caller as u32, commands.len())?;
         self.commands.give(caller, commands)?;
-        Ok(self)
+        Ok(())
     }
 }
 

@@ -1,13 +1,14 @@
 //! A session, and how it is read from a text.
 
-ghost use Rattle.std.specs.Prelude.{◌≡◌, ◌<◌, ◌+◌, ◌^◌, ◌==◌, ◌∷◌, [], length, map, position, IfOk, IfSome, MatchOption};
-ghost use Rattle.market_text.specs.Fault.{Answers};
+ghost use Rattle.std.specs.Prelude.{◌≡◌, ◌<◌, ◌+◌, ◌^◌, ◌==◌, ◌∷◌, [], length, map, position, IfOk, IfSome, MatchOption, OnOk};
 ghost use Rattle.market_text.specs.Reading.{IsReading};
 ghost use Rattle.market_text.specs.Session.{IsSession};
+ghost use Rattle.market_text.specs.Steps.{Takes};
 ghost use Rattle.market_text.specs.Text.{lines_of, words_of, line_step, session_of_text, IsAnswer};
 
-use crate::fault::{LineFault, TextFault};
+use crate::fault::TextFault;
 use crate::reader::Reader;
+use command_lines::LineFault;
 use market_model::{Commands, Sequence, Setup};
 use std::alloc::{AllocError, Global};
 
@@ -52,19 +53,20 @@ pub fn read_session(alloc: Global, bytes: &[u8]) -> Result<Session, TextFault>
     let mut rest = bytes;
     let mut line = 1;
     while let Some((text, after)) = split_line(rest) {
-        reader = match read_line(alloc, reader, text) {
-            Ok(reader) => reader,
-            Err(fault) => return Err(fault.at(line)),
-        };
-        rest = after;
-        line += 1;
+        match read_line(alloc, &mut reader, text) {
+            Ok(()) => {
+                rest = after;
+                line += 1;
+            }
+            Err(fault) => return Err(TextFault::at(fault, line)),
+        }
     }
     if !rest.is_empty() {
         return Err(TextFault::BadSession { line });
     }
     match reader.finish(alloc) {
         Ok(session) => Ok(session),
-        Err(fault) => Err(fault.at(line)),
+        Err(fault) => Err(TextFault::at(fault, line)),
     }
 }
 
@@ -89,13 +91,13 @@ fn find_line_feed(text: &[u8]) -> Option<usize>
 
 // Reads a line, which is passed over where it is empty or a comment.
 #[tactic(auto, unfolding(crate::specs::Text::line_step))]
-fn read_line(alloc: Global, reader: Reader, line: &[u8]) -> Result<Reader, LineFault>
-    requires { IsReading reader }
-    ensures kept { IfOk result IsReading }
-    ensures exact { Answers (line_step reader line.now) result }
+fn read_line(alloc: Global, reader: &mut Reader, line: &[u8]) -> Result<(), LineFault>
+    requires { IsReading reader.old }
+    ensures kept { OnOk result (IsReading reader.new) }
+    ensures exact { Takes (line_step reader.old line.now) reader.new result }
 {
     if line.is_empty() || line[0] == b'#' {
-        return Ok(reader);
+        return Ok(());
     }
     let words = split_words(alloc, line)?;
     reader.read_words(alloc, words.as_slice())

@@ -12,10 +12,10 @@ use Rattle.market_spelling.specs.Words.{verb_of}
 use Rattle.market_spelling.specs.declared.words.Verb.{Verb}
 use Rattle.market_spelling.specs.declared.words.Verb.TheVariants as verb
 use Rattle.market_text.specs.declared.reader.Reader.{Reader}
-use Rattle.market_text.specs.Clocks.{gates_of, last_clock}
-use Rattle.market_text.specs.CommandLines.{only_word, command_of}
+use Rattle.command_lines.specs.Clocks.{gates_of, last_clock}
+use Rattle.command_lines.specs.CommandLines.{only_word, command_of}
 use Rattle.market_text.specs.Commands.{commands_of, with_commands}
-use Rattle.market_text.specs.Names.{place_of}
+use Rattle.command_lines.specs.Names.{place_of}
 use Rattle.market_text.specs.Steps.{words_step, header_step, command_step, clock_step, is_clock, take_commands}
 use Rattle.market_text.proofs.StepLemmas.{command_is, clock_is, entry_is, entry_taken}
 use Rattle.text_grammar.specs.Contents.{CommandLine, IsCommandLine, command_line, caller_names, caller_number, is_clock_line, is_line_of, clock_of, last_clock_of, gates_of_words, entry_of_words, commands_of_line, all_commands, given_by, turns_of}

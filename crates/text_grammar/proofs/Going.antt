@@ -14,7 +14,7 @@ use Rattle.market_spelling.specs.Numbers.{number_of, digits_value}
 use Rattle.market_spelling.specs.Words.{is_name}
 use Rattle.market_text.specs.declared.reader.Reader.{Reader}
 use Rattle.market_text.specs.declared.session.Session.{Session}
-use Rattle.market_text.specs.Names.{place_of}
+use Rattle.command_lines.specs.Names.{place_of}
 use Rattle.market_text.specs.Steps.{words_step, session_of, day_of_word}
 use Rattle.text_grammar.specs.Contents.{day_line, zone_line, begin_line, session_of_contents}
 use Rattle.text_grammar.specs.Lines.{IsLine, counting_lines}

@@ -11,7 +11,8 @@ use Rattle.zone_graph.specs.Grid.{JoinsZones, same_ends, same_name}
 use Rattle.zone_graph.specs.GridFault.{grid_fault, has_again, has_self_border}
 use Rattle.market_model.specs.Grid.{graph_of}
 use Rattle.market_text.specs.declared.session.Session.{Session}
-use Rattle.market_text.specs.Names.{joins_zones, zone_number}
+use Rattle.command_lines.specs.Names.{zone_number}
+use Rattle.market_text.specs.Steps.{joins_zones}
 use Rattle.text_grammar.specs.Contents.{Contents, IsAllowed, IsSamePair, numbers_of, session_of_contents}
 use Rattle.text_grammar.specs.Laws.{SessionsMakeGrids}
 use Rattle.text_grammar.proofs.Places.{AreDeclared, joins_not, name_at_place, number_at_place, other_fails, place_of_declared, same_at_place}

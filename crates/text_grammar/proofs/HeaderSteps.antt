@@ -11,8 +11,8 @@ use Rattle.market_model.specs.declared.setup.Role.TheVariants as role
 use Rattle.market_spelling.specs.declared.words.Heading.{Heading}
 use Rattle.market_spelling.specs.declared.words.Heading.TheVariants as heading
 use Rattle.market_text.specs.declared.reader.Reader.{Reader}
-use Rattle.market_text.specs.Names.{place_of, joins_zones}
-use Rattle.market_text.specs.Steps.{words_step, header_step, command_step, heading_step, take_day, take_zone, take_border, take_caller, take_begin, may_add_zone, may_add_caller, may_join, new_ends, day_of_word}
+use Rattle.command_lines.specs.Names.{place_of}
+use Rattle.market_text.specs.Steps.{joins_zones, words_step, header_step, command_step, heading_step, take_day, take_zone, take_border, take_caller, take_begin, may_add_zone, may_add_caller, may_join, new_ends, day_of_word}
 use Rattle.market_text.proofs.StepLemmas.{header_is}
 use Rattle.market_spelling.proofs.NameLemmas.{test_from_name}
 use Rattle.text_grammar.specs.Contents.{CallerLine, CommandLine, day_line, zone_line, border_line, caller_line, begin_line, caller_names, IsSamePair, numbers_of, given_by, last_clock_of, turns_of}

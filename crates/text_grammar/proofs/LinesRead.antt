@@ -1,5 +1,5 @@
 -- What a line is that is taken.
-use Rattle.std.proofs.Common.{◌≡◌, ℕ, ℤ, ◌+◌, ◌<◌, ◌≤◌, ◌==◌, ◌&&◌, nat_lt, nat_le, not, Bool, true, false, List, [], ◌∷◌, length, refl, arith, Option, Some, None, is_none, is_some}
+use Rattle.std.proofs.Common.{◌≡◌, ℕ, ℤ, ◌+◌, ◌<◌, ◌≤◌, ◌==◌, nat_lt, nat_le, not, Bool, true, false, List, [], ◌∷◌, length, refl, arith, Option, Some, None, is_none, is_some}
 use Rattle.std.specs.List.{list_any}
 use Rattle.std.proofs.lemmas.Bool.{eqb-true, and_parts}
 use Rattle.std.proofs.lemmas.Bool.Decides.{nat_tests}
@@ -11,10 +11,10 @@ use Rattle.market_spelling.specs.Words.{heading_of, verb_of, is_name}
 use Rattle.market_spelling.specs.declared.words.Heading.{Heading}
 use Rattle.market_spelling.specs.declared.words.Verb.{Verb}
 use Rattle.market_text.specs.declared.reader.Reader.{Reader}
-use Rattle.market_text.specs.Clocks.{gates_of, last_clock}
-use Rattle.market_text.specs.CommandLines.{first_word, only_word, command_of}
-use Rattle.market_text.specs.Names.{place_of, joins_zones}
-use Rattle.market_text.specs.Steps.{header_step, command_step, entry_step, clock_step, take_commands, take_day, take_zone, take_border, take_caller, take_begin, may_add_zone, may_add_caller, may_join, new_ends, day_of_word}
+use Rattle.command_lines.specs.Clocks.{gates_of, last_clock}
+use Rattle.command_lines.specs.CommandLines.{first_word, only_word, command_of}
+use Rattle.command_lines.specs.Names.{place_of}
+use Rattle.market_text.specs.Steps.{joins_zones, header_step, command_step, entry_step, clock_step, take_commands, take_day, take_zone, take_border, take_caller, take_begin, may_add_zone, may_add_caller, may_join, new_ends, day_of_word}
 
 -- nothing is no value
 clash : {A : Type 0} (value : A) → None ≡ Some value → ⊥

@@ -10,8 +10,9 @@ use Rattle.std.proofs.lemmas.List.Elements.{All-map}
 use Rattle.std.proofs.lemmas.List.Folds.{list_any_none, list_any_at}
 use Rattle.std.proofs.lemmas.List.Quantifiers.{position-Some}
 use Rattle.std.proofs.lemmas.List.Sums.{position_or_len_is, fails_before_first}
-use Rattle.market_text.proofs.NameLemmas.{none_past_end}
-use Rattle.market_text.specs.Names.{place_of, zone_number, joins_zones}
+use Rattle.command_lines.proofs.NameLemmas.{none_past_end}
+use Rattle.command_lines.specs.Names.{place_of, zone_number}
+use Rattle.market_text.specs.Steps.{joins_zones}
 use Rattle.text_grammar.specs.Contents.{IsSamePair, numbers_of}
 
 -- another text fails the test

@@ -13,7 +13,7 @@ use Rattle.market_model.specs.declared.setup.Role.TheVariants as role
 use Rattle.market_spelling.specs.declared.words.Heading.{Heading}
 use Rattle.market_spelling.specs.declared.words.Heading.TheVariants as heading
 use Rattle.market_text.specs.declared.reader.Reader.{Reader}
-use Rattle.market_text.specs.Names.{place_of}
+use Rattle.command_lines.specs.Names.{place_of}
 use Rattle.market_text.specs.Steps.{words_step, heading_step, day_of_word}
 use Rattle.market_text.proofs.ReadingLemmas.{allowed_zone, allowed_caller}
 use Rattle.market_text.proofs.StepLemmas.{header_is}

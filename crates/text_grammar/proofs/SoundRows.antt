@@ -8,15 +8,15 @@ use Rattle.contract_calendar.specs.Day.{DeliveryDay}
 use Rattle.market_model.specs.declared.command.Command.{Command}
 use Rattle.market_model.specs.declared.setup.Caller.{Caller}
 use Rattle.market_spelling.specs.Dates.{instant_of}
-use Rattle.market_text.specs.CommandLines.{command_of}
-use Rattle.market_text.specs.Names.{place_of}
+use Rattle.command_lines.specs.CommandLines.{command_of}
+use Rattle.command_lines.specs.Names.{place_of}
 use Rattle.market_model.specs.declared.setup.Role.TheVariants as role
 use Rattle.market_spelling.specs.Chain.{◌>>=◌}
 use Rattle.market_spelling.specs.Words.{is_word, verb_of}
 use Rattle.market_spelling.specs.declared.words.Verb.{Verb}
 use Rattle.market_text.specs.declared.reader.Reader.{Reader}
 use Rattle.market_text.specs.declared.session.Session.{Session}
-use Rattle.market_text.specs.Clocks.{gates_of, last_clock}
+use Rattle.command_lines.specs.Clocks.{gates_of, last_clock}
 use Rattle.market_text.specs.Steps.{words_step, day_of_word, verb_step, clock_step, entry_step, is_clock, session_of, callers_of, caller_at}
 use Rattle.market_text.proofs.ReadingLemmas.{finished}
 use Rattle.market_text.proofs.StepLemmas.{command_is, clock_is, entry_is}

@@ -11,7 +11,7 @@ use Rattle.market_spelling.specs.declared.words.Heading.{Heading}
 use Rattle.market_spelling.specs.declared.words.Heading.TheVariants as heading
 use Rattle.market_spelling.specs.declared.words.Verb.{Verb}
 use Rattle.market_spelling.specs.declared.words.Verb.TheVariants as verb
-use Rattle.market_text.specs.CommandLines.{first_word, only_word}
+use Rattle.command_lines.specs.CommandLines.{first_word, only_word}
 use Rattle.market_text.specs.Steps.{is_clock}
 use Rattle.text_grammar.specs.Contents.{role_word}
 

@@ -12,9 +12,9 @@ use Rattle.market_spelling.specs.Chain.{◌>>=◌}
 use Rattle.market_spelling.specs.Dates.{instant_of}
 use Rattle.market_spelling.specs.Words.{is_word, verb_of}
 use Rattle.market_text.specs.declared.session.Session.{Session}
-use Rattle.market_text.specs.Clocks.{gates_of}
-use Rattle.market_text.specs.CommandLines.{only_word, command_of}
-use Rattle.market_text.specs.Names.{place_of, zone_number}
+use Rattle.command_lines.specs.Clocks.{gates_of}
+use Rattle.command_lines.specs.CommandLines.{only_word, command_of}
+use Rattle.command_lines.specs.Names.{place_of, zone_number}
 use Rattle.market_text.specs.Steps.{day_of_word}
 
 -- the line of a caller: what it may do, and its name

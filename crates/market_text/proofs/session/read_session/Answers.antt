@@ -16,7 +16,7 @@ loop-text-init c =
 pub loop-text-preserved : goal.loop-text-preserved
 loop-text-preserved c =
     let lines = ap (text_from c.loop-text.reader c.loop-text.line) c.in-Some.ensures.lines in
-    let next = line_taken c.loop-text.reader c.in-Ok.reader c.loop-text.line c.in-Some.text.now c.in-Some.after.now c.in-Ok.ensures.exact.is in
+    let next = line_taken c.loop-text.reader c.read_line.new.reader c.loop-text.line c.in-Some.text.now c.in-Some.after.now c.in-Ok.ensures.exact.is in
     let counted = c.loop-text.invariant.counted in
     let shorter = c.in-Some.ensures.shorter in
     record { reading = c.in-Ok.ensures.kept; decided = sym next ∙ (sym lines ∙ c.loop-text.invariant.decided); counted = omega arith }
@@ -25,5 +25,5 @@ pub returns-in-Err-clause-exact : goal.returns-in-Err-clause-exact
 returns-in-Err-clause-exact c =
     let lines = ap (text_from c.loop-text.reader c.loop-text.line) c.in-Some.ensures.lines in
     rw c.at.ensures
-    (answer_at (session_of_text c.args.bytes.now) (line_step c.loop-text.reader c.in-Some.text.now) c.in-Err.fault c.loop-text.line c.in-Err.ensures.exact
+    (answer_at (session_of_text c.args.bytes.now) (line_step c.loop-text.reader c.in-Some.text.now) _ c.in-Err.fault c.loop-text.line c.in-Err.ensures.exact
     (λ none. sym c.loop-text.invariant.decided ∙ (lines ∙ line_refused c.loop-text.reader c.loop-text.line c.in-Some.text.now c.in-Some.after.now none)))

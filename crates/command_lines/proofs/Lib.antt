@@ -1,0 +1,4 @@
+pub mod Answering
+pub mod HourLemmas
+pub mod ItemLemmas
+pub mod NameLemmas
