@@ -45,3 +45,15 @@ module _ (setup : Setup) (is_setup : IsMarketSetup setup) (parts : List Part) wh
   pub run-history : (turns : List Turn) → IsHistory setup (journal_events (run_by parts setup turns))
   run-history = run-keeps (IsHistory setup)
       (λ events caller given history own. reply-history setup is_setup parts events caller history given) nothing-history
+
+-- one more turn, one more entry
+pub run_after-more : (parts : List Part) (setup : Setup) (before : List Entry) (turns : List Turn) (turn : Turn)
+    → run_after parts setup before (turns ++ turn ∷ [])
+    ≡ run_after parts setup before turns ++ entry_of parts setup (before ++ run_after parts setup before turns) turn ∷ []
+unfolding run_after
+run_after-more parts setup before [] turn = ap (λ es. entry_of parts setup es turn ∷ []) (sym (append-nil before))
+run_after-more parts setup before (first ∷ turns) turn =
+    let entry : Entry = entry_of parts setup before first in
+    let rest : List Entry = run_after parts setup (before ++ entry ∷ []) turns in
+    ap (λ es. entry ∷ es) (run_after-more parts setup (before ++ entry ∷ []) turns turn)
+    ∙ ap (λ es. entry ∷ (rest ++ entry_of parts setup es turn ∷ [])) (append_assoc before (entry ∷ []) rest)

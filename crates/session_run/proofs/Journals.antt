@@ -15,21 +15,9 @@ use Rattle.market_model.specs.History.{events_of, journal_events}
 use Rattle.market_model.specs.Market.{Turn, entry_of, in_turn, in_turn_after, reply_to, run_after, run_of, turn_at}
 use Rattle.market_model.specs.Sweep.{all_parts}
 use Rattle.market_model.specs.WellFormed.{IsHistory, IsMarketSetup}
-use Rattle.market_laws.proofs.Journals.{journal_events-more, run-history}
+use Rattle.market_laws.proofs.Journals.{journal_events-more, run-history, run_after-more}
 use Rattle.market_text.specs.Commands.{commands_of}
 use Rattle.session_run.proofs.Turns.{turn_count}
-
--- one more turn, one more entry
-run_after-more : (setup : Setup) (before : List Entry) (turns : List Turn) (turn : Turn)
-    → run_after all_parts setup before (turns ++ turn ∷ [])
-    ≡ run_after all_parts setup before turns ++ entry_of all_parts setup (before ++ run_after all_parts setup before turns) turn ∷ []
-unfolding run_after
-run_after-more setup before [] turn = ap (λ es. entry_of all_parts setup es turn ∷ []) (sym (append-nil before))
-run_after-more setup before (first ∷ turns) turn =
-    let entry : Entry = entry_of all_parts setup before first in
-    let rest : List Entry = run_after all_parts setup (before ++ entry ∷ []) turns in
-    ap (λ es. entry ∷ es) (run_after-more setup (before ++ entry ∷ []) turns turn)
-    ∙ ap (λ es. entry ∷ (rest ++ entry_of all_parts setup es turn ∷ [])) (append_assoc before (entry ∷ []) rest)
 
 -- the turns of one more caller
 in_turn_after-more : (commands : List (List Command)) (past callers : List ℕ) (caller : ℕ)
@@ -121,7 +109,7 @@ played-more setup commands turns played entries history after entry so_far withi
     journal =
         ap (λ es. es ++ entry ∷ []) so_far.journal
         ∙ ap (λ e. before ++ e ∷ []) (sym made)
-        ∙ sym (run_after-more setup [] (in_turn commands (take played turns)) given)
+        ∙ sym (run_after-more all_parts setup [] (in_turn commands (take played turns)) given)
         ∙ ap (run_of setup) (sym turns_more)
 
 -- the history of a journal is well-formed
