@@ -17,7 +17,6 @@ use Rattle.zone_graph.specs.Steps.{IsRun}
 use Rattle.zone_graph.proofs.Membership.{IsIn-left}
 use Rattle.zone_graph.proofs.Finding.{map-none}
 use Rattle.market_model.specs.declared.event.Event.{Event}
-use Rattle.market_model.specs.declared.event.Event.TheVariants as event
 use Rattle.market_model.specs.declared.setup.Setup.{Setup}
 use Rattle.market_model.specs.Blocks.{StandingBlock, block_buyer_zone, block_leg, block_leg_over, block_legs, block_line, block_partner, block_seller_zone, can_trade_blocks, carries_whole, standing_block}
 use Rattle.market_model.specs.Grid.{graph_of}

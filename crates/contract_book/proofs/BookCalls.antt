@@ -1,26 +1,24 @@
 -- What the calls of a book make of its places and lines.
-use Rattle.std.proofs.Common.{◌≡◌, ◌≢◌, ◌∙◌, inl, inr, ℕ, ◌+◌, ◌<◌, Bool, true, false, List, [], ◌∷◌, ◌++◌, length, set, get_or, map, Contains, Option, Some, None, IsSome, refl, sym, ap, subst, arith}
+use Rattle.std.proofs.Common.{◌≡◌, ◌≢◌, ◌∙◌, inl, inr, ℕ, ◌<◌, true, false, List, [], ◌∷◌, ◌++◌, length, set, get_or, map, Option, Some, None, refl, sym, ap, subst, arith}
 use Rattle.std.proofs.lemmas.Bool.{cases_eq, true≢false}
 use Rattle.std.proofs.lemmas.Cmp.{ranked}
 use Rattle.std.proofs.lemmas.List.{get_or-set_same, get_or-set_other, length-set, map-append}
 use Rattle.std.proofs.lemmas.List.Sorted.{ranks_by}
-use Rattle.std.specs.Cmp.{IsTotalOrder}
 use Rattle.std.specs.Ordering.{MatchOrdering, is_lt, nat_cmp, ordering_reverse, ordering_then}
 use Rattle.std.specs.declared.cmp.Ordering.{Ordering}
 use Rattle.std.specs.declared.cmp.Ordering.TheVariants.{Less, Equal, Greater}
 use Rattle.order_kinds.specs.declared.side.Side.{Side}
 use Rattle.order_kinds.specs.Side.{price_cmp}
-use Rattle.order_pool.specs.Lines.{line_at, StandsIn, StandsBetween, IsInserted, IsRemoved}
+use Rattle.order_pool.specs.Lines.{line_at, StandsBetween, IsInserted, IsRemoved}
 use Rattle.order_pool.specs.Rings.{AreRings}
 use Rattle.order_pool.proofs.MoveLemmas.{between_in}
 use Rattle.zone_graph.specs.InOrder.{IsStrictlyInOrder, put_in_order}
 use Rattle.zone_graph.specs.Route.{IsIn}
 use Rattle.zone_graph.proofs.InOrder.{in_order-ahead, in_order-behind, put_in_order-between, put_in_order-map}
 use Rattle.zone_graph.proofs.Membership.{from_map}
-use Rattle.record_pool.specs.Keyed.{AreKeyed, IsAbsent, held_at, held_count}
+use Rattle.record_pool.specs.Keyed.{AreKeyed, IsAbsent, held_at}
 use Rattle.record_pool.specs.Lines.{AreLines}
 use Rattle.record_pool.specs.Ranked.{IsSpot, records_of}
-use Rattle.record_pool.proofs.Counts.{held_count-take}
 use Rattle.record_pool.proofs.KeyedLemmas.{held-within}
 use Rattle.record_pool.proofs.LineLemmas.{AreLines-put, AreLines-set, AreLines-take, from_records, line-through, other-kept, put-here, put-other, set-here, spot-inserted, take-here}
 use Rattle.contract_book.specs.declared.held.Held.{Held}
@@ -29,8 +27,8 @@ use Rattle.contract_book.specs.Book.{changed, line_without, without}
 use Rattle.contract_book.specs.Inside.{BelongsTo, IsInside, book_in, held_cmp, number_of, orders_in, side_of}
 use Rattle.contract_book.specs.Priority.{held_total}
 use Rattle.contract_book.specs.Resting.{IsSound, resting_cmp}
-use Rattle.contract_book.proofs.BookShapes.{changed-at, set-twice, without-at}
-use Rattle.contract_book.proofs.Insides.{book-set, is_alone, line-book, line-less, line_is, order_in, orders-through, stands_in}
+use Rattle.contract_book.proofs.BookShapes.{changed-at, without-at}
+use Rattle.contract_book.proofs.Insides.{book-set, is_alone, line-book, line-less, line_is, order_in, stands_in}
 
 then-equal : (a b : Ordering) → ordering_then a b ≡ Equal → b ≡ Equal
 then-equal Less b e = absurd (cc)

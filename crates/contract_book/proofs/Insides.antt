@@ -1,26 +1,26 @@
 -- What the places and lines of a book show of its orders.
-use Rattle.std.proofs.Common.{◌≡◌, ◌≢◌, ◌∙◌, inl, inr, ℕ, zero, suc, ◌+◌, ◌*◌, ◌/◌, ◌%◌, ◌<◌, ◌≤◌, ◌==◌, if◌then◌else◌, Bool, true, false, List, [], ◌∷◌, ◌++◌, length, set, get_or, map, flat_map, sum_by, Contains, Option, Some, None, IsSome, refl, sym, ap, subst, arith, eqb-true}
+use Rattle.std.proofs.Common.{◌≡◌, ◌≢◌, ◌∙◌, inl, inr, ℕ, zero, suc, ◌+◌, ◌*◌, ◌%◌, ◌<◌, ◌==◌, if◌then◌else◌, true, List, [], ◌∷◌, ◌++◌, length, set, get_or, map, flat_map, sum_by, Contains, Option, Some, None, IsSome, refl, sym, ap, subst, arith, eqb-true}
 use Rattle.std.proofs.lemmas.Bool.{cases_eq, cases_lt, true≢false}
 use Rattle.std.proofs.lemmas.List.{get_or-set_same, get_or-set_other, length-set, ext_get_or, get_or-map, length-map, get_or_past, map-append}
 use Rattle.std.proofs.lemmas.List.Sums.{sum_by-cons}
-use Rattle.std.specs.List.{cons_option, find, list_any}
+use Rattle.std.specs.List.{cons_option, list_any}
 use Rattle.order_kinds.specs.declared.side.Side.{Side}
 use Rattle.order_kinds.specs.declared.side.Side.TheVariants.{Buy, Sell}
-use Rattle.order_pool.specs.Lines.{line_at, first_in, StandsIn, StandsBetween, IsNext}
+use Rattle.order_pool.specs.Lines.{line_at, first_in, StandsIn, StandsBetween}
 use Rattle.order_pool.proofs.Chains.{Misses}
 use Rattle.order_pool.proofs.OnceLemmas.{misses_contains, once_back, once_front}
-use Rattle.zone_graph.specs.InOrder.{IsStrictlyInOrder, put_in_order}
+use Rattle.zone_graph.specs.InOrder.{IsStrictlyInOrder}
 use Rattle.zone_graph.specs.Route.{IsIn}
 use Rattle.zone_graph.proofs.InOrder.{in_order-map}
 use Rattle.zone_graph.proofs.Membership.{IsIn-flat_map, from_flat_map, IsIn-map, from_map}
 use Rattle.record_pool.specs.Keyed.{held_at, held_count, IsAbsent}
 use Rattle.record_pool.specs.Ranked.{records_of}
 use Rattle.record_pool.proofs.Counts.{held_count-most}
-use Rattle.record_pool.proofs.LineLemmas.{from_records, in_records, line-through}
+use Rattle.record_pool.proofs.LineLemmas.{from_records, in_records}
 use Rattle.record_pool.proofs.SpotLemmas.{records-through}
 use Rattle.contract_book.specs.declared.held.Held.{Held}
 use Rattle.contract_book.specs.declared.resting.Resting.{Resting}
-use Rattle.contract_book.specs.Book.{IsBook, after_in, first_of, has_number, line_number, line_without, line_of, order_count, order_of, parts_of}
+use Rattle.contract_book.specs.Book.{IsBook, after_in, first_of, has_number, line_number, line_without, line_of, order_count, order_of}
 use Rattle.contract_book.specs.Inside.{BelongsTo, IsInside, book_in, held_cmp, number_of, orders_in, side_of}
 use Rattle.contract_book.specs.Resting.{IsSound, resting_cmp}
 use Rattle.contract_book.proofs.BookShapes.{IsAlone, any-no, any-some, find-no, find-only, has-number, has_not-number, line_without-here}

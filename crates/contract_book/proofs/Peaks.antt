@@ -1,7 +1,7 @@
 -- An iceberg of which some of what shows is filled agrees with itself again.
-use Rattle.std.proofs.Common.{◌≡◌, ℕ, ◌+◌, ◌-◌, ◌/◌, ◌%◌, ◌<◌, ◌≤◌, refl, arith}
+use Rattle.std.proofs.Common.{ℕ, ◌+◌, ◌-◌, ◌<◌, ◌≤◌, refl, arith}
 use Rattle.std.specs.Prelude.{IsTrue}
-use Rattle.order_kinds.specs.Order.{last_peak, peak_number, peak_price}
+use Rattle.order_kinds.specs.Order.{peak_number}
 use Rattle.order_kinds.specs.Price.{price_in_range}
 use Rattle.iceberg_peak.specs.Peak.{showing_price}
 use Rattle.iceberg_peak.proofs.PeakLemmas.{number-rises}

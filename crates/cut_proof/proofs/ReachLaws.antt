@@ -5,7 +5,7 @@ use Rattle.std.proofs.lemmas.Bool.{cases_lt, true≢false}
 use Rattle.std.specs.List.{range_with_len}
 use Rattle.zone_graph.specs.declared.route.Arc.{Arc}
 use Rattle.zone_graph.specs.declared.route.RouteLeg.{RouteLeg}
-use Rattle.zone_graph.specs.Graph.{Graph, HasArc, HasZone, IsGraph, arcs_of, end_of, start_of, zone_count}
+use Rattle.zone_graph.specs.Graph.{Graph, HasZone, IsGraph, arcs_of, end_of, start_of, zone_count}
 use Rattle.zone_graph.specs.Pour.{lots_if, opposite_arc, room_after, uses}
 use Rattle.zone_graph.specs.Reach.{enters, leaves, reaches, zones_beyond, zones_towards}
 use Rattle.zone_graph.specs.Route.{IsIn, IsWay, has}

@@ -39,7 +39,7 @@ not_before a b none = go (int_cmp b a) (int_ranks b a) none
     go Greater is e = grind (arith, is)
 
 -- priority begins with the price
-price-first : (side : Side) (a b : Standing) → is_lt (priority_cmp side b a) ≡ false → is_lt (price_cmp side b.price a.price) ≡ false
+pub price-first : (side : Side) (a b : Standing) → is_lt (priority_cmp side b a) ≡ false → is_lt (price_cmp side b.price a.price) ≡ false
 price-first side a b none = go (price_cmp side b.price a.price) (time_cmp b a) none
   where
     go : (r t : Ordering) → is_lt (ordering_then r t) ≡ false → is_lt r ≡ false

@@ -1,7 +1,6 @@
 -- What is in a list that is searched, put in order or picked from another one.
-use Rattle.std.proofs.Common.{◌≡◌, ◌∙◌, ◌⊎◌, inl, inr, true, false, List, [], ◌∷◌, fold, Option, Some, None, refl, sym, ap, subst, if◌then◌else◌}
+use Rattle.std.proofs.Common.{◌≡◌, ◌∙◌, ◌⊎◌, inl, inr, List, [], ◌∷◌, fold, Option, Some, None, refl, sym, ap, subst}
 use Rattle.std.specs.List.{cons_option, filter_map}
-use Rattle.std.specs.Ordering.{is_lt}
 use Rattle.std.specs.declared.cmp.Ordering.{Ordering}
 use Rattle.zone_graph.specs.Route.{IsIn}
 use Rattle.market_model.specs.Sweep.{first_answer, or_else}

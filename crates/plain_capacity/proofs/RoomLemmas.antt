@@ -7,7 +7,6 @@ use Rattle.std.proofs.lemmas.Grind.{flat_map-append}
 use Rattle.std.proofs.lemmas.List.{length-map, map-append}
 use Rattle.std.proofs.lemmas.List.Sums.{fold-append}
 use Rattle.order_kinds.specs.declared.contract.Part.{Part}
-use Rattle.order_kinds.specs.declared.contract.Part.TheVariants as part
 use Rattle.order_kinds.specs.Contract.{is_known, quarters}
 use Rattle.order_kinds.specs.Period.{EachQuarter, block_quarters, hour_quarters, hours_from, quarter_of}
 use Rattle.quarter_capacity.specs.Capacity.{remaining_of}

@@ -7,13 +7,10 @@ use Rattle.order_kinds.specs.declared.side.Side.{Side}
 use Rattle.order_kinds.specs.declared.side.Side.TheVariants.{Buy, Sell}
 use Rattle.order_kinds.specs.Same.{same_side}
 use Rattle.zone_graph.specs.declared.route.Arc.{Arc}
-use Rattle.zone_graph.specs.Graph.{Graph, HasArc, HasZone, IsGraph}
-use Rattle.zone_graph.specs.Route.{IsIn, best_route}
+use Rattle.zone_graph.specs.Graph.{Graph, HasZone}
 use Rattle.zone_graph.proofs.Finding.{from_find}
-use Rattle.zone_graph.proofs.Carrying.{best_route-route}
 use Rattle.market_locality.proofs.Restrict.{find-same}
 use Rattle.cut_proof.specs.Cut.{reaches_in}
-use Rattle.cut_proof.proofs.Ways.{way_has_arc}
 use Rattle.plain_routes.specs.declared.zone_set.ZoneSet.{ZoneSet}
 use Rattle.plain_routes.specs.Reached.{has_zone}
 use Rattle.plain_view.specs.declared.maker.Maker.{Maker}

@@ -1,4 +1,4 @@
-use Rattle.std.proofs.Common.{◌∙◌, Some, IsSome, ap, refl, set, subst, sym}
+use Rattle.std.proofs.Common.{◌∙◌, IsSome, ap, refl, subst, sym}
 use Rattle.record_pool.specs.Keyed.{AreKeyed}
 use Rattle.record_pool.proofs.LineLemmas.{free-absent, spot-stands}
 use Rattle.contract_book.specs.Inside.{BelongsTo, IsInside, book_in, held_cmp, number_of, side_of}

@@ -1,11 +1,10 @@
-use Rattle.std.proofs.Common.{◌≡◌, ◌∙◌, Some, ap, length, refl, subst, sym, arith, ◌<◌}
+use Rattle.std.proofs.Common.{◌≡◌, ◌∙◌, ap, refl, subst, sym, arith}
 use Rattle.std.proofs.lemmas.Bool.Decides.{Decides-int_eq}
-use Rattle.std.specs.Option.{IsSomeAnd}
 use Rattle.order_kinds.specs.declared.price.Price.{Price}
-use Rattle.record_pool.specs.Keyed.{AreKeyed, held_at}
+use Rattle.record_pool.specs.Keyed.{AreKeyed}
 use Rattle.contract_book.specs.declared.held.Held.{Held}
 use Rattle.contract_book.specs.Book.{without}
-use Rattle.contract_book.specs.Inside.{BelongsTo, IsInside, book_in, number_of, side_of}
+use Rattle.contract_book.specs.Inside.{IsInside, book_in, number_of}
 use Rattle.contract_book.proofs.BookCalls.{set-book, set-inside}
 use Rattle.contract_book.proofs.BookShapes.{changed-again}
 use Rattle.contract_book.proofs.Insides.{is_alone, line_is, stands_in}

@@ -1,5 +1,4 @@
-use Rattle.std.proofs.Common.{◌≡◌, ◌∙◌, IsSome, ap, refl, subst, sym}
-use Rattle.contract_book.specs.Inside.{number_of}
+use Rattle.std.proofs.Common.{◌∙◌, sym}
 use Rattle.contract_book.proofs.Told.{told-after-live, told-after-none, told-after-some, told-none}
 use Rattle.contract_book.proofs.book.ContractBook.after.Goals as goal
 

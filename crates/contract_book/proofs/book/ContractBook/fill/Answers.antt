@@ -1,5 +1,5 @@
-use Rattle.std.proofs.Common.{◌≡◌, ◌<◌, ◌≤◌, ◌∙◌, Some, ap, refl, sym, arith}
-use Rattle.contract_book.specs.Book.{changed, order_of, without}
+use Rattle.std.proofs.Common.{◌≡◌, ◌∙◌, ap, refl, sym, arith}
+use Rattle.contract_book.specs.Book.{changed, without}
 use Rattle.contract_book.specs.Inside.{number_of}
 use Rattle.contract_book.proofs.Told.{filled-emptied, filled-rest, shown-most, told-none, told-order, told-sound}
 use Rattle.contract_book.proofs.book.ContractBook.fill.Goals as goal

@@ -1,4 +1,4 @@
-use Rattle.std.proofs.Common.{◌≡◌, ◌∙◌, Some, None, IsSome, ap, refl, subst, sym}
+use Rattle.std.proofs.Common.{◌≡◌, ◌∙◌, Some, None, ap, sym}
 use Rattle.order_pool.specs.Lines.{first_in, line_at}
 use Rattle.contract_book.specs.Book.{line_number}
 use Rattle.contract_book.proofs.Told.{told-first-live, told-first-none, told-first-some}

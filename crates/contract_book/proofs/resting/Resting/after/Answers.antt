@@ -1,5 +1,3 @@
-use Rattle.contract_book.proofs.BookCalls.{apart_by_number}
-use Rattle.contract_book.proofs.BookShapes.{without-none}
 use Rattle.std.proofs.Common.{sym, subst}
 use Rattle.contract_book.specs.Resting.{AgreesWith, IsIceberg, IsSound}
 use Rattle.contract_book.proofs.Peaks.{iceberg_after-sound}
