@@ -4,7 +4,6 @@
 ghost use Rattle.std.specs.Prelude.{◌≡◌, ◌<◌, IfOk, true, length, pos, ◌≤ℤ◌};
 ghost use Rattle.flow_netting.specs.Flows.{border_count, remaining_of};
 
-use crate::two_zones;
 use capacity_requests::{test_offer, test_request};
 use flow_netting::{HourFlows, QuarterSet};
 use order_kinds::Phase;
@@ -12,6 +11,7 @@ use quarter_capacity::{BelowFlow, QuarterRow};
 use std::alloc::Global;
 use std::process::Abort;
 use std::test::Fail;
+use worked_grids::two_zones;
 use zone_graph::{Arc, Rooms, Route};
 
 const HOUR: u8 = 15;

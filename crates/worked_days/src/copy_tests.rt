@@ -1,12 +1,11 @@
 //! Copies, each once with ample memory.
 
+use crate::setups::setup_of;
 use market_model::{
-    Arc, Caller, Callers, Command, Commands, Contract, Duplicate, Event, Events, Kind, Leg, Lots,
-    Names, NoMemory, Order, OrderName, Orders, Pairs, Part, Price, Quarter, Refusal, Reply, Role,
-    Route, Rows, Setup, Side, ViewRow, Word, Zones,
+    Arc, Command, Commands, Contract, Duplicate, Event, Events, Kind, Leg, Lots, NoMemory, Order,
+    OrderName, Orders, Part, Price, Quarter, Refusal, Reply, Route, Rows, Side, ViewRow, Zones,
 };
 use std::alloc::Global;
-use std::process::Abort;
 use std::test::Fail;
 
 const NAME: OrderName = OrderName {
@@ -70,26 +69,32 @@ fn commands_are_copied(rt: HostRuntime) -> Result<(), Fail> {
         last: QUARTER,
         lots: 60,
     })?;
-    assert_eq!(rt; commands.copy()?, commands);
+    assert!(rt; commands.copy()? == commands);
     Ok(())
 }
 
-#[test]
-fn events_are_copied(rt: HostRuntime) -> Result<(), Fail> {
-    let mut events = Events::new(rt.alloc());
-    events.push(Event::Entered {
-        name: NAME,
-        caller: 4,
-        order: ORDER,
-    })?;
+// Two trades over one border, one of them of blocks.
+fn trades(alloc: Global) -> Result<Events, NoMemory> {
+    let mut events = Events::new(alloc);
     events.push(Event::Leg {
         contract: ORDER.contract,
-        leg: leg(rt.alloc())?,
+        leg: leg(alloc)?,
     })?;
     events.push(Event::BlockLeg {
         first: 10,
         last: 13,
-        leg: leg(rt.alloc())?,
+        leg: leg(alloc)?,
+    })?;
+    Ok(events)
+}
+
+#[test]
+fn events_are_copied(rt: HostRuntime) -> Result<(), Fail> {
+    let mut events = trades(rt.alloc())?;
+    events.push(Event::Entered {
+        name: NAME,
+        caller: 4,
+        order: ORDER,
     })?;
     events.push(Event::Granted {
         arc: ARC,
@@ -97,60 +102,52 @@ fn events_are_copied(rt: HostRuntime) -> Result<(), Fail> {
         last: QUARTER,
         lots: 1,
     })?;
-    assert_eq!(rt; events.copy()?, events);
+    assert!(rt; events.copy()? == events);
     Ok(())
 }
 
-// A reply equals its copy.
-fn is_copied<R: Abort>(rt: &R, reply: &Reply) -> Result<(), NoMemory> {
-    assert_eq!(rt; &reply.copy()?, reply);
-    Ok(())
+// Whether a reply equals its copy.
+fn is_copied(reply: Reply) -> Result<bool, NoMemory> {
+    Ok(reply.copy()? == reply)
 }
 
-#[test]
-fn replies_are_copied(rt: HostRuntime) -> Result<(), Fail> {
-    is_copied(&rt, &Reply::Done(Events::new(rt.alloc())))?;
-    let mut rows = Rows::new(rt.alloc());
+// The rows of a view.
+fn seen(alloc: Global) -> Result<Reply, NoMemory> {
+    let mut rows = Rows::new(alloc);
     rows.push(ViewRow {
         price: Price(4000),
         lots: 20,
     })?;
-    is_copied(&rt, &Reply::Seen(rows))?;
+    Ok(Reply::Seen(rows))
+}
+
+// The refusal of a basket that is not filled.
+fn unfilled(alloc: Global) -> Result<Reply, NoMemory> {
+    let mut zones = Zones::new(alloc);
+    zones.push(3)?;
+    Ok(Reply::Refused(Refusal::BasketUnfilled {
+        hour: 11,
+        zones,
+        bound: 30,
+    }))
+}
+
+#[test]
+fn replies_are_copied(rt: HostRuntime) -> Result<(), Fail> {
     let below_flow = Refusal::BelowFlow {
         quarter: QUARTER,
         flow: 50,
     };
-    is_copied(&rt, &Reply::Refused(below_flow))?;
-    let mut zones = Zones::new(rt.alloc());
-    zones.push(3)?;
-    let unfilled = Refusal::BasketUnfilled {
-        hour: 11,
-        zones,
-        bound: 30,
-    };
-    is_copied(&rt, &Reply::Refused(unfilled))?;
+    assert!(rt; is_copied(Reply::Done(Events::new(rt.alloc())))?);
+    assert!(rt; is_copied(Reply::Refused(below_flow))?);
+    assert!(rt; is_copied(seen(rt.alloc())?)?);
+    assert!(rt; is_copied(unfilled(rt.alloc())?)?);
     Ok(())
 }
 
 #[test]
 fn a_setup_is_copied(rt: HostRuntime) -> Result<(), Fail> {
-    let mut zones = Names::new(rt.alloc());
-    zones.push(Word::new(rt.alloc(), b"DE")?)?;
-    zones.push(Word::new(rt.alloc(), b"FR")?)?;
-    let mut borders = Pairs::new(rt.alloc());
-    borders.push((0, 1))?;
-    let mut callers = Callers::new(rt.alloc());
-    callers.push(Caller {
-        name: Word::new(rt.alloc(), b"tso")?,
-        role: Role::Operator,
-        room: 9,
-    })?;
-    let setup = Setup {
-        hours: 24,
-        zones,
-        borders,
-        callers,
-    };
-    assert_eq!(rt; setup.copy()?, setup);
+    let setup = setup_of(rt.alloc())?;
+    assert!(rt; setup.copy()? == setup);
     Ok(())
 }

@@ -1,21 +1,21 @@
 //! Lists, words, names and grids: each call that takes memory once with ample memory.
 
-ghost use Rattle.std.specs.Prelude.{◌≡◌, ◌&&◌, IfOk, true, length, nat_lt};
-ghost use Rattle.zone_graph.specs.Graph.{border_count};
+ghost use Rattle.std.specs.Prelude.{◌≡◌, ◌&&◌, true, length, nat_lt};
 ghost use Rattle.std.specs.List.{list_all};
 
 use std::alloc::Global;
 use std::test::Fail;
+use worked_grids::{diamond, rooms_of};
 use zone_graph::{
-    Arc, Duplicate, Grid, GridFault, Legs, Names, Neighbour, Pairs, Rooms, Route, RouteLeg, Text,
-    Word, is_name,
+    Arc, Duplicate, Grid, GridFault, Legs, Names, Neighbour, Pairs, Route, RouteLeg, Text, Word,
+    is_name,
 };
 
 #[test]
 fn words_and_texts_hold_their_bytes(rt: HostRuntime) -> Result<(), Fail> {
     let word = Word::new(rt.alloc(), b"replay")?;
     assert_eq!(rt; word.bytes(), b"replay".as_slice());
-    assert_eq!(rt; word.copy()?, word);
+    assert!(rt; word.copy()? == word);
     let text = Text::new(rt.alloc(), b"one line\n")?;
     assert_eq!(rt; text.bytes(), b"one line\n".as_slice());
     Ok(())
@@ -57,7 +57,6 @@ fn names_are_of_letters_digits_low_lines_and_hyphens(rt: HostRuntime) {
 // The grid of these zones and borders.
 fn named_grid(alloc: Global, names: &[&[u8]], pairs: &[(u32, u32)]) -> Result<Grid, GridFault>
     requires { list_all (λ ends. nat_lt ends.0 (length names.now) && nat_lt ends.1 (length names.now)) pairs.now ≡ true }
-    ensures { IfOk result (λ grid. grid.borders ≡ pairs.now) }
 {
     let mut zones = Names::new(alloc);
     for name in names {
@@ -67,44 +66,38 @@ fn named_grid(alloc: Global, names: &[&[u8]], pairs: &[(u32, u32)]) -> Result<Gr
     Grid::new(alloc, &zones, &borders)
 }
 
-fn fault_of(made: Result<Grid, GridFault>) -> Option<GridFault> {
-    made.err()
+// Why there is no grid of these zones and borders.
+fn fault_of(alloc: Global, names: &[&[u8]], pairs: &[(u32, u32)]) -> Option<GridFault>
+    requires { list_all (λ ends. nat_lt ends.0 (length names.now) && nat_lt ends.1 (length names.now)) pairs.now ≡ true }
+{
+    named_grid(alloc, names, pairs).err()
 }
 
 #[test]
 fn a_grid_has_few_zones_and_borders_of_which_no_two_are_alike(rt: HostRuntime) {
-    let many_zones = named_grid(rt.alloc(), &[b"A".as_slice(); 65], &[]);
-    assert_eq!(rt; fault_of(many_zones), Some(GridFault::TooManyZones));
-    let twice = named_grid(rt.alloc(), &[b"A".as_slice(), b"B", b"A"], &[(0, 0)]);
-    assert_eq!(rt; fault_of(twice), Some(GridFault::ZoneTwice));
-    let many_borders = named_grid(rt.alloc(), &[b"A".as_slice(), b"B"], &[(0, 1); 129]);
-    assert_eq!(rt; fault_of(many_borders), Some(GridFault::TooManyBorders));
-    let itself = named_grid(
-        rt.alloc(),
-        &[b"A".as_slice(), b"B"],
-        &[(0, 1), (1, 0), (1, 1)],
-    );
-    assert_eq!(rt; fault_of(itself), Some(GridFault::SelfBorder));
-    let again = named_grid(rt.alloc(), &[b"A".as_slice(), b"B"], &[(0, 1), (1, 0)]);
-    assert_eq!(rt; fault_of(again), Some(GridFault::BorderTwice));
+    let alloc = rt.alloc();
+    let two = [b"A".as_slice(), b"B"];
+    let many_zones = fault_of(alloc, &[b"A".as_slice(); 65], &[]);
+    assert_eq!(rt; many_zones, Some(GridFault::TooManyZones));
+    let twice = fault_of(alloc, &[b"A".as_slice(), b"B", b"A"], &[(0, 0)]);
+    assert_eq!(rt; twice, Some(GridFault::ZoneTwice));
+    let many_borders = fault_of(alloc, &two, &[(0, 1); 129]);
+    assert_eq!(rt; many_borders, Some(GridFault::TooManyBorders));
+    let itself = fault_of(alloc, &two, &[(0, 1), (1, 0), (1, 1)]);
+    assert_eq!(rt; itself, Some(GridFault::SelfBorder));
+    let again = fault_of(alloc, &two, &[(0, 1), (1, 0)]);
+    assert_eq!(rt; again, Some(GridFault::BorderTwice));
 }
 
-// Four zones A, B, C and D, with borders A B, A C, B D and C D.
-fn four_zones(alloc: Global) -> Result<Grid, GridFault>
-    ensures { IfOk result (λ grid. border_count grid ≡ 4) }
-{
-    named_grid(
-        alloc,
-        &[b"A".as_slice(), b"B", b"C", b"D"],
-        &[(0, 1), (0, 2), (1, 3), (2, 3)],
-    )
+// The zone of a grid that has a name.
+fn zone_named(alloc: Global, grid: &Grid, name: &[u8]) -> Result<Option<u32>, Fail> {
+    Ok(grid.zone_named(&Word::new(alloc, name)?))
 }
 
 #[test]
 fn zones_borders_and_arcs_are_found_in_a_grid(rt: HostRuntime) -> Result<(), Fail> {
-    let grid = four_zones(rt.alloc())?;
-    assert_eq!(rt; grid.zones(), 4);
-    assert_eq!(rt; grid.borders(), 4);
+    let grid = diamond(rt.alloc())?;
+    assert_eq!(rt; (grid.zones(), grid.borders()), (4, 4));
     assert_eq!(rt; grid.ends(Arc::over(2, true)), (1, 3));
     assert_eq!(rt; grid.ends(Arc::over(2, false)), (3, 1));
     for (from, to, arc) in [
@@ -115,7 +108,7 @@ fn zones_borders_and_arcs_are_found_in_a_grid(rt: HostRuntime) -> Result<(), Fai
         (4, 0, None),
         (0, 4, None),
     ] {
-        assert_eq!(rt; grid.arc(from, to), arc, "from {from} to {to}");
+        assert!(rt; grid.arc(from, to) == arc, "from {from} to {to}");
     }
     let towards = [
         Neighbour {
@@ -127,22 +120,18 @@ fn zones_borders_and_arcs_are_found_in_a_grid(rt: HostRuntime) -> Result<(), Fai
             zone: 2,
         },
     ];
-    assert_eq!(rt; grid.neighbours(3), towards.as_slice());
-    assert_eq!(rt; grid.zone_named(&Word::new(rt.alloc(), b"C")?), Some(2));
-    assert_eq!(rt; grid.zone_named(&Word::new(rt.alloc(), b"CC")?), None);
+    assert!(rt; grid.neighbours(3) == towards.as_slice());
+    for (name, zone) in [(b"AC".as_slice(), Some(2)), (b"C", None), (b"ACC", None)] {
+        assert!(rt; zone_named(rt.alloc(), &grid, name)? == zone, "{name:?}");
+    }
     Ok(())
 }
 
 #[test]
 fn each_arc_has_a_room_of_its_own(rt: HostRuntime) -> Result<(), Fail> {
-    let grid = four_zones(rt.alloc())?;
-    let mut rooms = Rooms::new(&grid)?;
-    rooms.set(Arc::over(1, true), 5);
-    rooms.set(Arc::over(1, false), 9);
-    let mut other = Rooms::new(&grid)?;
-    other.set(Arc::over(1, true), 7);
-    other.set(Arc::over(1, false), 6);
-    other.set(Arc::over(3, true), 8);
+    let grid = diamond(rt.alloc())?;
+    let mut rooms = rooms_of(&grid, &[(0, 0), (5, 9), (0, 0), (0, 0)])?;
+    let other = rooms_of(&grid, &[(0, 0), (7, 6), (0, 0), (8, 0)])?;
     rooms.least_with(&other);
     assert_eq!(rt; rooms.at(Arc::over(1, true)), 5);
     assert_eq!(rt; rooms.at(Arc::over(1, false)), 6);

@@ -141,12 +141,13 @@ fn parts_and_their_quarters(rt: HostRuntime) {
     }
 }
 
-fn text_of<T: Display>(alloc: Global, value: &T) -> Result<String, AllocError> {
-    format!(in alloc; "{value}")
+// Whether a value is printed as this text.
+fn is_printed<T: Display>(alloc: Global, value: &T, text: &str) -> Result<bool, AllocError> {
+    Ok(format!(in alloc; "{value}")?.as_str() == text)
 }
 
 #[test]
-fn printed_text(rt: HostRuntime) -> Result<(), Fail> {
+fn printed_prices_and_lots(rt: HostRuntime) -> Result<(), Fail> {
     for (cents, text) in [
         (0, "0.00"),
         (5000, "50.00"),
@@ -157,37 +158,44 @@ fn printed_text(rt: HostRuntime) -> Result<(), Fail> {
         (-999900, "-9999.00"),
         (999900, "9999.00"),
     ] {
-        assert_eq!(rt; text_of(rt.alloc(), &Price(cents))?.as_str(), text);
+        assert!(rt; is_printed(rt.alloc(), &Price(cents), text)?, "{text}");
     }
     for (lots, text) in [(0, "0.0"), (1, "0.1"), (100, "10.0"), (9990, "999.0")] {
-        assert_eq!(rt; text_of(rt.alloc(), &Lots(lots))?.as_str(), text);
+        assert!(rt; is_printed(rt.alloc(), &Lots(lots), text)?, "{text}");
     }
+    Ok(())
+}
+
+#[test]
+fn printed_contracts_and_names(rt: HostRuntime) -> Result<(), Fail> {
     for (part, text) in [
         (Part::Hour, "h12"),
         (Part::Quarter(3), "h12q3"),
         (Part::Half(2), "h12f2"),
     ] {
         let contract = Contract { hour: 12, part };
-        assert_eq!(rt; text_of(rt.alloc(), &contract)?.as_str(), text);
+        assert!(rt; is_printed(rt.alloc(), &contract, text)?, "{text}");
     }
     for (hour, number, quarter, name) in [(12, 3, "h12q3", "h12#3"), (1, 4, "h1q4", "h1#4")] {
-        assert_eq!(rt;
-            text_of(rt.alloc(), &Quarter { hour, number })?.as_str(),
-            quarter
-        );
-        assert_eq!(rt;
-            text_of(rt.alloc(), &OrderName { hour, number })?.as_str(),
-            name
-        );
+        let one_quarter = Quarter { hour, number };
+        assert!(rt; is_printed(rt.alloc(), &one_quarter, quarter)?, "{quarter}");
+        let one_name = OrderName { hour, number };
+        assert!(rt; is_printed(rt.alloc(), &one_name, name)?, "{name}");
     }
+    Ok(())
+}
+
+#[test]
+fn printed_phases_and_sides(rt: HostRuntime) -> Result<(), Fail> {
     for (phase, text) in [
         (Phase::Open, "open"),
         (Phase::Local, "local"),
         (Phase::Closed, "closed"),
     ] {
-        assert_eq!(rt; text_of(rt.alloc(), &phase)?.as_str(), text);
+        assert!(rt; is_printed(rt.alloc(), &phase, text)?, "{text}");
     }
-    assert_eq!(rt; text_of(rt.alloc(), &Side::Buy)?.as_str(), "buy");
-    assert_eq!(rt; text_of(rt.alloc(), &Side::Sell)?.as_str(), "sell");
+    for (side, text) in [(Side::Buy, "buy"), (Side::Sell, "sell")] {
+        assert!(rt; is_printed(rt.alloc(), &side, text)?, "{text}");
+    }
     Ok(())
 }

@@ -1,13 +1,9 @@
 //! Commands that break a rule by themselves, and the hours that commands touch.
 
-ghost use Rattle.std.specs.Prelude.{◌≡◌, ◌≤◌, IfOk, length};
-ghost use Rattle.zone_graph.specs.Grid.{JoinsZones};
-ghost use Rattle.market_model.specs.Grid.{graph_of};
-
+use crate::setups::setup_of;
 use market_model::{
-    BlockOrder, Caller, Callers, Command, Contract, Hours, Kind, Lots, Names, NoMemory, Order,
-    OrderName, Orders, Pairs, Part, Price, Quarter, Refusal, Role, Setup, Side, Word, refuse_early,
-    touches,
+    BlockOrder, Command, Contract, Hours, Kind, Lots, NoMemory, Order, OrderName, Orders, Part,
+    Price, Quarter, Refusal, Side, refuse_early, touches,
 };
 use std::alloc::Global;
 use std::process::Abort;
@@ -38,37 +34,6 @@ const BLOCK: BlockOrder = BlockOrder {
     price: Price(4000),
     quantity: Lots(10),
 };
-
-fn caller_of(alloc: Global, name: &[u8], role: Role) -> Result<Caller, NoMemory> {
-    Ok(Caller {
-        name: Word::new(alloc, name)?,
-        role,
-        room: 9,
-    })
-}
-
-// A day of 25 hours, three zones, a border between the first two, a trader and an operator.
-fn setup_of(alloc: Global) -> Result<Setup, NoMemory>
-    ensures zones { IfOk result (λ setup. JoinsZones (graph_of setup)) }
-    ensures callers { IfOk result (λ setup. length setup.callers ≡ 2) }
-    ensures hours { IfOk result (λ setup. setup.hours ≤ 32) }
-{
-    let mut zones = Names::new(alloc);
-    zones.push(Word::new(alloc, b"DE")?)?;
-    zones.push(Word::new(alloc, b"FR")?)?;
-    zones.push(Word::new(alloc, b"FI")?)?;
-    let mut borders = Pairs::new(alloc);
-    borders.push((0, 1))?;
-    let mut callers = Callers::new(alloc);
-    callers.push(caller_of(alloc, b"trader", Role::Trader)?)?;
-    callers.push(caller_of(alloc, b"operator", Role::Operator)?)?;
-    Ok(Setup {
-        hours: 25,
-        zones,
-        borders,
-        callers,
-    })
-}
 
 fn quarter(hour: u32, number: u32) -> Quarter {
     Quarter { hour, number }

@@ -1,6 +1,6 @@
 use Rattle.std.proofs.Common.{◌≡◌, length}
 use Rattle.zone_graph.specs.Graph.{border_count}
-use Rattle.worked_days.proofs.grids.rooms_of.Given as goal
+use Rattle.worked_routes.proofs.route_tests.rooms_but.Given as goal
 
 -- the rooms have the grid's size
 abbrev pub invariant-loop-border : goal.invariant-loop-border

@@ -1,12 +1,12 @@
-//! Small grids, and rooms on their arcs.
+//! Small grids.
 
-ghost use Rattle.std.specs.Prelude.{◌≡◌, ◌&&◌, IfOk, true, length, nat_lt};
+ghost use Rattle.std.specs.Prelude.{◌≡◌, ◌&&◌, IfOk, true, nat_lt};
 ghost use Rattle.std.specs.List.{list_all};
 ghost use Rattle.zone_graph.specs.Graph.{border_count, zone_count};
 
 use std::alloc::Global;
 use std::test::Fail;
-use zone_graph::{Arc, Grid, Names, Pairs, Rooms, Word};
+use zone_graph::{Grid, Names, Pairs, Word};
 
 /// The grid of so many zones, named by two letters each, and these borders.
 ///
@@ -85,22 +85,4 @@ pub fn ring_of_twelve(alloc: Global) -> Result<Grid, Fail>
     ensures borders { IfOk result (λ grid. border_count grid ≡ 20) }
 {
     grid_of(alloc, 12, &RING)
-}
-
-/// Rooms of so many lots on the forward arc and the backward arc of each border, in turn.
-///
-/// # Errors
-///
-/// Where a border has no pair, or memory is wanting.
-pub fn rooms_of(grid: &Grid, pairs: &[(u32, u32)]) -> Result<Rooms, Fail>
-    ensures { IfOk result (λ rooms. length rooms ≡ border_count grid.now) }
-{
-    let mut rooms = Rooms::new(grid)?;
-    let borders = grid.borders();
-    for border in 0..borders {
-        let (forward, backward) = *pairs.get(border as usize).ok_or("no room")?;
-        rooms.set(Arc::over(border, true), forward);
-        rooms.set(Arc::over(border, false), backward);
-    }
-    Ok(rooms)
 }

@@ -3,7 +3,7 @@ use Rattle.std.proofs.lemmas.Bool.{and_parts, ltb-true, true≢false}
 use Rattle.std.specs.List.{list_all}
 use Rattle.zone_graph.specs.declared.route.Arc.{Arc}
 use Rattle.zone_graph.specs.Route.{IsIn}
-use Rattle.worked_days.proofs.pour_tests.carried_along.Goals as goal
+use Rattle.worked_routes.proofs.pour_tests.carried_along.Goals as goal
 
 -- an arc of a route passes a test that all its arcs pass
 passes : (p : Arc → Bool) (route : List Arc) (arc : Arc) → list_all p route ≡ true → IsIn arc route → p arc ≡ true

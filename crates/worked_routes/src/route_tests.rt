@@ -4,11 +4,11 @@ ghost use Rattle.std.specs.Prelude.{◌≡◌, ◌&&◌, IfOk, length, nat_lt};
 ghost use Rattle.std.specs.List.{list_all};
 ghost use Rattle.zone_graph.specs.Graph.{border_count};
 
-use crate::{diamond, grid_of, ring_of_twelve, rooms_of};
 use cut_proof::reach;
 use route_choice::best_route;
 use std::alloc::Global;
 use std::test::Fail;
+use worked_grids::{diamond, grid_of, ring_of_twelve, rooms_of};
 use zone_graph::{Arc, Grid, Rooms};
 use zone_search::{Distances, distances};
 
@@ -68,36 +68,40 @@ fn is_best(
 fn ties_go_to_the_lesser_border_and_arcs_without_room_are_left_out(
     rt: HostRuntime,
 ) -> Result<(), Fail> {
-    let alloc = rt.alloc();
-    let grid = diamond(alloc)?;
+    let grid = diamond(rt.alloc())?;
     let there = [Arc::over(0, true), Arc::over(2, true)];
-    assert!(rt; is_best(alloc, &grid, &[], (0, 3), Some(there.as_slice()))?);
     let other = [Arc::over(1, true), Arc::over(3, true)];
-    let closed = [Arc::over(2, true)];
-    assert!(rt; is_best(alloc, &grid, &closed, (0, 3), Some(other.as_slice()))?);
     let back = [Arc::over(2, false), Arc::over(0, false)];
-    assert!(rt; is_best(alloc, &grid, &closed, (3, 0), Some(back.as_slice()))?);
     let round = [Arc::over(1, true), Arc::over(3, true), Arc::over(2, false)];
+    let second = [Arc::over(2, true)];
     let first = [Arc::over(0, true)];
-    assert!(rt; is_best(alloc, &grid, &first, (0, 1), Some(round.as_slice()))?);
     let all = [Arc::over(0, true), Arc::over(1, true)];
-    assert!(rt; is_best(alloc, &grid, &all, (0, 3), None)?);
-    assert!(rt; is_best(alloc, &grid, &all, (0, 0), Some([].as_slice()))?);
+    for (closed, ends, want) in [
+        ([].as_slice(), (0, 3), Some(there.as_slice())),
+        (&second, (0, 3), Some(&other)),
+        (&second, (3, 0), Some(&back)),
+        (&first, (0, 1), Some(&round)),
+        (&all, (0, 3), None),
+        (&all, (0, 0), Some(&[])),
+    ] {
+        assert!(rt; is_best(rt.alloc(), &grid, closed, ends, want)?, "{ends:?}");
+    }
     Ok(())
 }
 
 #[test]
 fn routes_of_a_ring_of_twelve_zones_with_eight_chords(rt: HostRuntime) -> Result<(), Fail> {
-    let alloc = rt.alloc();
-    let grid = ring_of_twelve(alloc)?;
+    let grid = ring_of_twelve(rt.alloc())?;
     let ahead = [Arc::over(0, true), Arc::over(1, true), Arc::over(14, true)];
-    assert!(rt; is_best(alloc, &grid, &[], (0, 6), Some(ahead.as_slice()))?);
     let back = [
         Arc::over(9, true),
         Arc::over(18, false),
         Arc::over(14, false),
     ];
-    assert!(rt; is_best(alloc, &grid, &[], (9, 2), Some(back.as_slice()))?);
+    for (ends, want) in [((0, 6), ahead), ((9, 2), back)] {
+        let want = Some(want.as_slice());
+        assert!(rt; is_best(rt.alloc(), &grid, &[], ends, want)?, "{ends:?}");
+    }
     Ok(())
 }
 
@@ -116,16 +120,24 @@ fn count_reached(
     Ok(reach(alloc, grid, &rooms, zone, towards)?.len())
 }
 
+// Eight rows of eight zones each, of which each is joined with the next of its row and with the next of
+// its column, and the last with the first.
+fn sixty_four_zones(alloc: Global) -> Result<Grid, Fail> {
+    let mut pairs = [(0, 0); 128];
+    for zone in 0..64u32 {
+        let place = 2 * zone as usize;
+        pairs[place] = (zone, zone / 8 * 8 + (zone + 1) % 8);
+        pairs[place + 1] = (zone, (zone + 8) % 64);
+    }
+    if !join_zones(64, &pairs) {
+        return Err(Fail::from("no zone"));
+    }
+    grid_of(alloc, 64, &pairs)
+}
+
 #[test]
 fn a_route_through_a_grid_of_sixty_four_zones(rt: HostRuntime) -> Result<(), Fail> {
-    let alloc = rt.alloc();
-    let mut pairs = Vec::new(alloc);
-    for zone in 0..64u32 {
-        pairs.push((zone, zone / 8 * 8 + (zone + 1) % 8))?;
-        pairs.push((zone, (zone + 8) % 64))?;
-    }
-    assert!(rt; join_zones(64, &pairs));
-    let grid = grid_of(alloc, 64, &pairs)?;
+    let grid = sixty_four_zones(rt.alloc())?;
     let want = [
         Arc::over(0, true),
         Arc::over(2, true),
@@ -136,8 +148,7 @@ fn a_route_through_a_grid_of_sixty_four_zones(rt: HostRuntime) -> Result<(), Fai
         Arc::over(41, true),
         Arc::over(57, true),
     ];
-    assert!(rt; is_best(alloc, &grid, &[], (0, 36), Some(want.as_slice()))?);
-    assert_eq!(rt; count_reached(alloc, &grid, &[], 36, true)?, 64);
+    assert!(rt; is_best(rt.alloc(), &grid, &[], (0, 36), Some(want.as_slice()))?);
 
     // Over no arc into the first zone is it reached, yet it reaches all.
     let closed = [
@@ -146,8 +157,14 @@ fn a_route_through_a_grid_of_sixty_four_zones(rt: HostRuntime) -> Result<(), Fai
         Arc::over(14, true),
         Arc::over(113, true),
     ];
-    assert_eq!(rt; count_reached(alloc, &grid, &closed, 0, true)?, 1);
-    assert_eq!(rt; count_reached(alloc, &grid, &closed, 0, false)?, 64);
+    for (closed, zone, towards, want) in [
+        ([].as_slice(), 36, true, 64),
+        (&closed, 0, true, 1),
+        (&closed, 0, false, 64),
+    ] {
+        let count = count_reached(rt.alloc(), &grid, closed, zone, towards)?;
+        assert!(rt; count == want, "{count}");
+    }
     Ok(())
 }
 
@@ -165,18 +182,13 @@ fn on_the_diamond(alloc: Global, zone: u32, towards: bool) -> Result<Distances, 
 
 #[test]
 fn distances_follow_the_direction_of_the_arcs(rt: HostRuntime) -> Result<(), Fail> {
-    let alloc = rt.alloc();
-    let towards = on_the_diamond(alloc, 3, true)?;
-    assert_eq!(rt;
-        &towards[..5],
-        [Some(2), Some(1), Some(3), Some(0), None].as_slice()
-    );
-    let beyond = on_the_diamond(alloc, 3, false)?;
-    assert_eq!(rt; &beyond[..5], [None, None, None, Some(0), None].as_slice());
-    let from_the_first = on_the_diamond(alloc, 2, false)?;
-    assert_eq!(rt;
-        &from_the_first[..5],
-        [Some(1), Some(2), Some(0), Some(3), None].as_slice()
-    );
+    for (zone, towards, want) in [
+        (3, true, [Some(2), Some(1), Some(3), Some(0), None]),
+        (3, false, [None, None, None, Some(0), None]),
+        (2, false, [Some(1), Some(2), Some(0), Some(3), None]),
+    ] {
+        let found = on_the_diamond(rt.alloc(), zone, towards)?;
+        assert!(rt; &found[..5] == want.as_slice(), "{zone} {towards}");
+    }
     Ok(())
 }

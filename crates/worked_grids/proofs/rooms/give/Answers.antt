@@ -1,7 +1,7 @@
 use Rattle.std.proofs.Common.{◌≡◌, ◌<◌, ℕ, Bool, true, false, cond, arith}
-use Rattle.zone_graph.specs.Pour.{opposite_arc, same_arc}
+use Rattle.zone_graph.specs.Pour.{same_arc}
 use Rattle.zone_graph.specs.Rooms.{room_of}
-use Rattle.worked_days.proofs.pour_tests.give.Goals as goal
+use Rattle.worked_grids.proofs.rooms.give.Goals as goal
 
 picked : (b : Bool) (x y n : ℕ) → n ≡ cond b x y → x < 256 → y < 256 → n < 256
 picked true x y n e first second = omega (arith, e, first)
@@ -10,9 +10,3 @@ picked false x y n e first second = omega (arith, e, second)
 pub returns-clause-small : goal.returns-clause-small
 returns-clause-small c = λ other.
     picked (same_arc c.args.arc other) c.args.room (room_of c.args.rooms.now other) (room_of c.set.new.self other) (c.set.ensures.rooms other) c.requires.room (c.requires.small other)
-
-pub returns-clause-fit : goal.returns-clause-fit
-returns-clause-fit c = λ other.
-    let own = returns-clause-small c other in
-    let back = returns-clause-small c (opposite_arc other) in
-    omega (arith, own, back)

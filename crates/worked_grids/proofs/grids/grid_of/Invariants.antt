@@ -1,5 +1,5 @@
 use Rattle.std.proofs.Common.{◌≡◌, length}
-use Rattle.worked_days.proofs.grids.grid_of.Given as goal
+use Rattle.worked_grids.proofs.grids.grid_of.Given as goal
 
 -- a name for each zone so far
 abbrev pub invariant-loop-zone : goal.invariant-loop-zone

@@ -3,10 +3,10 @@
 ghost use Rattle.std.specs.Prelude.{◌≡◌, length};
 ghost use Rattle.zone_graph.specs.Graph.{border_count, zone_count};
 
-use crate::{diamond, ring_of_twelve, rooms_of};
 use route_choice::{RouteSearch, best_route};
 use std::alloc::Global;
 use std::test::Fail;
+use worked_grids::{diamond, ring_of_twelve, rooms_of};
 use zone_graph::{Arc, Grid, Rooms};
 
 // Whether a search for the routes to a zone, or from it, answers the best route between it and
@@ -94,8 +94,9 @@ fn a_search_answers_the_best_routes_of_a_ring_of_twelve_zones(rt: HostRuntime) -
     let rooms = rooms_of(&grid, &room)?;
     for from in 0..12 {
         for to in 0..12 {
-            assert!(rt; answers_the_best(alloc, &grid, &rooms, (from, to), true)?);
-            assert!(rt; answers_the_best(alloc, &grid, &rooms, (from, to), false)?);
+            for towards in [true, false] {
+                assert!(rt; answers_the_best(alloc, &grid, &rooms, (from, to), towards)?);
+            }
         }
     }
     Ok(())
