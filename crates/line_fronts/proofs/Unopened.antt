@@ -7,7 +7,7 @@ use Rattle.order_kinds.specs.declared.side.Side.TheVariants.{Buy, Sell}
 use Rattle.order_kinds.specs.Period.{contract_quarters}
 use Rattle.order_kinds.specs.Side.{crosses, prefers}
 use Rattle.zone_graph.specs.declared.route.Arc.{Arc}
-use Rattle.zone_graph.specs.Graph.{Graph, IsGraph, end_of}
+use Rattle.zone_graph.specs.Graph.{Graph, HasArc, IsGraph, end_of}
 use Rattle.zone_graph.specs.Reach.{reaches}
 use Rattle.zone_graph.specs.Route.{IsIn, IsWay}
 use Rattle.cut_proof.proofs.ReachLaws.{reaches-way, way-reaches}
@@ -18,16 +18,16 @@ use Rattle.market_model.specs.Room.{room}
 use Rattle.market_model.specs.Sweep.{leg_in}
 use Rattle.market_laws.proofs.Members.{first_answer-none}
 use Rattle.market_model.specs.Sweep.{leg_of_buy}
-use Rattle.line_fronts.specs.Fronts.{StandInFor, UnopenedContractsHaveNoLeg}
+use Rattle.line_fronts.specs.Fronts.{OpensNoArc, StandInFor, UnopenedContractsHaveNoLeg}
 use Rattle.line_fronts.proofs.Worse.{asked-none, crosses-worse, is_buy, no_leg, trades-none, with_none}
 
 -- a way over arcs that have room is one over rooms that have no fewer arcs with room
-way-over : (graph : Graph) (less more : Arc → ℕ) (from to : ℕ) (arcs : List Arc) → ((arc : Arc) → 0 < less arc → 0 < more arc)
+way-over : (graph : Graph) (less more : Arc → ℕ) (from to : ℕ) (arcs : List Arc) → ((arc : Arc) → HasArc graph arc → 0 < less arc → 0 < more arc)
     → IsWay graph less from arcs to → IsWay graph more from arcs to
 way-over graph less more from to [] opens way = way
-way-over graph less more from to (arc ∷ arcs) opens way = (way.0, way.1, opens arc way.2, way-over graph less more (end_of graph arc) to arcs opens way.3)
+way-over graph less more from to (arc ∷ arcs) opens way = (way.0, way.1, opens arc way.0 way.2, way-over graph less more (end_of graph arc) to arcs opens way.3)
 
-reaches-over : (graph : Graph) (less more : Arc → ℕ) (from to : ℕ) → IsGraph graph → ((arc : Arc) → 0 < less arc → 0 < more arc)
+reaches-over : (graph : Graph) (less more : Arc → ℕ) (from to : ℕ) → IsGraph graph → ((arc : Arc) → HasArc graph arc → 0 < less arc → 0 < more arc)
     → reaches graph less from to ≡ true → reaches graph more from to ≡ true
 reaches-over graph less more from to is_graph opens there =
     let way = way-reaches graph less from to is_graph there in
@@ -51,7 +51,7 @@ module _ (graph : Graph) (before after : List Event) (contract : Contract) (is_g
 
   traded-before : (buy sell old_buy old_sell : Standing) → IsIn buy (line after contract Buy) → IsIn old_buy (line before contract Buy)
       → buy.order.zone ≡ old_buy.order.zone → sell.order.zone ≡ old_sell.order.zone → prefers Buy buy.price old_buy.price ≡ false → prefers Sell sell.price old_sell.price ≡ false
-      → ((arc : Arc) → 0 < room after (contract_quarters contract) arc → 0 < room before (contract_quarters contract) arc)
+      → OpensNoArc graph contract before after
       → can_trade graph (rooms_for after buy) buy sell ≡ true → can_trade graph (rooms_for before old_buy) old_buy old_sell ≡ true
   traded-before buy sell old_buy old_sell i j zone other_zone no_dearer no_cheaper opens now =
       let parts = and_parts (crosses Buy buy.price sell.price) (reaches graph (room after (contract_quarters contract)) sell.order.zone buy.order.zone) (sym (buy-trades after buy sell i) ∙ now) in
@@ -64,7 +64,7 @@ module _ (graph : Graph) (before after : List Event) (contract : Contract) (is_g
       ∙ and_from (crosses Buy old_buy.price old_sell.price) (reaches graph (room before (contract_quarters contract)) old_sell.order.zone old_buy.order.zone) crossing reach
 
   none-after : StandInFor Buy (line before contract Buy) (line after contract Buy) → StandInFor Sell (line before contract Sell) (line after contract Sell)
-      → ((arc : Arc) → 0 < room after (contract_quarters contract) arc → 0 < room before (contract_quarters contract) arc)
+      → OpensNoArc graph contract before after
       → leg_in graph before contract ≡ None → leg_in graph after contract ≡ None
   none-after buys sells opens none =
       asked-none graph after contract (line after contract Buy) (λ buy i.

@@ -8,7 +8,7 @@ use Rattle.order_kinds.specs.declared.side.Side.TheVariants.{Buy, Sell}
 use Rattle.order_kinds.specs.Period.{contract_quarters}
 use Rattle.order_kinds.specs.Side.{crosses, opposite, prefers}
 use Rattle.zone_graph.specs.declared.route.Arc.{Arc}
-use Rattle.zone_graph.specs.Graph.{Graph, IsGraph}
+use Rattle.zone_graph.specs.Graph.{Graph, HasArc, IsGraph}
 use Rattle.zone_graph.specs.Route.{IsIn, has}
 use Rattle.market_model.specs.declared.event.Event.{Event}
 use Rattle.market_model.specs.Lines.{can_trade, line, partner, rooms_for}
@@ -56,10 +56,14 @@ abbrev pub StandInFor : Side → (former now : List Standing) → Type 0
 StandInFor side former now =
     (order : Standing) → IsIn order now → (old : Standing) × IsIn old former × (order.order.zone ≡ old.order.zone) × (prefers side order.price old.price ≡ false)
 
+-- no arc of a graph got its first room over the quarters of a contract
+abbrev pub OpensNoArc : Graph → Contract → (before after : List Event) → Type 0
+OpensNoArc graph contract before after =
+    (arc : Arc) → HasArc graph arc → 0 < room after (contract_quarters contract) arc → 0 < room before (contract_quarters contract) arc
+
 -- a contract that had no leg in a sweep has none where its orders stand in for former ones and no arc
 -- got its first room
 abbrev pub UnopenedContractsHaveNoLeg : Type 0
 UnopenedContractsHaveNoLeg = (graph : Graph) (before after : List Event) (contract : Contract) → IsGraph graph
     → StandInFor Buy (line before contract Buy) (line after contract Buy) → StandInFor Sell (line before contract Sell) (line after contract Sell)
-    → ((arc : Arc) → 0 < room after (contract_quarters contract) arc → 0 < room before (contract_quarters contract) arc)
-    → leg_in graph before contract ≡ None → leg_in graph after contract ≡ None
+    → OpensNoArc graph contract before after → leg_in graph before contract ≡ None → leg_in graph after contract ≡ None

@@ -223,4 +223,4 @@ quiet-after board part leg row before after is_board can found next are quiet ma
         λ arc i. subst (λ n. 0 < n) (are.rooms (opposite_arc arc) (arcs-known board part leg can arc i))
         (some-room (room_of row (opposite_arc arc)) (any-none (λ a. room_of row (opposite_arc a) == 0) leg.route e arc i)) in
         unopened board.grid board.events (and_then board.events made) aside (board-graph board is_board) (stands Buy) (stands Sell)
-        (λ arc some. none-opens board.events contract leg shut (contract_quarters aside) arc some) had_none
+        (λ arc there some. none-opens board.events contract leg shut (contract_quarters aside) arc some) had_none

@@ -1,0 +1,3 @@
+pub mod Aside
+pub mod Rises
+pub mod Stays

@@ -1,0 +1,12 @@
+//! Which contracts a sweep need not look at after one event.
+#![tactic(auto)]
+
+mod quiet;
+
+pub use quiet::{
+    block_entries_stay_quiet, block_legs_stay_quiet, entries_stay_quiet,
+    events_raise_their_arcs_alone, events_stay_quiet_where_there_was_room, gates_stay_quiet,
+    grants_stay_quiet, halts_stay_quiet, legs_stay_quiet, legs_stay_quiet_apart, offers_stay_quiet,
+    other_hours_stay_quiet, reductions_stay_quiet, resumptions_stay_quiet,
+    unopened_contracts_stay_quiet, withdrawals_stay_quiet,
+};
