@@ -19,6 +19,3 @@ pub use laws::{
     periods_deal_as_in_the_market,
 };
 pub use matching::{match_block, match_resting};
-
-#[cfg(test)]
-mod tests;

@@ -3,7 +3,7 @@ use Rattle.zone_graph.specs.Route.{IsIn}
 use Rattle.zone_graph.proofs.InOrder.{from_put_in_order}
 use Rattle.block_book.specs.declared.block.RestingBlock.{RestingBlock}
 use Rattle.block_book.specs.Blocks.{number_cmp}
-use Rattle.block_match.proofs.tests.book_of.Goals as goal
+use Rattle.worked_deals.proofs.deal_tests.book_of.Goals as goal
 
 pub loop-block-preserved : goal.loop-block-preserved
 loop-block-preserved c = λ block i.

@@ -1,0 +1,88 @@
+-- The lines and views of an hour, from its events alone.
+use Rattle.std.proofs.Common.{◌≡◌, ◌∙◌, inl, ℕ, List, [], ◌∷◌, map, refl, sym, ap, subst}
+use Rattle.order_kinds.specs.declared.contract.Contract.{Contract}
+use Rattle.order_kinds.specs.declared.side.Side.{Side}
+use Rattle.order_kinds.specs.Contract.{contract_at}
+use Rattle.order_kinds.specs.Period.{contract_quarters}
+use Rattle.zone_graph.specs.declared.route.Arc.{Arc}
+use Rattle.zone_graph.specs.Graph.{Graph, HasArc, IsGraph}
+use Rattle.zone_graph.specs.Rooms.{room_of}
+use Rattle.zone_graph.specs.Route.{IsIn}
+use Rattle.market_model.specs.declared.event.Event.{Event}
+use Rattle.market_model.specs.Board.{IsHourOf}
+use Rattle.market_model.specs.Lines.{line}
+use Rattle.market_model.specs.Orders.{Standing}
+use Rattle.market_model.specs.Room.{room}
+use Rattle.market_model.specs.View.{view}
+use Rattle.market_laws.proofs.Placed.{all_are_sound}
+use Rattle.market_laws.proofs.Trades.{from_line}
+use Rattle.market_locality.proofs.Answers.{view-agree}
+use Rattle.market_locality.proofs.Lines.{contract-hours, line-agree}
+use Rattle.market_locality.proofs.States.{Agree, room-agree}
+use Rattle.hour_lists.proofs.OfHours.{one-agrees}
+use Rattle.plain_capacity.specs.Hour.{IsLegalOver}
+use Rattle.plain_view.specs.Depth.{AreInZones, maker_of}
+use Rattle.plain_view.specs.Filled.{rows_with}
+use Rattle.local_view.proofs.LineMakers.{makers-cross, makers-once}
+use Rattle.local_view.proofs.Makers.{AllCross, AreOnce}
+use Rattle.plain_view.proofs.Views.{makers-in_zones, view-is}
+use Rattle.local_view.proofs.Walking.{walked, walked-trades}
+
+module _ (graph : Graph) (hour : ℕ) (events : List Event) (of : IsHourOf graph hour events) where
+  agree : Agree (hour ∷ []) events of.history
+  agree = subst (λ es. Agree (hour ∷ []) es of.history) of.in_hour (one-agrees of.setup of.history of.fit hour)
+
+  legal : IsLegalOver graph of.history
+  legal = record { setup = of.setup; over = sym of.over_grid; fit = of.fit }
+
+  pub hour-graph : IsGraph graph
+  hour-graph = subst IsGraph of.over_grid of.is_setup
+
+  module _ (part : ℕ) (side : Side) where
+    abbrev contract : Contract
+    contract = contract_at hour part
+
+    pub line-of : line events (contract_at hour part) side ≡ line of.history (contract_at hour part) side
+    line-of = line-agree (hour ∷ []) events of.history agree contract side (inl refl)
+
+    pub rooms-of : room events (contract_quarters (contract_at hour part)) ≡ room of.history (contract_quarters (contract_at hour part))
+    rooms-of = room-agree (hour ∷ []) events of.history agree (contract_quarters contract) (contract-hours (hour ∷ []) contract (inl refl))
+
+    pub view-of : (zone : ℕ) → view graph events (contract_at hour part) side zone ≡ view graph of.history (contract_at hour part) side zone
+    view-of zone = view-agree (hour ∷ []) events of.history agree graph contract side (inl refl) zone
+
+    -- each name stands once in a line, and its prices cross those of a taker at any price
+    pub line-once : AreOnce (map maker_of (line events (contract_at hour part) side))
+    line-once = subst (λ orders. AreOnce (map maker_of orders)) (sym line-of) (makers-once of.setup of.history of.fit contract side)
+
+    pub line-cross : AllCross side (map maker_of (line events (contract_at hour part) side))
+    line-cross = subst (λ orders. AllCross side (map maker_of orders)) (sym line-of) (makers-cross of.setup of.history of.fit contract side)
+
+    -- its orders bear the hour
+    pub line-hour : (order : Standing) → IsIn order (line events (contract_at hour part) side) → order.name.hour ≡ hour
+    line-hour order i =
+        let found = from_line of.history contract side order (subst (IsIn order) line-of i) in
+        ap (λ (x : Standing). x.name.hour) found.is
+        ∙ ((all_are_sound of.setup of.history of.fit).orders found.order found.is_open.is_placed).named
+        ∙ ap (λ (c : Contract). c.hour) found.of_contract
+
+    module _ (zone : ℕ) (rooms : List (ℕ × ℕ))
+        (are : (arc : Arc) → HasArc graph arc → room_of rooms arc ≡ room events (contract_quarters (contract_at hour part)) arc) where
+      are-there : (arc : Arc) → HasArc graph arc → room_of rooms arc ≡ room of.history (contract_quarters contract) arc
+      are-there arc known = are arc known ∙ ap (λ f. f arc) rooms-of
+
+      -- and are in zones that there are
+      pub line-known : AreInZones graph (map maker_of (line events (contract_at hour part) side))
+      line-known =
+          subst (λ orders. AreInZones graph (map maker_of orders)) (sym line-of)
+          (makers-in_zones graph hour-graph of.history legal contract side zone rooms are-there)
+
+      -- the view is what a walk along the line shows
+      pub view-walked : walked graph side zone (room_of rooms) 4294967295 (map maker_of (line events (contract_at hour part) side)) ≡ view graph events (contract_at hour part) side zone
+      view-walked =
+          let trades = walked-trades graph hour-graph side zone (map maker_of (line of.history contract side)) (room_of rooms) 4294967295
+          (makers-once of.setup of.history of.fit contract side) (makers-cross of.setup of.history of.fit contract side) in
+          ap (λ orders. walked graph side zone (room_of rooms) 4294967295 (map maker_of orders)) line-of
+          ∙ sym trades.rows
+          ∙ view-is graph hour-graph of.history legal contract side zone rooms are-there (rows_with trades.fills) (record { fills = trades.fills; run = trades.run; are = refl })
+          ∙ sym (view-of zone)

@@ -1,0 +1,10 @@
+mod Hours
+mod LineMakers
+mod Lines
+mod Listed
+mod Made
+mod Makers
+mod NearHours
+mod Parts
+mod Takers
+mod Walking

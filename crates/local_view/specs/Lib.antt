@@ -1,0 +1,8 @@
+-- What the contracts of this crate cite.
+pub mod Boards
+pub mod Insides
+pub mod Kept
+pub mod Poured
+pub mod Rows
+pub mod Takers
+pub mod Works

@@ -1,0 +1,12 @@
+//! The local views of one hour: what a taker of any quantity at any price would take of its resting
+//! orders, for each part, side and zone, kept and refreshed near a change.
+#![tactic(auto)]
+
+mod filling;
+mod listing;
+mod part_views;
+mod taker;
+mod views;
+mod work;
+
+pub use views::LocalViews;

@@ -1,0 +1,220 @@
+//! The views of one part: for each side the rows of each zone, kept and next.
+
+ghost use Rattle.std.specs.Prelude.{◌≡◌, ◌<◌, ℕ, [], None, IfOk, OnOk, length, get_or, replicate};
+ghost use Rattle.order_kinds.specs.declared.side.Side.TheVariants.{Buy, Sell};
+ghost use Rattle.zone_graph.specs.Graph.{border_count, zone_count};
+ghost use Rattle.local_view.specs.Boards.{AreRoomsOf};
+ghost use Rattle.local_view.specs.Kept.{AreNext, IsSized, adopted, empty_part, empty_rows, forgotten, on_side, part_adopted, part_forgotten};
+ghost use Rattle.local_view.specs.Works.{AllComputed, HasMade, IsWork, KeepsWork};
+
+use crate::filling::fill_lists;
+use crate::listing::Line;
+use crate::work::Work;
+use market_model::{Board, NoMemory, Rows, Side, ViewRow};
+use std::alloc::Global;
+use std::marker::Model;
+use std::mem;
+use zone_graph::Grid;
+
+/// The rows of the views of one part and side: the kept ones of each zone, and the next ones, where
+/// there are such.
+#[derive(Drop)]
+pub(crate) struct LineViews {
+    kept: Vec<Rows>,
+    next: Vec<Rows>,
+    is_next: bool,
+}
+
+impl Model for LineViews {
+    ghost use Rattle.std.specs.Prelude.{◌≡◌, length};
+    ghost use Rattle.local_view.specs.Rows.{LineRows, rows_if};
+
+    ghost Value = { LineRows };
+
+    ghost view = { λ line. record { kept = line.kept.items; next = rows_if line.is_next line.next.items } };
+
+    ghost invariant = { λ line. length line.next.items ≡ length line.kept.items };
+}
+
+impl LineViews {
+    /// Empty rows of each zone, and none that are next.
+    ///
+    /// # Errors
+    ///
+    /// [`NoMemory`] where memory runs out.
+    pub(crate) fn new(alloc: Global, zones: u32) -> Result<LineViews, NoMemory>
+        ensures { IfOk result (λ line. line ≡ empty_rows zones) }
+    {
+        Ok(LineViews {
+            kept: empty_lists(alloc, zones)?,
+            next: empty_lists(alloc, zones)?,
+            is_next: false,
+        })
+    }
+
+    /// The kept rows of a zone.
+    pub(crate) fn rows(&self, zone: u32) -> &[ViewRow]
+        requires { zone < length self.now.kept }
+        ensures { result.now ≡ get_or self.now.kept zone [] }
+    {
+        self.kept.as_slice()[zone as usize].as_slice()
+    }
+
+    /// The next rows become the kept ones, where there are such.
+    pub(crate) fn adopt(&mut self)
+        ensures adopted { self.new ≡ adopted self.old }
+        ensures size { length self.new.kept ≡ length self.old.kept }
+    {
+        if self.is_next {
+            mem::swap(&mut self.kept, &mut self.next);
+            self.is_next = false;
+        }
+    }
+
+    /// Drops the next rows.
+    pub(crate) fn forget(&mut self)
+        ensures { self.new ≡ forgotten self.old }
+    {
+        self.is_next = false;
+    }
+
+    /// Makes the next rows of each zone: those that the work says are computed from the board, and the
+    /// others as copies of the kept ones.
+    ///
+    /// # Errors
+    ///
+    /// [`NoMemory`], where there is no memory for a route or a row.
+    pub(crate) fn refresh<B: Board>(
+        &mut self,
+        alloc: Global,
+        board: &B,
+        grid: &Grid,
+        work: &mut Work,
+        line: Line,
+    ) -> Result<(), NoMemory>
+        requires grid { grid.now ≡ (B.state board.now).grid }
+        requires hand { (B.state board.now).hand ≡ None }
+        requires part { line.part < (B.state board.now).parts }
+        requires work { IsWork (border_count grid.now) work.old }
+        requires rooms { AreRoomsOf (B.state board.now) line.part work.old.of_part }
+        requires zones { length self.old.kept ≡ zone_count grid.now }
+        ensures next { OnOk result (HasMade work.old.computed (B.state board.now) line.part line.side self.old.kept self.new) }
+        ensures kept { forgotten self.new ≡ forgotten self.old }
+        ensures work { KeepsWork work.old work.new }
+    {
+        self.is_next = false;
+        fill_lists(
+            alloc,
+            board,
+            grid,
+            work,
+            line,
+            self.kept.as_slice(),
+            self.next.as_mut_slice(),
+        )?;
+        self.is_next = true;
+        Ok(())
+    }
+}
+
+// Empty rows of so many zones.
+fn empty_lists(alloc: Global, zones: u32) -> Result<Vec<Rows>, NoMemory>
+    ensures { IfOk result (λ lists. lists.items ≡ replicate zones []) }
+{
+    let mut lists = Vec::new(alloc);
+    for _ in 0..zones {
+        lists.push(Rows::new(alloc))?;
+    }
+    Ok(lists)
+}
+
+/// The views of a part.
+#[derive(Drop)]
+pub(crate) struct PartViews {
+    /// Those of its buys.
+    pub(crate) buys: LineViews,
+    /// Those of its sells.
+    pub(crate) sells: LineViews,
+}
+
+impl PartViews {
+    /// Empty rows of each zone, and none that are next.
+    ///
+    /// # Errors
+    ///
+    /// [`NoMemory`] where memory runs out.
+    pub(crate) fn new(alloc: Global, zones: u32) -> Result<PartViews, NoMemory>
+        ensures { IfOk result (λ part. part ≡ empty_part zones) }
+    {
+        Ok(PartViews {
+            buys: LineViews::new(alloc, zones)?,
+            sells: LineViews::new(alloc, zones)?,
+        })
+    }
+
+    /// The views of a side.
+    pub(crate) fn on(&self, side: Side) -> &LineViews
+        ensures { result.now ≡ on_side self.now side }
+    {
+        match side {
+            Side::Buy => &self.buys,
+            Side::Sell => &self.sells,
+        }
+    }
+
+    /// The next rows become the kept ones, where there are such.
+    pub(crate) fn adopt(&mut self)
+        ensures adopted { self.new ≡ part_adopted self.old }
+        ensures sized { (zones : ℕ) → IsSized zones self.old → IsSized zones self.new }
+    {
+        self.buys.adopt();
+        self.sells.adopt();
+    }
+
+    /// Drops the next rows.
+    pub(crate) fn forget(&mut self)
+        ensures { self.new ≡ part_forgotten self.old }
+    {
+        self.buys.forget();
+        self.sells.forget();
+    }
+
+    /// Makes the next rows of each side and zone from the board. The rooms of the part are asked once.
+    ///
+    /// # Errors
+    ///
+    /// [`NoMemory`], where there is no memory for a route or a row.
+    pub(crate) fn refresh<B: Board>(
+        &mut self,
+        alloc: Global,
+        board: &B,
+        grid: &Grid,
+        work: &mut Work,
+        part: u32,
+    ) -> Result<(), NoMemory>
+        requires grid { grid.now ≡ (B.state board.now).grid }
+        requires hand { (B.state board.now).hand ≡ None }
+        requires part { part < (B.state board.now).parts }
+        requires work { IsWork (border_count grid.now) work.old }
+        requires all { AllComputed (zone_count grid.now) work.old.computed }
+        requires zones { IsSized (zone_count grid.now) self.old }
+        ensures buys { OnOk result (AreNext (B.state board.now) part Buy (zone_count grid.now) self.new.buys) }
+        ensures sells { OnOk result (AreNext (B.state board.now) part Sell (zone_count grid.now) self.new.sells) }
+        ensures kept { part_forgotten self.new ≡ part_forgotten self.old }
+        ensures sized { IsSized (zone_count grid.now) self.new }
+        ensures work { IsWork (border_count grid.now) work.new }
+        ensures all { AllComputed (zone_count grid.now) work.new.computed }
+    {
+        board.rooms(part, &mut work.of_part);
+        let buys = Line {
+            part,
+            side: Side::Buy,
+        };
+        self.buys.refresh(alloc, board, grid, work, buys)?;
+        let sells = Line {
+            part,
+            side: Side::Sell,
+        };
+        self.sells.refresh(alloc, board, grid, work, sells)
+    }
+}
