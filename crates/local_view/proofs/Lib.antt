@@ -1,3 +1,4 @@
+mod Counting
 mod Hours
 mod LineMakers
 mod Lines
@@ -5,6 +6,7 @@ mod Listed
 mod Made
 mod Makers
 mod NearHours
+mod NearViews
 mod Parts
 mod Takers
 mod Walking

@@ -7,20 +7,16 @@ use Rattle.order_kinds.specs.Contract.{contract_at}
 use Rattle.order_kinds.specs.Period.{contract_quarters}
 use Rattle.order_kinds.specs.Side.{opposite}
 use Rattle.zone_graph.specs.declared.route.Arc.{Arc}
-use Rattle.zone_graph.specs.Graph.{Graph, IsGraph}
+use Rattle.zone_graph.specs.Graph.{Graph}
 use Rattle.zone_graph.specs.Steps.{IsRun}
 use Rattle.market_model.specs.declared.event.Event.{Event}
-use Rattle.market_model.specs.declared.setup.Setup.{Setup}
 use Rattle.market_model.specs.Board.{IsHourOf}
 use Rattle.market_model.specs.Certificate.{zones_in_reach}
-use Rattle.market_model.specs.Grid.{graph_of}
 use Rattle.market_model.specs.Lines.{line}
-use Rattle.market_model.specs.Orders.{Standing}
 use Rattle.market_model.specs.Room.{room}
 use Rattle.market_model.specs.View.{view}
 use Rattle.plain_view.specs.declared.filling.Fill.{Fill}
-use Rattle.plain_view.specs.declared.maker.Maker.{Maker}
-use Rattle.plain_view.specs.Depth.{AreInZones, Depth, after_fill, maker_of, next_fill}
+use Rattle.plain_view.specs.Depth.{AreInZones, after_fill, maker_of, next_fill}
 use Rattle.plain_view.specs.Filled.{row_in, rows_with}
 use Rattle.plain_view.proofs.Views.{makers-known, view-rows}
 use Rattle.view_near.specs.Nearby.{DifferWithin, HaveNoZoneInCommon, is_elsewhere, zones_of_view}

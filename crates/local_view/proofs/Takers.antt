@@ -1,5 +1,5 @@
 -- What a taker takes over one best route after the other, and what it knows after that.
-use Rattle.std.proofs.Common.{◌≡◌, ◌∙◌, ◌+◌, ◌-◌, ◌<◌, ℕ, Bool, false, List, [], ◌∷◌, ◌++◌, length, Option, Some, None, refl, sym, ap, subst, arith}
+use Rattle.std.proofs.Common.{◌≡◌, ◌∙◌, ◌+◌, ◌-◌, ◌<◌, ℕ, Bool, false, List, [], ◌∷◌, ◌++◌, length, Option, is_some, Some, None, refl, sym, ap, subst, arith}
 use Rattle.std.specs.List.{list_all}
 use Rattle.std.specs.Option.{option_map}
 use Rattle.order_kinds.specs.declared.side.Side.{Side}
@@ -14,11 +14,13 @@ use Rattle.zone_graph.specs.Route.{IsIn, best_route, carried}
 use Rattle.zone_graph.proofs.Finding.{none_from}
 use Rattle.route_carrying.specs.Carrying.{CanCarry, FitTogether}
 use Rattle.route_carrying.proofs.Carrying.{fit-kept, route_can_carry}
-use Rattle.route_choice.specs.Freshness.{IsFresh, TellsReach, directed_route, has_room, searched_route}
+use Rattle.route_choice.specs.declared.route_search.RouteSearch.{RouteSearch}
+use Rattle.route_choice.specs.Freshness.{IsFresh, is_known, TellsReach, directed_route, has_room, searched_route}
 use Rattle.route_choice.specs.Poured.{AreRoomsAfter, lots_of, rooms_after}
-use Rattle.route_choice.proofs.Fresh.{exclusion_after, fresh_excludes, searched_arcs, stays_fresh}
+use Rattle.route_choice.proofs.Fresh.{exclusion_after, fresh_excludes, known_is_reached, searched_arcs, stays_fresh}
 use Rattle.route_choice.proofs.Pours.{IsPoured, IsPourLeg, ended, leg_over_route, no_leg_without_route, one_more, over_route, pour_leg-is}
 use Rattle.local_view.specs.declared.taker.Taker.{Taker}
+use Rattle.local_view.specs.Nearness.{is_joined}
 use Rattle.local_view.specs.Poured.{CarriesNext, leg_with, legs_with, room_after_next, sent_from, sent_to}
 use Rattle.local_view.specs.Takers.{IsTaker}
 
@@ -206,3 +208,18 @@ pub step_none : (graph : Graph) (start : Arc → ℕ) (side : Side) (zone other 
 step_none graph start side zone other most room after left is taken side_now zone_now same_side same_zone found carried e =
     takes_all graph start side zone other most room after left is taken
     (next_at graph room after side side_now zone zone_now other left found None same_side same_zone carried e)
+
+-- ---- zones that are joined
+
+-- a fresh search of a taker's zone knows which zones can trade with the taker
+pub known_joined : (graph : Graph) (room : Arc → ℕ) (search : RouteSearch) (side : Side) (zone other : ℕ) → IsGraph graph → IsFresh graph room search
+    → search.zone ≡ zone → search.towards ≡ same_side side Sell → is_known search other ≡ is_joined graph room side zone other
+known_joined graph room search side zone other is fresh at towards =
+    known_is_reached graph room search other is fresh
+    ∙ ap (λ (o : Option (List Arc)). is_some o) (directed-is graph room side search.towards search.zone other towards)
+    ∙ ap (λ z. is_some (best_route graph room (sent_from side z other) (sent_to side z other))) at
+    ∙ by side
+  where
+    by : (s : Side) → is_some (best_route graph room (sent_from s zone other) (sent_to s zone other)) ≡ is_joined graph room s zone other
+    by Buy = refl
+    by Sell = refl

@@ -2,6 +2,7 @@
 pub mod Boards
 pub mod Insides
 pub mod Kept
+pub mod Nearness
 pub mod Poured
 pub mod Rows
 pub mod Takers

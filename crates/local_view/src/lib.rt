@@ -4,6 +4,7 @@
 
 mod filling;
 mod listing;
+mod nearness;
 mod part_views;
 mod taker;
 mod views;

@@ -2,6 +2,8 @@
 
 ghost use Rattle.std.specs.Prelude.{◌≡◌, ◌<◌, ℕ, [], None, IfOk, OnOk, length, get_or, replicate};
 ghost use Rattle.order_kinds.specs.declared.side.Side.TheVariants.{Buy, Sell};
+ghost use Rattle.order_kinds.specs.Side.{opposite};
+ghost use Rattle.market_model.specs.Board.{IsBoard};
 ghost use Rattle.zone_graph.specs.Graph.{border_count, zone_count};
 ghost use Rattle.local_view.specs.Boards.{AreRoomsOf};
 ghost use Rattle.local_view.specs.Kept.{AreNext, IsSized, adopted, empty_part, empty_rows, forgotten, on_side, part_adopted, part_forgotten};
@@ -216,5 +218,37 @@ impl PartViews {
             side: Side::Sell,
         };
         self.sells.refresh(alloc, board, grid, work, sells)
+    }
+
+    /// Makes the next rows of one side: of the zones that the work says from the board, and of the others
+    /// as copies of the kept ones.
+    ///
+    /// # Errors
+    ///
+    /// [`NoMemory`], where there is no memory for a route or a row.
+    pub(crate) fn refresh_near<B: Board>(
+        &mut self,
+        alloc: Global,
+        board: &B,
+        grid: &Grid,
+        work: &mut Work,
+        line: Line,
+    ) -> Result<(), NoMemory>
+        requires grid { grid.now ≡ (B.state board.now).grid }
+        requires hand { (B.state board.now).hand ≡ None }
+        requires part { line.part < (B.state board.now).parts }
+        requires work { IsWork (border_count grid.now) work.old }
+        requires zones { IsSized (zone_count grid.now) self.old }
+        ensures next { OnOk result (HasMade work.old.computed (B.state board.now) line.part line.side (on_side self.old line.side).kept (on_side self.new line.side)) }
+        ensures other { on_side self.new (opposite line.side) ≡ on_side self.old (opposite line.side) }
+        ensures kept { part_forgotten self.new ≡ part_forgotten self.old }
+        ensures work { IsWork (border_count grid.now) work.new }
+        ensures board { IsBoard (B.state board.now) }
+    {
+        board.rooms(line.part, &mut work.of_part);
+        match line.side {
+            Side::Buy => self.buys.refresh(alloc, board, grid, work, line),
+            Side::Sell => self.sells.refresh(alloc, board, grid, work, line),
+        }
     }
 }

@@ -3,15 +3,20 @@
 ghost use Rattle.std.specs.Prelude.{◌≡◌, ◌+◌, ◌*◌, ◌<◌, ◌^◌, ℕ, None, IfOk, OnErr, OnOk, get_or, length, map, replicate};
 ghost use Rattle.order_kinds.specs.declared.side.Side.{Side};
 ghost use Rattle.zone_graph.specs.Graph.{border_count, zone_count};
-ghost use Rattle.local_view.specs.Kept.{AreAllNext, AreNext, AreSized, empty_part, kept_of, made_after as most_made, no_part, on_side, part_adopted, part_forgotten, views_adopted, views_forgotten};
-ghost use Rattle.local_view.specs.Works.{AllComputed, IsWork};
+ghost use Rattle.local_view.specs.Kept.{AreAllNext, AreNext, AreSized, empty_part, kept_of, line_of, made_after as most_made, no_part, on_side, part_adopted, part_forgotten, views_adopted, views_forgotten};
+ghost use Rattle.market_model.specs.Board.{IsBoard};
+ghost use Rattle.zone_graph.specs.Rooms.{room_of};
+ghost use Rattle.local_view.specs.Nearness.{AreOthers, WereViews, near_count};
+ghost use Rattle.local_view.specs.Works.{AllComputed, HasMade, IsWork};
 
+use crate::listing::Line;
+use crate::nearness::{count, near_zones};
 use crate::part_views::PartViews;
 use crate::work::Work;
 use market_model::{Board, NoMemory, Side, ViewRow};
 use std::alloc::Global;
 use std::marker::Model;
-use zone_graph::{Grid, MOST_ZONES};
+use zone_graph::{Grid, MOST_ZONES, Rooms};
 
 /// The local views of one hour: for each part, side and zone the rows that are kept, and for each part
 /// and side the rows of all zones that are next, or none.
@@ -104,6 +109,89 @@ impl LocalViews {
         filled
     }
 
+    /// Makes the next rows of one part and side, for every zone: the views of the board. All other next
+    /// rows, and the kept ones, stay.
+    ///
+    /// The kept rows of the part and side are the views after some events of the hour, `old_rooms` are
+    /// the rooms of the part then, and the board differs from then in the zones of `touched` alone: bit
+    /// z stands for zone z. Only the rows of the zones that could trade with a touched one are computed,
+    /// and `made` rises by their number; the others are copies of the kept ones. The grid is the board's,
+    /// and has as many zones as the views; the board has as many parts, and no order in hand.
+    ///
+    /// # Errors
+    ///
+    /// [`NoMemory`] where memory runs out. All next rows are dropped then.
+    pub fn refresh_near<B: Board>(
+        &mut self,
+        board: &B,
+        grid: &Grid,
+        part: u32,
+        side: Side,
+        old_rooms: &Rooms,
+        touched: u64,
+    ) -> Result<(), NoMemory>
+        requires grid { grid.now ≡ (B.state board.now).grid }
+        requires hand { (B.state board.now).hand ≡ None }
+        requires zones { zone_count grid.now ≡ self.old.zones }
+        requires parts { (B.state board.now).parts ≡ length self.old.lines }
+        requires part { part < length self.old.lines }
+        requires near { WereViews (B.state board.now) part side touched old_rooms.now (line_of self.old part side).kept }
+        ensures next { OnOk result (AreNext (B.state board.now) part side self.new.zones (line_of self.new part side)) }
+        ensures others { OnOk result ((other : ℕ) (otherwise : Side) → AreOthers part side other otherwise → line_of self.new other otherwise ≡ line_of self.old other otherwise) }
+        ensures kept { views_forgotten self.new ≡ views_forgotten (record { zones = self.old.zones; lines = self.old.lines; made = self.new.made }) }
+        ensures made { OnOk result (self.new.made ≡ most_made self.old.made (near_count grid.now (room_of old_rooms.now) side touched)) }
+        ensures failed { OnErr result (self.new ≡ views_forgotten self.old) }
+    {
+        let line = Line { part, side };
+        let refreshed = self.try_refresh_near(board, grid, line, old_rooms, touched);
+        if refreshed.is_err() {
+            self.forget();
+        }
+        refreshed
+    }
+
+    // The same, but after an error there may be next rows of the part and side.
+    fn try_refresh_near<B: Board>(
+        &mut self,
+        board: &B,
+        grid: &Grid,
+        line: Line,
+        old_rooms: &Rooms,
+        touched: u64,
+    ) -> Result<(), NoMemory>
+        requires grid { grid.now ≡ (B.state board.now).grid }
+        requires hand { (B.state board.now).hand ≡ None }
+        requires zones { zone_count grid.now ≡ self.old.zones }
+        requires parts { (B.state board.now).parts ≡ length self.old.lines }
+        requires part { line.part < length self.old.lines }
+        requires near { WereViews (B.state board.now) line.part line.side touched old_rooms.now (line_of self.old line.part line.side).kept }
+        ensures next { OnOk result (AreNext (B.state board.now) line.part line.side self.new.zones (line_of self.new line.part line.side)) }
+        ensures others { OnOk result ((other : ℕ) (otherwise : Side) → AreOthers line.part line.side other otherwise → line_of self.new other otherwise ≡ line_of self.old other otherwise) }
+        ensures kept { map part_forgotten self.new.lines ≡ map part_forgotten self.old.lines }
+        ensures zones { self.new.zones ≡ self.old.zones }
+        ensures made { OnOk result (self.new.made ≡ most_made self.old.made (near_count grid.now (room_of old_rooms.now) line.side touched)) }
+        ensures failed { OnErr result (self.new.made ≡ self.old.made) }
+    {
+        let alloc = *self.parts.allocator();
+        let zones = grid.zones();
+        let mut work = Work::over(self.work.take(), grid)?;
+        work.computed = near_zones(grid, old_rooms, line.side, touched);
+        let lists = count(&work.computed, zones);
+        let filled = fill_near(
+            alloc,
+            board,
+            grid,
+            &mut work,
+            self.parts.as_mut_slice(),
+            line,
+        );
+        self.work = Some(work);
+        if filled.is_ok() {
+            self.made = made_more(self.made, lists);
+        }
+        filled
+    }
+
     /// The next rows become the kept ones, part and side by part and side. A part and side without
     /// next rows keeps its own.
     pub fn adopt(&mut self)
@@ -192,6 +280,13 @@ fn fill_parts<B: Board>(
     Ok(())
 }
 
+// How many lists were made, after so many more.
+fn made_more(made: u64, lists: u64) -> u64
+    ensures { result ≡ most_made made lists }
+{
+    made.saturating_add(lists)
+}
+
 // How many lists were made, after those of so many parts and zones.
 fn made_after(made: u64, parts: usize, zones: u32) -> u64
     requires parts { parts < 2 ^ 32 }
@@ -199,4 +294,29 @@ fn made_after(made: u64, parts: usize, zones: u32) -> u64
     ensures { result ≡ most_made made (parts * (2 * zones)) }
 {
     made.saturating_add(parts as u64 * (2 * u64::from(zones)))
+}
+
+// Makes the next rows of one part and side: of the zones that the work says from the board, and of the
+// others as copies of the kept ones.
+fn fill_near<B: Board>(
+    alloc: Global,
+    board: &B,
+    grid: &Grid,
+    work: &mut Work,
+    parts: &mut [PartViews],
+    line: Line,
+) -> Result<(), NoMemory>
+    requires grid { grid.now ≡ (B.state board.now).grid }
+    requires hand { (B.state board.now).hand ≡ None }
+    requires parts { (B.state board.now).parts ≡ length parts.old }
+    requires part { line.part < length parts.old }
+    requires work { IsWork (border_count grid.now) work.old }
+    requires sized { AreSized (zone_count grid.now) parts.old }
+    ensures next { OnOk result (HasMade work.old.computed (B.state board.now) line.part line.side (on_side (get_or parts.old line.part no_part) line.side).kept (on_side (get_or parts.new line.part no_part) line.side)) }
+    ensures others { (other : ℕ) (otherwise : Side) → AreOthers line.part line.side other otherwise → on_side (get_or parts.new other no_part) otherwise ≡ on_side (get_or parts.old other no_part) otherwise }
+    ensures kept { map part_forgotten parts.new ≡ map part_forgotten parts.old }
+    ensures work { IsWork (border_count grid.now) work.new }
+    ensures board { IsBoard (B.state board.now) }
+{
+    parts[line.part as usize].refresh_near(alloc, board, grid, work, line)
 }

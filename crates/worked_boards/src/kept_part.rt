@@ -1,0 +1,85 @@
+//! What is kept of each part of an hour: its lines and its rooms.
+
+ghost use Rattle.std.specs.Prelude.{◌≡◌, IfOk, true};
+ghost use Rattle.order_kinds.specs.Contract as contracts;
+ghost use Rattle.plain_capacity.specs.Hour.{IsLegalOver};
+ghost use Rattle.plain_orders.specs.Listed as listed;
+ghost use Rattle.worked_boards.specs.Kept as kept;
+
+use crate::parts::{PARTS, contract_at};
+use market_model::{Contract, Event, Side};
+use plain_capacity::contract_rooms;
+use plain_orders::{StandingOrder, line, orders_of};
+use std::alloc::Global;
+use zone_graph::{Grid, NoMemory, Rooms};
+
+/// What is kept of a part: its two lines, with the order in hand, and its rooms.
+#[derive(Drop)]
+pub(crate) struct KeptPart {
+    buys: Vec<StandingOrder>,
+    sells: Vec<StandingOrder>,
+    rooms: Rooms,
+}
+
+impl KeptPart {
+    /// The line of a side.
+    pub(crate) fn line(&self, side: Side) -> &[StandingOrder]
+        ensures { result.now ≡ kept.line_in side self.now }
+    {
+        match side {
+            Side::Buy => self.buys.as_slice(),
+            Side::Sell => self.sells.as_slice(),
+        }
+    }
+
+    /// Its rooms.
+    pub(crate) fn rooms(&self) -> &Rooms
+        ensures { result.now ≡ self.now.rooms }
+    {
+        &self.rooms
+    }
+}
+
+/// What is kept of the seven parts of an hour.
+///
+/// # Errors
+///
+/// [`NoMemory`], where there is no memory for it.
+pub(crate) fn parts_of(
+    alloc: Global,
+    grid: &Grid,
+    events: &[Event],
+    hour: u32,
+) -> Result<Vec<KeptPart>, NoMemory>
+    requires legal { IsLegalOver grid.now events.now }
+    ensures { IfOk result (λ made. kept.AreKept grid.now hour events.now made.items) }
+{
+    let orders = orders_of(alloc, events, hour)?;
+    let mut parts = Vec::new(alloc);
+    for number in 0..PARTS {
+        let contract = contract_at(hour, number);
+        let part = part_of(alloc, grid, events, orders.as_slice(), contract)?;
+        parts.push(part)?;
+    }
+    Ok(parts)
+}
+
+// What is kept of the part of a contract.
+fn part_of(
+    alloc: Global,
+    grid: &Grid,
+    events: &[Event],
+    orders: &[StandingOrder],
+    contract: Contract,
+) -> Result<KeptPart, NoMemory>
+    requires legal { IsLegalOver grid.now events.now }
+    requires orders { orders.now ≡ listed.orders_of events.now contract.hour }
+    requires known { contracts.is_known contract.part ≡ true }
+    ensures { IfOk result (λ made. kept.IsKept grid.now events.now contract made) }
+{
+    Ok(KeptPart {
+        buys: line(alloc, orders, contract, Side::Buy)?,
+        sells: line(alloc, orders, contract, Side::Sell)?,
+        rooms: contract_rooms(alloc, grid, events, contract)?,
+    })
+}
