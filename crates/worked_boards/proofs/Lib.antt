@@ -6,3 +6,4 @@ mod KeptParts
 mod Placing
 mod RestingOrders
 mod SmallBoards
+mod Adopting

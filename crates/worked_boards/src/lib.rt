@@ -6,6 +6,7 @@ mod kept_part;
 mod parts;
 mod refused;
 mod resting;
+mod showing;
 mod small_board;
 mod small_market;
 mod takers;

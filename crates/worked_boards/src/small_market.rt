@@ -6,6 +6,7 @@ ghost use Rattle.worked_boards.specs.Small.{SameMarket};
 
 use crate::parts::number_of;
 use crate::refused::Refused;
+use crate::showing::shows_on;
 use crate::small_board::SmallBoard;
 use crate::takers::fresh_taker;
 use market_model::{Event, Names, Order, Pairs, Word};
@@ -87,6 +88,15 @@ impl SmallMarket {
     /// [`Refused`], where the board does not let the order in, or where memory is wanting.
     pub fn enter(&mut self, caller: u32, order: Order) -> Result<bool, Refused> {
         take_on(self.alloc, &mut self.board, &self.grid, caller, order)
+    }
+
+    /// Whether the local views of all parts, sides and zones are those of the plain market.
+    ///
+    /// # Errors
+    ///
+    /// [`Refused`], where an order is in hand, or where memory is wanting.
+    pub fn shows(&self) -> Result<bool, Refused> {
+        shows_on(self.alloc, &self.board, &self.grid)
     }
 
     /// Sweeps the hour, and answers whether the plain market's sweep is the same.

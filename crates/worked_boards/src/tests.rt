@@ -242,8 +242,8 @@ fn legs_in(events: &[Event]) -> usize {
         .count()
 }
 
-// Whether the plain market makes the same of so many drawn steps that a board lets in, and how many
-// legs there are then.
+// Whether the plain market makes the same of so many drawn steps that a board lets in and then shows
+// the same views, and how many legs there are then.
 fn drawn_alike(alloc: Global, seed: u64, steps: u32) -> Result<(bool, usize), Fail> {
     let mut state = seed;
     let mut market = SmallMarket::new(alloc, 4, &DIAMOND, 12)?;
@@ -255,11 +255,11 @@ fn drawn_alike(alloc: Global, seed: u64, steps: u32) -> Result<(bool, usize), Fa
             Err(Refused::NoMemory) => return Err("no memory".into()),
         }
     }
-    Ok((true, legs_in(market.events())))
+    Ok((market.shows()?, legs_in(market.events())))
 }
 
 #[test]
-fn drawn_boards_are_matched_as_the_plain_market_matches(rt: HostRuntime) -> Result<(), Fail> {
+fn drawn_boards_are_matched_and_shown_as_by_the_plain_market(rt: HostRuntime) -> Result<(), Fail> {
     for seed in 1..4u64 {
         let (alike, legs) = drawn_alike(rt.alloc(), seed, 50)?;
         assert!(rt; alike);
