@@ -1,6 +1,5 @@
 pub mod Admitting
 pub mod BlockEntries
-pub mod Empty
 pub mod Growing
 pub mod Happenings
 pub mod Replies

@@ -10,7 +10,5 @@ mod blocks;
 mod border_events;
 mod changes;
 mod gates;
-#[cfg(test)]
-mod tests;
 
 pub use answering::{answer, reply};
