@@ -1,5 +1,5 @@
 -- Contracts that are quiet: no two of their resting orders trade. What leaves them so needs no sweep.
-use Rattle.std.specs.Prelude.{◌≡◌, ◌≢◌, ℕ, ◌<◌, ◌≤◌, Bool, true, false, ◌==◌, ◌&&◌, List, [], None}
+use Rattle.std.specs.Prelude.{◌≡◌, ◌≢◌, ℕ, ◌<◌, ◌≤◌, Bool, true, false, ◌==◌, ◌&&◌, List, [], ◌++◌, None}
 use Rattle.order_kinds.specs.declared.contract.Contract.{Contract}
 use Rattle.order_kinds.specs.declared.contract.Quarter.{Quarter}
 use Rattle.order_kinds.specs.declared.order.BlockOrder.{BlockOrder}
@@ -8,17 +8,19 @@ use Rattle.order_kinds.specs.declared.order.OrderName.{OrderName}
 use Rattle.order_kinds.specs.declared.phase.Phase.{Phase}
 use Rattle.order_kinds.specs.Period.{block_has, block_quarters, contract_has, contract_quarters, is_within, range_has}
 use Rattle.zone_graph.specs.declared.route.Arc.{Arc}
-use Rattle.zone_graph.specs.Graph.{HasArc}
+use Rattle.zone_graph.specs.Graph.{Graph, HasArc}
 use Rattle.zone_graph.specs.Pour.{opposite_arc, same_arc, uses}
 use Rattle.zone_graph.specs.Route.{IsIn}
 use Rattle.market_model.specs.declared.event.Event.{Event}
 use Rattle.market_model.specs.declared.event.Event.TheVariants as event
 use Rattle.market_model.specs.declared.event.Leg.{Leg}
 use Rattle.market_model.specs.declared.setup.Setup.{Setup}
+use Rattle.market_model.specs.Board.{IsHourOf}
 use Rattle.market_model.specs.Grid.{graph_of}
 use Rattle.market_model.specs.History.{and_then, touches}
 use Rattle.market_model.specs.Room.{quarter_room, room}
 use Rattle.market_model.specs.Sweep.{leg_in}
+use Rattle.market_model.specs.Taking.{IsTaking}
 use Rattle.market_model.specs.WellFormed.{FitAfter, Fits, IsMarketSetup}
 use Rattle.line_fronts.specs.Fronts.{OpensNoArc}
 
@@ -144,3 +146,28 @@ HaltsStayQuiet = (setup : Setup) (before : List Event) (border first last : ℕ)
 abbrev pub GatesStayQuiet : Type 0
 GatesStayQuiet = (setup : Setup) (before : List Event) (hour : ℕ) (phase : Phase) (contract : Contract)
     → StaysQuiet setup before (event.Gated hour phase) contract
+
+-- ---- the contract of an order that comes in
+
+-- a contract that was quiet is so after an order of it entered and took until it had no next leg
+abbrev pub TakersLeaveTheirContractQuiet : Type 0
+TakersLeaveTheirContractQuiet = (setup : Setup) (before : List Event) (name : OrderName) (caller : ℕ) (order : Order) (legs : List Event)
+    → IsMarketSetup setup → FitAfter setup [] before → Fits setup before (event.Entered name caller order)
+    → IsTaking (graph_of setup) (and_then before (event.Entered name caller order)) name legs
+    → IsQuiet setup before order.contract → IsQuiet setup (and_then before (event.Entered name caller order) ++ legs) order.contract
+
+-- and after what is left of the order is withdrawn
+abbrev pub WithdrawnTakersLeaveTheirContractQuiet : Type 0
+WithdrawnTakersLeaveTheirContractQuiet = (setup : Setup) (before : List Event) (name : OrderName) (caller : ℕ) (order : Order) (legs : List Event) (lots : ℕ)
+    → IsMarketSetup setup → FitAfter setup [] before → Fits setup before (event.Entered name caller order)
+    → IsTaking (graph_of setup) (and_then before (event.Entered name caller order)) name legs
+    → Fits setup (and_then before (event.Entered name caller order) ++ legs) (event.Withdrawn name lots)
+    → IsQuiet setup before order.contract
+    → IsQuiet setup (and_then (and_then before (event.Entered name caller order) ++ legs) (event.Withdrawn name lots)) order.contract
+
+-- and by the events of an hour alone
+abbrev pub TakersOfAnHourLeaveTheirContractQuiet : Type 0
+TakersOfAnHourLeaveTheirContractQuiet = (graph : Graph) (hour : ℕ) (before : List Event) (name : OrderName) (caller : ℕ) (order : Order) (legs : List Event)
+    → IsHourOf graph hour (and_then before (event.Entered name caller order)) → order.contract.hour ≡ hour
+    → IsTaking graph (and_then before (event.Entered name caller order)) name legs
+    → leg_in graph before order.contract ≡ None → leg_in graph (and_then before (event.Entered name caller order) ++ legs) order.contract ≡ None

@@ -8,5 +8,7 @@ pub use quiet::{
     events_raise_their_arcs_alone, events_stay_quiet_where_there_was_room, gates_stay_quiet,
     grants_stay_quiet, halts_stay_quiet, legs_stay_quiet, legs_stay_quiet_apart, offers_stay_quiet,
     other_hours_stay_quiet, reductions_stay_quiet, resumptions_stay_quiet,
+    takers_leave_their_contract_quiet, takers_of_an_hour_leave_their_contract_quiet,
     unopened_contracts_stay_quiet, withdrawals_stay_quiet,
+    withdrawn_takers_leave_their_contract_quiet,
 };

@@ -1,7 +1,7 @@
 //! Laws of contracts without a leg in a sweep: theorems about the definitions, the contracts of functions
 //! that do nothing.
 
-ghost use Rattle.quiet_parts.specs.Quiet.{BlockEntriesStayQuiet, BlockLegsStayQuiet, EntriesStayQuiet, EventsRaiseTheirArcsAlone, EventsStayQuietWhereThereWasRoom, GatesStayQuiet, GrantsStayQuiet, HaltsStayQuiet, LegsStayQuiet, LegsStayQuietApart, OffersStayQuiet, OtherHoursStayQuiet, ReductionsStayQuiet, ResumptionsStayQuiet, UnopenedContractsStayQuiet, WithdrawalsStayQuiet};
+ghost use Rattle.quiet_parts.specs.Quiet.{BlockEntriesStayQuiet, BlockLegsStayQuiet, EntriesStayQuiet, EventsRaiseTheirArcsAlone, EventsStayQuietWhereThereWasRoom, GatesStayQuiet, GrantsStayQuiet, HaltsStayQuiet, LegsStayQuiet, LegsStayQuietApart, OffersStayQuiet, OtherHoursStayQuiet, ReductionsStayQuiet, ResumptionsStayQuiet, TakersLeaveTheirContractQuiet, TakersOfAnHourLeaveTheirContractQuiet, UnopenedContractsStayQuiet, WithdrawalsStayQuiet, WithdrawnTakersLeaveTheirContractQuiet};
 
 /// No event raises the room of an arc in a quarter but a leg and a grant that of the opposite arc, an
 /// offer that of its own arc, and a resumption those of both arcs of its border, each in its quarters.
@@ -90,4 +90,20 @@ pub fn halts_stay_quiet()
 /// A contract that had no leg has none after a gate.
 pub fn gates_stay_quiet()
     ensures { GatesStayQuiet }
+{}
+
+/// A contract that had no leg has none after an order of it entered and took, leg by leg, until it had no
+/// next one: whether something of the order is left or nothing.
+pub fn takers_leave_their_contract_quiet()
+    ensures { TakersLeaveTheirContractQuiet }
+{}
+
+/// Nor has it one after what is left of the order is withdrawn.
+pub fn withdrawn_takers_leave_their_contract_quiet()
+    ensures { WithdrawnTakersLeaveTheirContractQuiet }
+{}
+
+/// So it is by the events of an hour alone.
+pub fn takers_of_an_hour_leave_their_contract_quiet()
+    ensures { TakersOfAnHourLeaveTheirContractQuiet }
 {}
