@@ -1,5 +1,5 @@
 -- The leg of a part of an hour is that of its lines as the board shows them.
-use Rattle.std.proofs.Common.{◌≡◌, ◌∙◌, ◌<◌, ℕ, Bool, true, false, List, [], ◌∷◌, length, map, min, Option, Some, None, if◌then◌else◌, refl, sym, ap}
+use Rattle.std.proofs.Common.{◌≡◌, ◌∙◌, ◌<◌, ℕ, Bool, true, false, List, [], ◌∷◌, length, map, min, Option, Some, None, if◌then◌else◌, refl, sym, ap, subst}
 use Rattle.std.specs.List.{find}
 use Rattle.std.specs.Option.{IfSome, option_and_then, option_map}
 use Rattle.std.specs.Ordering.{is_lt}
@@ -11,7 +11,7 @@ use Rattle.order_kinds.specs.Contract.{contract_at}
 use Rattle.order_kinds.specs.Period.{contract_quarters}
 use Rattle.order_kinds.specs.Side.{crosses, opposite}
 use Rattle.zone_graph.specs.declared.route.Arc.{Arc}
-use Rattle.zone_graph.specs.Graph.{border_count}
+use Rattle.zone_graph.specs.Graph.{HasArc, border_count}
 use Rattle.zone_graph.specs.Rooms.{room_of}
 use Rattle.zone_graph.specs.Route.{IsIn, best_route, carried}
 use Rattle.zone_graph.proofs.Finding.{find-map, from_find}
@@ -32,8 +32,11 @@ use Rattle.market_locality.proofs.Restrict.{find-same}
 use Rattle.line_fronts.specs.Fronts.{firsts_cross}
 use Rattle.line_fronts.proofs.Worse.{uncrossed}
 use Rattle.sweep_core.specs.Meeting.{AreRoomsOf, can_meet, leg_between, leg_of_buy, leg_of_lines, leg_with, part_room, resting_leg, shown_leg, shown_line}
-use Rattle.sweep_core.specs.Sweeping.{IsFoundIn, event_in, part_leg}
+use Rattle.sweep_core.specs.declared.parts.PartLeg.{PartLeg}
+use Rattle.sweep_core.specs.Sweeping.{IsFoundIn, event_in, leg_event, may_open, part_leg}
 use Rattle.sweep_core.proofs.Lines.{in_hour, whole-line}
+use Rattle.sweep_core.proofs.Opening.{arcs-known, may-open-same}
+use Rattle.sweep_core.proofs.Progress.{can-be-made}
 
 -- the first answer of a list that is told of each item by another one
 answers-map : {X Z Y W : Type 0} (g : X → Z) (f : Y → W) (ask : Z → Option Y) (xs : List X)
@@ -189,15 +192,38 @@ module _ (board : BoardState) (part : ℕ) (is_board : IsBoard board) where
       ∙ ap (λ (s : List Standing). option_map (event_in board part) (leg_of_lines board.grid board.hour (part_room board part) (map shown_of s) (shown_line board part Buy)))
       (sym (whole-line board part Sell no_hand))
 
-  -- where a leg is found it is the part's
-  pub found-is : (found : Option Leg) (row : List (ℕ × ℕ)) → board.hand ≡ None → found ≡ shown_leg board part → AreRoomsOf board part row
-      → IfSome found (λ leg. IsFoundIn board part leg row)
-  found-is None row no_hand e are = tt
-  found-is (Some leg) row no_hand e are = record {
+  -- where a leg is found it is the part's, and its arcs are the grid's
+  pub found-is : (leg : Leg) → board.hand ≡ None → Some leg ≡ shown_leg board part → part_leg board part ≡ Some (event_in board part leg)
+  found-is leg no_hand e = shown-same no_hand ∙ ap (option_map (event_in board part)) (sym e)
+
+  pub found-arcs : (leg : Leg) → board.hand ≡ None → Some leg ≡ shown_leg board part → (arc : Arc) → IsIn arc leg.route → HasArc board.grid arc
+  found-arcs leg no_hand e = arcs-known board part leg (can-be-made board part leg is_board (found-is leg no_hand e))
+
+  -- so it is with what is told of it
+  abbrev told : List (ℕ × ℕ) → Leg → PartLeg
+  told row leg = record { part = part; leg = leg; opens = may_open (room_of row) leg.route }
+
+  pub told-is : (found : Option Leg) (row : List (ℕ × ℕ)) → board.hand ≡ None → found ≡ shown_leg board part → AreRoomsOf board part row
+      → IfSome (option_map (told row) found) (λ next. IsFoundIn board next)
+  told-is None row no_hand e are = tt
+  told-is (Some leg) row no_hand e are = record {
     stands = is_board;
-    is = shown-same no_hand ∙ ap (option_map (event_in board part)) (sym e);
-    are_rooms = are;
+    is = found-is leg no_hand e;
+    opens = may-open-same board (room_of row) (part_room board part) leg.route are.rooms (found-arcs leg no_hand e);
   }
+
+  pub told-part : (found : Option Leg) (row : List (ℕ × ℕ)) → IfSome (option_map (told row) found) (λ next. next.part ≡ part)
+  told-part None row = tt
+  told-part (Some leg) row = refl
+
+  pub told-leg : (found : Option Leg) (row : List (ℕ × ℕ)) → board.hand ≡ None → found ≡ shown_leg board part
+      → part_leg board part ≡ option_map (leg_event board) (option_map (told row) found)
+  told-leg found row no_hand e = shown-same no_hand ∙ ap (option_map (event_in board part)) (sym e) ∙ sym (map-map (leg_event board) (told row) found)
+
+  pub told-arcs : (found : Option Leg) (row : List (ℕ × ℕ)) → board.hand ≡ None → found ≡ shown_leg board part → AreRoomsOf board part row
+      → IfSome found (λ leg. (arc : Arc) → IsIn arc leg.route → arc.border < length row)
+  told-arcs None row no_hand e are = tt
+  told-arcs (Some leg) row no_hand e are = λ arc i. subst (λ n. arc.border < n) (sym are.size) (found-arcs leg no_hand e arc i)
 
 -- ---- where nothing crosses
 

@@ -1,5 +1,5 @@
 -- The walk along the buys: none so far has a leg, nor has any behind one of its zone that was tried.
-use Rattle.std.proofs.Common.{◌≡◌, ◌∙◌, ◌<◌, ◌&&◌, ◌==◌, inl, inr, ℕ, zero, suc, replicate, Bool, true, false, List, [], ◌∷◌, length, Option, Some, None, if◌then◌else◌, eqb-true, refl, sym, ap, subst}
+use Rattle.std.proofs.Common.{◌≡◌, ◌∙◌, ◌<◌, ◌&&◌, ◌==◌, inl, inr, ℕ, Bool, true, false, List, [], ◌∷◌, length, Option, Some, None, if◌then◌else◌, eqb-true, refl, sym, ap, subst}
 use Rattle.std.proofs.lemmas.Bool.{and_from, and_parts, false_from_ne_true, true≢false}
 use Rattle.std.specs.List.{find}
 use Rattle.std.specs.Option.{is_some, option_and_then}
@@ -16,8 +16,8 @@ use Rattle.market_model.specs.declared.event.Leg.{Leg}
 use Rattle.market_model.specs.Sweep.{first_answer, or_else}
 use Rattle.line_fronts.proofs.Worse.{crosses-worse}
 use Rattle.sweep_core.specs.Meeting.{can_meet, first_of, from_order, is_marked, leg_of_buy, leg_of_lines, leg_with, resting_leg}
-use Rattle.sweep_core.proofs.Lines.{IsLine, WorseBehind}
-use Rattle.sweep_core.proofs.Seeking.{find-nothing, worse-behind}
+use Rattle.sweep_core.proofs.Lines.{IsLine, WorseBehind, worse-behind}
+use Rattle.sweep_core.proofs.SellFronts.{find-nothing}
 use Rattle.sweep_core.proofs.Walks.{GoesOn, StandsAt, behind_in, fewer, goes-on, stands-at, stands-in}
 
 answers-here : {X Y : Type 0} (ask : X → Option Y) (x : X) (xs : List X) (y : Y) → ask x ≡ Some y → first_answer ask (x ∷ xs) ≡ Some y
@@ -158,9 +158,3 @@ module _ (graph : Graph) (hour : ℕ) (room : Arc → ℕ) (sells : List Shown) 
               go false e =
                   none other (subst (IsIn other) (sym goes.was) (inr in_back))
                   (sym (ap (λ b. if b then true else is_marked tried other.zone) e) ∙ sym (marked other.zone) ∙ m)
-
--- where each mark is none no zone is marked
-pub none-marked : (count : ℕ) (zone : ℕ) → is_marked (replicate count false) zone ≡ false
-none-marked zero zone = refl
-none-marked (suc count) zero = refl
-none-marked (suc count) (suc zone) = none-marked count zone

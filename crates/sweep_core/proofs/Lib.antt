@@ -1,8 +1,9 @@
 pub mod Walks
 pub mod Lines
-pub mod Seeking
+pub mod FreeZones
+pub mod SellFronts
 pub mod Trading
 pub mod BuyWalk
-pub mod Bridge
 pub mod Progress
 pub mod Opening
+pub mod Bridge

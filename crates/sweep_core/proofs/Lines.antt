@@ -1,15 +1,17 @@
 -- The lines of a board as it shows them: no number stands twice, prices get worse, and zones are in the
 -- grid.
-use Rattle.std.proofs.Common.{◌≡◌, ◌∙◌, inl, inr, ℕ, ◌<◌, ◌==◌, ◌||◌, Bool, true, false, cond, not, List, [], ◌∷◌, map, filter, Option, None, if◌then◌else◌, eq-eqb, refl, sym, ap, subst}
+use Rattle.std.proofs.Common.{◌≡◌, ◌∙◌, inl, inr, ℕ, ◌<◌, ◌==◌, ◌||◌, Bool, true, false, cond, not, List, [], ◌∷◌, ◌++◌, map, filter, Option, Some, None, if◌then◌else◌, eq-eqb, refl, sym, ap, subst}
 use Rattle.std.proofs.lemmas.Bool.{true≢false}
 use Rattle.std.specs.List.{list_any}
-use Rattle.std.specs.Ordering.{is_lt, ordering_then}
+use Rattle.std.specs.Ordering.{is_lt, ordering_reverse, ordering_then}
 use Rattle.std.specs.declared.cmp.Ordering.{Ordering}
 use Rattle.std.specs.declared.cmp.Ordering.TheVariants.{Less, Equal, Greater}
 use Rattle.order_kinds.specs.declared.contract.Contract.{Contract}
+use Rattle.order_kinds.specs.declared.price.Price.{Price}
 use Rattle.order_kinds.specs.declared.side.Side.{Side}
 use Rattle.order_kinds.specs.Contract.{contract_at}
 use Rattle.order_kinds.specs.Side.{price_cmp}
+use Rattle.order_kinds.proofs.PriceOrder.{price_cmp_total}
 use Rattle.zone_graph.specs.Graph.{Graph, HasZone}
 use Rattle.zone_graph.specs.InOrder.{IsStrictlyInOrder}
 use Rattle.zone_graph.specs.Route.{IsIn}
@@ -36,6 +38,33 @@ use Rattle.sweep_core.proofs.Walks.{Differ, behind_in}
 abbrev pub WorseBehind : Side → List Shown → Type 0
 WorseBehind side [] = Unit {0}
 WorseBehind side (order ∷ orders) = ((other : Shown) → IsIn other orders → is_lt (price_cmp side other.price order.price) ≡ false) × WorseBehind side orders
+
+-- so it is with those behind an order in the middle
+pub worse-behind : (side : Side) (front back : List Shown) (order : Shown) → WorseBehind side (front ++ order ∷ back) → (other : Shown) → IsIn other back
+    → is_lt (price_cmp side other.price order.price) ≡ false
+worse-behind side [] back order worse other i = worse.0 other i
+worse-behind side (x ∷ front) back order worse other i = worse-behind side front back order worse.1 other i
+
+not-better : (side : Side) (price : Price) → is_lt (price_cmp side price price) ≡ false
+not-better side price = go (price_cmp side price price) ((price_cmp_total side).antisymm price price)
+  where
+    go : (r : Ordering) → r ≡ ordering_reverse r → is_lt r ≡ false
+    go Less e = absurd (cc)
+    go Equal e = refl
+    go Greater e = refl
+
+-- in a line that is not empty there is a best order, and none is better
+pub best-there : (side : Side) (orders : List Shown) (order : Shown) → WorseBehind side orders → IsIn order orders
+    → (best : Shown) × (first_of orders ≡ Some best) × (is_lt (price_cmp side order.price best.price) ≡ false)
+best-there side [] order worse i = absurd i
+best-there side (best ∷ orders) order worse i = (
+  best,
+  refl,
+  elim i [
+    | inl same ↦ ap (λ (s : Shown). is_lt (price_cmp side s.price best.price)) same ∙ not-better side best.price
+    | inr j ↦ worse.0 order j
+  ],
+)
 
 pub record IsLine (graph : Graph) (side : Side) (orders : List Shown) : Type 0 where
   pub differ : Differ orders

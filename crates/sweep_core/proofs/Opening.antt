@@ -15,7 +15,6 @@ use Rattle.quarter_capacity.specs.Capacity.{flow_of, remaining_of}
 use Rattle.zone_graph.specs.declared.route.Arc.{Arc}
 use Rattle.zone_graph.specs.Graph.{HasArc}
 use Rattle.zone_graph.specs.Pour.{lots_if, opposite_arc, uses}
-use Rattle.zone_graph.specs.Rooms.{room_of}
 use Rattle.zone_graph.specs.Route.{IsIn}
 use Rattle.zone_graph.proofs.Arcs.{IsIn-uses, opposite-twice}
 use Rattle.cut_proof.proofs.Ways.{way_has_arc}
@@ -49,7 +48,7 @@ use Rattle.line_fronts.proofs.Unopened.{unopened}
 use Rattle.board_laws.proofs.Legs.{made-fits}
 use Rattle.board_laws.proofs.Shared.{board-agrees, board-graph}
 use Rattle.sweep_core.specs.declared.part_set.PartSet.{PartSet}
-use Rattle.sweep_core.specs.Meeting.{AreRoomsOf}
+use Rattle.sweep_core.specs.Meeting.{part_room}
 use Rattle.sweep_core.specs.Parts.{has_part}
 use Rattle.sweep_core.specs.Sweeping.{OthersAreQuiet, event_in, may_open, next_event, part_leg}
 use Rattle.sweep_core.proofs.Lines.{price-first}
@@ -185,14 +184,22 @@ any-none p (first ∷ arcs) none arc i = go (p first) refl none i (λ k j. any-n
 some-none : (e : Event) → Some e ≡ None → ⊥
 some-none e same = cc
 
+-- over rooms that say the same of the grid's arcs an arc may open or not
+pub may-open-same : (board : BoardState) (room other : Arc → ℕ) (route : List Arc) → ((arc : Arc) → HasArc board.grid arc → room arc ≡ other arc)
+    → ((arc : Arc) → IsIn arc route → HasArc board.grid arc) → may_open room route ≡ may_open other route
+may-open-same board room other [] same known = refl
+may-open-same board room other (arc ∷ route) same known =
+    ap (λ n. (n == 0) || may_open room route) (same (opposite_arc arc) (known arc (inl refl)))
+    ∙ ap (λ b. (other (opposite_arc arc) == 0) || b) (may-open-same board room other route same (λ a i. known a (inr i)))
+
 -- the parts that are left out have no leg after it either
-pub quiet-after : (board : BoardState) (part : ℕ) (leg : Leg) (row : List (ℕ × ℕ)) (before after : PartSet) → IsBoard board → CanBeMade board part leg
-    → part_leg board part ≡ Some (event_in board part leg) → next_event board ≡ Some (event_in board part leg) → AreRoomsOf board part row
-    → OthersAreQuiet board before
-    → ((other : ℕ) → other < 7 → has_part after other ≡ (if may_open (room_of row) leg.route then true else has_part before other))
+pub quiet-after : (board : BoardState) (part : ℕ) (leg : Leg) (opens : Bool) (before after : PartSet) → IsBoard board → CanBeMade board part leg
+    → part_leg board part ≡ Some (event_in board part leg) → next_event board ≡ Some (event_in board part leg)
+    → opens ≡ may_open (part_room board part) leg.route → OthersAreQuiet board before
+    → ((other : ℕ) → other < 7 → has_part after other ≡ (if opens then true else has_part before other))
     → OthersAreQuiet (after_leg board part leg) after
-quiet-after board part leg row before after is_board can found next are quiet marks other less left_out =
-    go (may_open (room_of row) leg.route) refl (sym (marks other less) ∙ left_out)
+quiet-after board part leg opens before after is_board can found next tells quiet marks other less left_out =
+    go opens (sym tells) (sym (marks other less) ∙ left_out)
   where
     contract : Contract
     contract = contract_at board.hour part
@@ -203,7 +210,7 @@ quiet-after board part leg row before after is_board can found next are quiet ma
     made : Event
     made = event_in board part leg
 
-    go : (b : Bool) → may_open (room_of row) leg.route ≡ b → (if b then true else has_part before other) ≡ false → part_leg (after_leg board part leg) other ≡ None
+    go : (b : Bool) → may_open (part_room board part) leg.route ≡ b → (if b then true else has_part before other) ≡ false → part_leg (after_leg board part leg) other ≡ None
     go true e k = absurd (true≢false k)
     go false e k =
         let had_none = quiet other less k in
@@ -220,7 +227,6 @@ quiet-after board part leg row before after is_board can found next are quiet ma
         (subst (λ xs. StandInFor side (line is_board.stands.history aside side) xs) (sym (now side))
         (stand-in is_board.stands.setup is_board.stands.history is_board.stands.fit contract leg (made-fits board is_board part leg can) aside apart side)) in
         let shut : (arc : Arc) → IsIn arc leg.route → 0 < room board.events (contract_quarters contract) (opposite_arc arc) =
-        λ arc i. subst (λ n. 0 < n) (are.rooms (opposite_arc arc) (arcs-known board part leg can arc i))
-        (some-room (room_of row (opposite_arc arc)) (any-none (λ a. room_of row (opposite_arc a) == 0) leg.route e arc i)) in
+        λ arc i. some-room (part_room board part (opposite_arc arc)) (any-none (λ a. part_room board part (opposite_arc a) == 0) leg.route e arc i) in
         unopened board.grid board.events (and_then board.events made) aside (board-graph board is_board) (stands Buy) (stands Sell)
         (λ arc there some. none-opens board.events contract leg shut (contract_quarters aside) arc some) had_none

@@ -15,7 +15,7 @@ abbrev pub behind_in : (number : ℕ) → List Shown → Option Shown
 behind_in number [] = None
 behind_in number (order ∷ orders) = if order.number == number then first_of orders else behind_in number orders
 
-differs : (a b : ℕ) → a ≢ b → (a == b) ≡ false
+pub differs : (a b : ℕ) → a ≢ b → (a == b) ≡ false
 differs a b apart = go (a == b) refl
   where
     go : (t : Bool) → (a == b) ≡ t → t ≡ false

@@ -8,7 +8,7 @@ use Rattle.order_kinds.specs.declared.side.Side.{Side}
 use Rattle.order_kinds.specs.declared.side.Side.TheVariants.{Buy, Sell}
 use Rattle.order_kinds.specs.Contract.{contract_at}
 use Rattle.order_kinds.specs.Period.{contract_quarters}
-use Rattle.order_kinds.specs.Side.{crosses}
+use Rattle.order_kinds.specs.Side.{crosses, price_cmp}
 use Rattle.zone_graph.specs.declared.route.Arc.{Arc}
 use Rattle.zone_graph.specs.Graph.{Graph, HasArc, border_count}
 use Rattle.zone_graph.specs.Reach.{reaches}
@@ -50,13 +50,28 @@ pub record AreRoomsOf (board : BoardState) (part : ℕ) (row : List (ℕ × ℕ)
   pub size : length row ≡ border_count board.grid
   pub rooms : (arc : Arc) → HasArc board.grid arc → room_of row arc ≡ part_room board part arc
 
--- a buy and a sell can trade: their prices cross, and a route leads from the sell's zone to the buy's
+-- a buy and a sell can trade: their prices cross, and the sell's zone is one of those from which a route
+-- leads to the buy's
+abbrev pub can_meet_from : (leads : ℕ → Bool) → (buy sell : Shown) → Bool
+can_meet_from leads buy sell = crosses Buy buy.price sell.price && leads sell.zone
+
+-- so the rooms tell it
 abbrev pub can_meet : Graph → (Arc → ℕ) → (buy sell : Shown) → Bool
-can_meet graph room buy sell = crosses Buy buy.price sell.price && reaches graph room sell.zone buy.zone
+can_meet graph room buy sell = can_meet_from (λ zone. reaches graph room zone buy.zone) buy sell
 
 -- so a search towards the buy's zone tells it
 abbrev pub is_met : RouteSearch → (buy sell : Shown) → Bool
-is_met search buy sell = crosses Buy buy.price sell.price && is_known search sell.zone
+is_met search buy sell = can_meet_from (is_known search) buy sell
+
+-- sells among which each buy that pays no more than the best one finds the one of a line that it trades
+-- with, whatever zones lead to its own
+abbrev pub AreFronts : (sells : List Shown) → (best : Shown) → (fronts : List Shown) → Type 0
+AreFronts sells best fronts = (leads : ℕ → Bool) (buy : Shown) → is_lt (price_cmp Buy buy.price best.price) ≡ false
+    → find (can_meet_from leads buy) fronts ≡ find (can_meet_from leads buy) sells
+
+-- sells among which the buys of a part find those of the part that they trade with
+abbrev pub DecideForBuys : BoardState → (part : ℕ) → (fronts : List Shown) → Type 0
+DecideForBuys board part fronts = (best : Shown) → first_of (shown_line board part Buy) ≡ Some best → AreFronts (shown_line board part Sell) best fronts
 
 -- a buy was there earlier than a sell: at the earlier moment, or at the same with the smaller number
 abbrev pub is_earlier : (buy sell : Shown) → Bool

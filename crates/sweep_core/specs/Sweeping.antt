@@ -1,10 +1,10 @@
 -- What a sweep makes of a board.
-use Rattle.std.specs.Prelude.{◌≡◌, ℕ, ◌<◌, ◌≤◌, Bool, false, ◌==◌, List, [], ◌∷◌, ◌++◌, take, Option, Some, None}
+use Rattle.std.specs.Prelude.{◌≡◌, ℕ, ◌<◌, ◌≤◌, Bool, false, ◌==◌, List, [], ◌∷◌, ◌++◌, length, take, Option, Some, None, IfSome}
 use Rattle.std.specs.List.{list_any}
 use Rattle.order_kinds.specs.declared.side.Side.TheVariants.{Buy, Sell}
 use Rattle.order_kinds.specs.Contract.{contract_at}
 use Rattle.zone_graph.specs.declared.route.Arc.{Arc}
-use Rattle.zone_graph.specs.Graph.{Graph}
+use Rattle.zone_graph.specs.Graph.{Graph, border_count}
 use Rattle.zone_graph.specs.Pour.{opposite_arc}
 use Rattle.zone_graph.specs.Route.{IsIn}
 use Rattle.market_model.specs.declared.event.Event.{Event}
@@ -16,7 +16,7 @@ use Rattle.market_model.specs.Orders.{Standing}
 use Rattle.market_model.specs.Sweep.{all_parts, first_answer, leg_in, sweep, sweep_leg}
 use Rattle.sweep_core.specs.declared.part_set.PartSet.{PartSet}
 use Rattle.sweep_core.specs.declared.parts.PartLeg.{PartLeg}
-use Rattle.sweep_core.specs.Meeting.{AreRoomsOf}
+use Rattle.sweep_core.specs.Meeting.{part_room}
 use Rattle.sweep_core.specs.Parts.{has_part}
 
 -- the leg of a part of the hour
@@ -72,18 +72,22 @@ first_leg board numbers = first_answer (part_leg board) numbers
 abbrev pub next_event : BoardState → Option Event
 next_event board = sweep_leg all_parts board.grid board.hour board.events
 
--- the leg of a part, as the board's rooms give it
-pub record IsFoundIn (board : BoardState) (part : ℕ) (leg : Leg) (rooms : List (ℕ × ℕ)) : Type 0 where
-  pub stands : IsBoard board
-  pub is : part_leg board part ≡ Some (event_in board part leg)
-  pub are_rooms : AreRoomsOf board part rooms
-
--- the next leg of a sweep
-pub record IsNext (board : BoardState) (next : PartLeg) (rooms : List (ℕ × ℕ)) : Type 0 where
-  pub part : next.part < 7
-  pub found : IsFoundIn board next.part next.leg rooms
-  pub is : next_event board ≡ Some (leg_event board next)
-
 -- an arc of a route may give the opposite one its first room
 abbrev pub may_open : (Arc → ℕ) → List Arc → Bool
 may_open room route = list_any (λ arc. room (opposite_arc arc) == 0) route
+
+-- the rooms of the arcs of a grid, where they are there
+abbrev pub AreSized : Graph → Option (List (ℕ × ℕ)) → Type 0
+AreSized graph rooms = IfSome rooms (λ row. length row ≡ border_count graph)
+
+-- the leg of its part, which tells whether it may give an arc its first room
+pub record IsFoundIn (board : BoardState) (found : PartLeg) : Type 0 where
+  pub stands : IsBoard board
+  pub is : part_leg board found.part ≡ Some (leg_event board found)
+  pub opens : found.opens ≡ may_open (part_room board found.part) found.leg.route
+
+-- the next leg of a sweep
+pub record IsNext (board : BoardState) (next : PartLeg) : Type 0 where
+  pub part : next.part < 7
+  pub found : IsFoundIn board next
+  pub is : next_event board ≡ Some (leg_event board next)

@@ -4,6 +4,7 @@
 #![tactic(auto)]
 
 mod buys;
+mod marks;
 mod part_set;
 mod parts;
 mod sells;

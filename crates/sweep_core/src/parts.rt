@@ -1,16 +1,20 @@
 //! The next leg of a sweep.
 
-ghost use Rattle.std.specs.Prelude.{◌≡◌, ◌<◌, IfOk, IfSome, length};
+ghost use Rattle.std.specs.Prelude.{◌≡◌, ◌<◌, IfOk, IfSome, None, length};
 ghost use Rattle.std.specs.Option.{option_map};
+ghost use Rattle.zone_graph.specs.declared.route.Arc.{Arc as RouteArc};
 ghost use Rattle.zone_graph.specs.Graph.{border_count};
+ghost use Rattle.zone_graph.specs.Rooms.{room_of};
+ghost use Rattle.zone_graph.specs.Route.{IsIn};
 ghost use Rattle.sweep_core.specs.Sweeping as sweeping;
 
-use crate::buys::leg_of_buys;
+use crate::buys::{PartSells, leg_of_buys};
 use crate::part_set::PartSet;
+use crate::sells::sell_fronts;
 use market_model::{Board, Leg};
 use order_kinds::Side;
 use std::alloc::Global;
-use zone_graph::{Grid, NoMemory, Rooms};
+use zone_graph::{Arc, Grid, NoMemory, Rooms};
 
 // The parts in the order in which they are tried: the hour, its halves, its quarters.
 const ORDER: [u32; 7] = [0, 5, 6, 1, 2, 3, 4];
@@ -20,11 +24,15 @@ const ORDER: [u32; 7] = [0, 5, 6, 1, 2, 3, 4];
 pub(crate) struct PartLeg {
     pub part: u32,
     pub leg: Leg,
+    /// Whether the opposite of an arc of its route has no room, and may get its first.
+    pub opens: bool,
 }
 
 /// The next leg of the sweep of an hour: in the first part that has one. The parts that are not in
-/// the set have none, and those that turn out to have none leave it. Where there is a leg, the rooms
-/// are those of its part.
+/// the set have none, and those that turn out to have none leave it.
+///
+/// The row of rooms is kept from call to call, and made where a part needs it first: one whose best
+/// buy and best sell cross.
 ///
 /// # Errors
 ///
@@ -34,20 +42,20 @@ pub(crate) fn next_leg<B: Board>(
     board: &B,
     grid: &Grid,
     hour: u32,
-    rooms: &mut Rooms,
+    rooms: &mut Option<Rooms>,
     parts: &mut PartSet,
 ) -> Result<Option<PartLeg>, NoMemory>
     requires swept { sweeping.IsToBeSwept grid.now hour (B.state board.now) }
-    requires size { length rooms.old ≡ border_count grid.now }
+    requires size { sweeping.AreSized grid.now rooms.old }
     requires quiet { sweeping.OthersAreQuiet (B.state board.now) parts.old }
     ensures next { IfOk result (λ found. sweeping.next_event (B.state board.now) ≡ option_map (sweeping.leg_event (B.state board.now)) found) }
-    ensures found { IfOk result (λ found. IfSome found (λ next. sweeping.IsNext (B.state board.now) next rooms.new)) }
-    ensures size { IfOk result (λ found. length rooms.new ≡ border_count grid.now) }
+    ensures found { IfOk result (λ found. IfSome found (λ next. sweeping.IsNext (B.state board.now) next)) }
+    ensures size { sweeping.AreSized grid.now rooms.new }
     ensures quiet { IfOk result (λ found. sweeping.OthersAreQuiet (B.state board.now) parts.new) }
 {
     for part in ORDER {
-        if let Some(leg) = leg_if_open(alloc, board, grid, hour, part, rooms, parts)? {
-            return Ok(Some(PartLeg { part, leg }));
+        if let Some(next) = leg_if_open(alloc, board, grid, hour, part, rooms, parts)? {
+            return Ok(Some(next));
         }
     }
     Ok(None)
@@ -60,23 +68,24 @@ fn leg_if_open<B: Board>(
     grid: &Grid,
     hour: u32,
     part: u32,
-    rooms: &mut Rooms,
+    rooms: &mut Option<Rooms>,
     parts: &mut PartSet,
-) -> Result<Option<Leg>, NoMemory>
+) -> Result<Option<PartLeg>, NoMemory>
     requires swept { sweeping.IsToBeSwept grid.now hour (B.state board.now) }
     requires part { part < 7 }
-    requires size { length rooms.old ≡ border_count grid.now }
+    requires size { sweeping.AreSized grid.now rooms.old }
     requires quiet { sweeping.OthersAreQuiet (B.state board.now) parts.old }
-    ensures leg { IfOk result (λ found. sweeping.part_leg (B.state board.now) part ≡ option_map (sweeping.event_in (B.state board.now) part) found) }
-    ensures found { IfOk result (λ found. IfSome found (λ leg. sweeping.IsFoundIn (B.state board.now) part leg rooms.new)) }
-    ensures size { IfOk result (λ found. length rooms.new ≡ border_count grid.now) }
+    ensures leg { IfOk result (λ found. sweeping.part_leg (B.state board.now) part ≡ option_map (sweeping.leg_event (B.state board.now)) found) }
+    ensures in_part { IfOk result (λ found. IfSome found (λ next. next.part ≡ part)) }
+    ensures found { IfOk result (λ found. IfSome found (λ next. sweeping.IsFoundIn (B.state board.now) next)) }
+    ensures size { sweeping.AreSized grid.now rooms.new }
     ensures quiet { IfOk result (λ found. sweeping.OthersAreQuiet (B.state board.now) parts.new) }
 {
     if !parts.contains(part) {
         return Ok(None);
     }
     match leg_of_part(alloc, board, grid, hour, part, rooms)? {
-        Some(leg) => Ok(Some(leg)),
+        Some(found) => Ok(Some(found)),
         None => {
             *parts = parts.without(part);
             Ok(None)
@@ -85,21 +94,22 @@ fn leg_if_open<B: Board>(
 }
 
 // The leg of a part: `None` exactly where it has none. Where the best buy and the best sell do not
-// cross, no rooms are asked.
+// cross, no rooms are asked and no memory is taken.
 fn leg_of_part<B: Board>(
     alloc: Global,
     board: &B,
     grid: &Grid,
     hour: u32,
     part: u32,
-    rooms: &mut Rooms,
-) -> Result<Option<Leg>, NoMemory>
+    rooms: &mut Option<Rooms>,
+) -> Result<Option<PartLeg>, NoMemory>
     requires swept { sweeping.IsToBeSwept grid.now hour (B.state board.now) }
     requires part { part < 7 }
-    requires size { length rooms.old ≡ border_count grid.now }
-    ensures leg { IfOk result (λ found. sweeping.part_leg (B.state board.now) part ≡ option_map (sweeping.event_in (B.state board.now) part) found) }
-    ensures found { IfOk result (λ found. IfSome found (λ leg. sweeping.IsFoundIn (B.state board.now) part leg rooms.new)) }
-    ensures size { IfOk result (λ found. length rooms.new ≡ border_count grid.now) }
+    requires size { sweeping.AreSized grid.now rooms.old }
+    ensures leg { IfOk result (λ found. sweeping.part_leg (B.state board.now) part ≡ option_map (sweeping.leg_event (B.state board.now)) found) }
+    ensures in_part { IfOk result (λ found. IfSome found (λ next. next.part ≡ part)) }
+    ensures found { IfOk result (λ found. IfSome found (λ next. sweeping.IsFoundIn (B.state board.now) next)) }
+    ensures size { sweeping.AreSized grid.now rooms.new }
 {
     let Some(buy) = board.first(part, Side::Buy) else {
         return Ok(None);
@@ -110,6 +120,52 @@ fn leg_of_part<B: Board>(
     if !Side::Buy.crosses(buy.price, sell.price) {
         return Ok(None);
     }
-    board.rooms(part, rooms);
-    leg_of_buys(alloc, board, grid, rooms, hour, part, &sell)
+    let fronts = sell_fronts(alloc, board, grid, part, &buy)?;
+    let mut row = taken_row(grid, rooms)?;
+    board.rooms(part, &mut row);
+    let sells = PartSells {
+        grid,
+        hour,
+        rooms: &row,
+        fronts: fronts.as_slice(),
+    };
+    let leg = leg_of_buys(alloc, board, part, &sell, &sells)?;
+    let found = with_opening(part, &row, leg);
+    *rooms = Some(row);
+    Ok(found)
+}
+
+// Takes the row of rooms that was kept, or makes one.
+fn taken_row(grid: &Grid, rooms: &mut Option<Rooms>) -> Result<Rooms, NoMemory>
+    requires { sweeping.AreSized grid.now rooms.old }
+    ensures size { IfOk result (λ row. length row ≡ border_count grid.now) }
+    ensures none { rooms.new ≡ None }
+{
+    match rooms.take() {
+        Some(row) => Ok(row),
+        None => Rooms::new(grid),
+    }
+}
+
+// A leg with its part, and whether it may give an arc its first room.
+fn with_opening(part: u32, rooms: &Rooms, leg: Option<Leg>) -> Option<PartLeg>
+    requires { IfSome leg (λ leg. (arc : RouteArc) → IsIn arc leg.route → arc.border < length rooms.now) }
+    ensures { result ≡ option_map (λ leg. record { part = part; leg = leg; opens = sweeping.may_open (room_of rooms.now) leg.route }) leg }
+{
+    let leg = leg?;
+    let opens = may_open(rooms, leg.route.as_slice());
+    Some(PartLeg { part, leg, opens })
+}
+
+// Whether the opposite of an arc of a route has no room.
+fn may_open(rooms: &Rooms, route: &[Arc]) -> bool
+    requires { (arc : RouteArc) → IsIn arc route.now → arc.border < length rooms.now }
+    ensures { result ≡ sweeping.may_open (room_of rooms.now) route.now }
+{
+    for arc in route {
+        if rooms.at(arc.opposite()) == 0 {
+            return true;
+        }
+    }
+    false
 }

@@ -1,9 +1,6 @@
 //! The sweep of an hour.
 
-ghost use Rattle.std.specs.Prelude.{◌≡◌, ℕ, ◌<◌, ◌≤◌, IfOk, None, OnErr, OnOk, length, true, if◌then◌else◌};
-ghost use Rattle.zone_graph.specs.declared.route.Arc.{Arc as RouteArc};
-ghost use Rattle.zone_graph.specs.Rooms.{room_of};
-ghost use Rattle.zone_graph.specs.Route.{IsIn};
+ghost use Rattle.std.specs.Prelude.{◌≡◌, ℕ, ◌<◌, ◌≤◌, None, OnErr, OnOk, true, if◌then◌else◌};
 ghost use Rattle.sweep_core.specs.Parts.{has_part};
 ghost use Rattle.sweep_core.specs.Sweeping as sweeping;
 
@@ -11,7 +8,7 @@ use crate::part_set::PartSet;
 use crate::parts::next_leg;
 use market_model::Board;
 use std::alloc::Global;
-use zone_graph::{Arc, Grid, NoMemory, Rooms};
+use zone_graph::{Grid, NoMemory};
 
 /// Sweeps an hour: resting orders that can trade do, until none can. The parts are tried in order, the
 /// hour first, then its halves, then its quarters; in the first that has one a leg is made, between
@@ -62,37 +59,19 @@ pub fn sweep_opened<B: Board>(
     ensures done { OnOk result (sweeping.NothingTrades (B.state board.new)) }
     ensures kept { B.rest board.new ≡ B.rest board.old }
 {
-    let mut rooms = Rooms::new(grid)?;
+    let mut rooms = None;
     let mut parts = opened;
     while let Some(next) = next_leg(alloc, board, grid, hour, &mut rooms, &mut parts)? {
-        parts = opened_by(parts, &rooms, next.leg.route.as_slice());
+        parts = opened_by(parts, next.opens);
         board.make(next.part, &next.leg)?;
     }
     Ok(())
 }
 
-// The parts that may have a leg after one over a route: the same, unless the opposite of an arc of the
-// route may get its first room, and then all.
-fn opened_by(parts: PartSet, rooms: &Rooms, route: &[Arc]) -> PartSet
-    requires { (arc : RouteArc) → IsIn arc route.now → arc.border < length rooms.now }
-    ensures { (part : ℕ) → part < 7 → has_part result part ≡ (if sweeping.may_open (room_of rooms.now) route.now then true else has_part parts part) }
+// The parts that may have a leg after one: the same, unless the leg may give an arc its first room, and
+// then all.
+fn opened_by(parts: PartSet, opens: bool) -> PartSet
+    ensures { (part : ℕ) → part < 7 → has_part result part ≡ (if opens then true else has_part parts part) }
 {
-    if may_open(rooms, route) {
-        PartSet::all()
-    } else {
-        parts
-    }
-}
-
-// Whether the opposite of an arc of a route has no room.
-fn may_open(rooms: &Rooms, route: &[Arc]) -> bool
-    requires { (arc : RouteArc) → IsIn arc route.now → arc.border < length rooms.now }
-    ensures { result ≡ sweeping.may_open (room_of rooms.now) route.now }
-{
-    for arc in route {
-        if rooms.at(arc.opposite()) == 0 {
-            return true;
-        }
-    }
-    false
+    if opens { PartSet::all() } else { parts }
 }

@@ -1,13 +1,10 @@
-use Rattle.std.proofs.Common.{◌∙◌, ◌<◌, Result, Ok, Err, OnErr, IfSome, true, if◌then◌else◌, refl, sym, ap, subst}
+use Rattle.std.proofs.Common.{◌∙◌, ◌<◌, Result, Ok, Err, OnErr, IfSome, refl, sym, ap, subst}
 use Rattle.std.specs.Option.{option_map}
-use Rattle.zone_graph.specs.Rooms.{room_of}
-use Rattle.zone_graph.specs.Route.{IsIn}
 use Rattle.market_model.specs.Sweep.{left_in_hour}
 use Rattle.board_laws.proofs.Legs.{lower}
-use Rattle.sweep_core.specs.Parts.{has_part}
-use Rattle.sweep_core.specs.Sweeping.{IsNext, IsSweptInPart, IsToBeSwept, OthersAreQuiet, leg_event, may_open}
+use Rattle.sweep_core.specs.Sweeping.{IsNext, IsSweptInPart, IsToBeSwept, OthersAreQuiet, leg_event}
 use Rattle.sweep_core.proofs.Progress.{IsUnderWay, begun, can-be-made, ended, in-part, nothing-trades, one_more}
-use Rattle.sweep_core.proofs.Opening.{arcs-known, quiet-after}
+use Rattle.sweep_core.proofs.Opening.{quiet-after}
 use Rattle.sweep_core.proofs.sweeping.sweep_opened.Goals as goal
 
 on-err : {T E : Type 0} (result : Result T E) (P : Type 0) → P → OnErr result P
@@ -17,7 +14,7 @@ on-err (Err e) P p = p
 pub loop-rooms-init : goal.loop-rooms-init
 loop-rooms-init g c = record {
   swept = record { over_grid = c.requires.grid; in_hour = c.requires.hour; has_parts = c.requires.parts; no_hand = c.requires.no_hand };
-  size = c.in_ok-rooms.ensures.size;
+  size = tt;
   quiet = c.requires.quiet;
   way = begun (g.B.Board.state c.args.board.now);
   kept = refl;
@@ -25,21 +22,13 @@ loop-rooms-init g c = record {
 
 pub returns-in_err-next-clause-some : goal.returns-in_err-next-clause-some
 returns-in_err-next-clause-some g c =
-    on-err c.from_residual-in_err-next.result (IsSweptInPart (g.B.Board.state c.args.board.now) (g.B.Board.state c.loop-rooms.board))
+    on-err c.from_residual.result (IsSweptInPart (g.B.Board.state c.args.board.now) (g.B.Board.state c.loop-rooms.board))
     (in-part (g.B.Board.state c.args.board.now) (g.B.Board.state c.loop-rooms.board) c.loop-rooms.invariant.way)
-
-pub opened_by-parts-requires : goal.opened_by-parts-requires
-opened_by-parts-requires g c =
-    let board = g.B.Board.state c.loop-rooms.board in
-    let is = subst (λ o. IfSome o (λ next. IsNext board next c.next_leg.new.rooms)) c.in-Some.is c.in_ok-next.ensures.found in
-    let can = can-be-made board c.in-Some.next.part c.in-Some.next.leg is.found.stands is.found.is in
-    λ arc i. subst (λ n. arc.border < n) (sym is.found.are_rooms.size)
-    (arcs-known board c.in-Some.next.part c.in-Some.next.leg can arc (subst (IsIn arc) c.as_slice.ensures i))
 
 pub make-requires-clause-fits : goal.make-requires-clause-fits
 make-requires-clause-fits g c =
     let board = g.B.Board.state c.loop-rooms.board in
-    let is = subst (λ o. IfSome o (λ next. IsNext board next c.next_leg.new.rooms)) c.in-Some.is c.in_ok-next.ensures.found in
+    let is = subst (λ o. IfSome o (IsNext board)) c.in-Some.is c.in_ok-next.ensures.found in
     can-be-made board c.in-Some.next.part c.in-Some.next.leg is.found.stands is.found.is
 
 pub returns-in_err-make-clause-some : goal.returns-in_err-make-clause-some
@@ -51,7 +40,7 @@ returns-in_err-make-clause-some g c =
 pub loop-rooms-smaller : goal.loop-rooms-smaller
 loop-rooms-smaller g c =
     let board = g.B.Board.state c.loop-rooms.board in
-    let is = subst (λ o. IfSome o (λ next. IsNext board next c.next_leg.new.rooms)) c.in-Some.is c.in_ok-next.ensures.found in
+    let is = subst (λ o. IfSome o (IsNext board)) c.in-Some.is c.in_ok-next.ensures.found in
     let can = can-be-made board c.in-Some.next.part c.in-Some.next.leg is.found.stands is.found.is in
     subst (λ s. left_in_hour s.events s.hour < left_in_hour board.events board.hour) (sym c.in_ok-make.ensures.made)
     (lower board c.in-Some.next.part c.in-Some.next.leg is.found.stands can)
@@ -59,18 +48,16 @@ loop-rooms-smaller g c =
 pub loop-rooms-preserved : goal.loop-rooms-preserved
 loop-rooms-preserved g c =
     let board = g.B.Board.state c.loop-rooms.board in
-    let is = subst (λ o. IfSome o (λ next. IsNext board next c.next_leg.new.rooms)) c.in-Some.is c.in_ok-next.ensures.found in
+    let is = subst (λ o. IfSome o (IsNext board)) c.in-Some.is c.in_ok-next.ensures.found in
     let can = can-be-made board c.in-Some.next.part c.in-Some.next.leg is.found.stands is.found.is in
     let swept = c.loop-rooms.invariant.swept in
     record {
       swept = subst (IsToBeSwept c.args.grid.now c.args.hour) (sym c.in_ok-make.ensures.made)
           (record { over_grid = swept.over_grid; in_hour = swept.in_hour; has_parts = swept.has_parts; no_hand = swept.no_hand });
-      size = c.in_ok-next.ensures.size;
+      size = c.next_leg.ensures.size;
       quiet = subst (λ s. OthersAreQuiet s c.opened_by-parts.result) (sym c.in_ok-make.ensures.made)
-          (quiet-after board c.in-Some.next.part c.in-Some.next.leg c.next_leg.new.rooms c.next_leg.new.parts c.opened_by-parts.result is.found.stands can
-          is.found.is is.is is.found.are_rooms c.in_ok-next.ensures.quiet
-          (λ part less. c.opened_by-parts.ensures part less
-          ∙ ap (λ r. if may_open (room_of c.next_leg.new.rooms) r then true else has_part c.next_leg.new.parts part) c.as_slice.ensures));
+          (quiet-after board c.in-Some.next.part c.in-Some.next.leg c.in-Some.next.opens c.next_leg.new.parts c.opened_by-parts.result is.found.stands can
+          is.found.is is.is is.found.opens c.in_ok-next.ensures.quiet c.opened_by-parts.ensures);
       way = subst (IsUnderWay (g.B.Board.state c.args.board.now)) (sym c.in_ok-make.ensures.made)
           (one_more (g.B.Board.state c.args.board.now) board c.in-Some.next.part c.in-Some.next.leg is.found.stands can is.is c.loop-rooms.invariant.way);
       kept = c.make.ensures.kept ∙ c.loop-rooms.invariant.kept;

@@ -1,7 +1,6 @@
-use Rattle.std.proofs.Common.{◌≡◌, length}
-use Rattle.zone_graph.specs.Graph.{border_count}
+use Rattle.std.proofs.Common.{◌≡◌}
 use Rattle.market_model.specs.Sweep.{left_in_hour}
-use Rattle.sweep_core.specs.Sweeping.{IsToBeSwept, OthersAreQuiet}
+use Rattle.sweep_core.specs.Sweeping.{AreSized, IsToBeSwept, OthersAreQuiet}
 use Rattle.sweep_core.proofs.Progress.{IsUnderWay}
 use Rattle.sweep_core.proofs.sweeping.sweep_opened.Given as goal
 
@@ -9,7 +8,7 @@ use Rattle.sweep_core.proofs.sweeping.sweep_opened.Given as goal
 abbrev pub invariant-loop-rooms : goal.invariant-loop-rooms
 invariant-loop-rooms g l = record {
   swept : IsToBeSwept l.grid l.hour (g.B.Board.state l.board);
-  size : length l.rooms ≡ border_count l.grid;
+  size : AreSized l.grid l.rooms;
   quiet : OthersAreQuiet (g.B.Board.state l.board) l.parts;
   way : IsUnderWay (g.B.Board.state l.fn.board) (g.B.Board.state l.board);
   kept : g.B.Board.rest l.board ≡ g.B.Board.rest l.fn.board;

@@ -1,7 +1,7 @@
 use Rattle.std.proofs.Common.{◌≡◌, drop}
 use Rattle.zone_graph.specs.Rooms.{room_of}
 use Rattle.sweep_core.specs.Sweeping.{may_open}
-use Rattle.sweep_core.proofs.sweeping.may_open.Given as goal
+use Rattle.sweep_core.proofs.parts.may_open.Given as goal
 
 -- the opposite arcs so far have room
 abbrev pub invariant-loop-arc : goal.invariant-loop-arc

@@ -1,7 +1,7 @@
 use Rattle.std.proofs.Common.{◌<◌, false, get_or, length, sym, subst}
 use Rattle.zone_graph.specs.declared.route.Arc.{Arc}
 use Rattle.zone_graph.proofs.Places.{at_place}
-use Rattle.sweep_core.proofs.sweeping.may_open.Goals as goal
+use Rattle.sweep_core.proofs.parts.may_open.Goals as goal
 
 abbrev no_arc : Arc
 no_arc = record { border = 0; forward = false }
