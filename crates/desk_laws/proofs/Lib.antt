@@ -1,0 +1,4 @@
+pub mod Admitting
+pub mod Fitting
+pub mod Settling
+pub mod Stepping
