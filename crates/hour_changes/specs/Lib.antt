@@ -1,0 +1,4 @@
+-- What the contracts of this crate cite.
+pub mod NextEvents
+pub mod OrderEvents
+pub mod FlowEvents

@@ -1,0 +1,11 @@
+pub mod Alike
+pub mod Ranges
+pub mod Leads
+pub mod PutBack
+pub mod InTurn
+pub mod UndoneFlows
+pub mod UndoneBooks
+pub mod UndoneBlocks
+pub mod Keeps
+pub mod Noted
+pub mod Stores

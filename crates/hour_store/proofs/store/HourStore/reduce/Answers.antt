@@ -1,0 +1,34 @@
+use Rattle.std.proofs.Common.{◌≡◌, ◌∷◌, ◌++◌, ◌<◌, ◌≤◌, [], None, IsSomeAnd, ap, refl, sym, subst}
+use Rattle.contract_book.specs.Book.{order_of}
+use Rattle.hour_store.specs.declared.change.Change.{Change}
+use Rattle.hour_store.specs.declared.change.Change.TheVariants as change
+use Rattle.hour_store.specs.Contents.{Contents, IsOfPart}
+use Rattle.hour_store.specs.Inside.{contents_of}
+use Rattle.hour_store.specs.Store.{GoesBackTo, Store}
+use Rattle.hour_store.proofs.Noted.{IsNotedBy, reduce-noted}
+use Rattle.hour_store.proofs.Stores.{still-goes, still-leads}
+use Rattle.hour_store.proofs.store.HourStore.reduce.Goals as goal
+
+abbrev now : goal.After-reduce → Contents
+now c = record { book = c.reduce.new.self; blocks = c.self.inside.kept.blocks; flows = c.self.inside.kept.flows }
+
+abbrev record_of : goal.After-reduce → Change
+record_of c = change.OrderChanged c.args.part c.in-Some.was
+
+noted : (c : goal.After-reduce) → IsNotedBy (record_of c) (contents_of c.self.inside.kept) (now c)
+noted c =
+    reduce-noted (contents_of c.self.inside.kept) (now c) c.self.invariant.0 c.args.part c.args.number c.in-Some.was c.len.ensures.sound (sym c.in-Some.ensures) refl refl c.args.by
+    (subst (λ (s : Store). IsSomeAnd (order_of s.contents.book c.args.number) (λ o. IsOfPart s.contents.book c.args.part o × (o.ice ≡ None) × (1 ≤ c.args.by) × (c.args.by < o.left))) (sym c.self.view_is) c.requires.order)
+    c.reduce.ensures.reduced
+
+log : (c : goal.After-reduce) → c.note.new.self.records ≡ c.self.inside.log.records ++ record_of c ∷ []
+log c = ap (λ l. l.records) c.note.ensures
+
+pub invariant_of-self : goal.invariant_of-self
+invariant_of-self c =
+    ((noted c).kept, still-goes c.self.inside.log.records c.note.new.self.records (record_of c) (contents_of c.self.inside.kept) (now c) (log c) (noted c).undone c.self.invariant.1)
+
+pub returns-clause-back : goal.returns-clause-back
+returns-clause-back c = λ target leads.
+    still-leads c.self.inside.log.records c.note.new.self.records (record_of c) (contents_of c.self.inside.kept) (now c) (log c) (noted c).undone target
+    (subst (λ store. GoesBackTo store target) (sym c.self.view_is) leads)

@@ -1,0 +1,141 @@
+-- Orders and blocks are withdrawn and reduced, and the flows of a kept hour change.
+use Rattle.std.proofs.Common.{◌≡◌, ◌∙◌, ℕ, ◌+◌, ◌<◌, ◌≤◌, Bool, true, false, List, Option, Some, None, refl, sym, ap, subst, arith}
+use Rattle.order_kinds.specs.declared.contract.Quarter.{Quarter}
+use Rattle.order_kinds.specs.declared.phase.Phase.{Phase}
+use Rattle.order_kinds.specs.Period.{EachQuarter, is_within, quarter_of, range_has}
+use Rattle.zone_graph.specs.declared.route.Arc.{Arc}
+use Rattle.zone_graph.specs.Pour.{same_arc}
+use Rattle.contract_book.specs.Book.{reduced, without}
+use Rattle.block_book.specs.Book as block_books
+use Rattle.flow_netting.specs.Flows.{Flows}
+use Rattle.market_model.specs.declared.event.Event.{Event}
+use Rattle.market_model.specs.declared.event.Event.TheVariants as event
+use Rattle.market_model.specs.History.{and_then, touches}
+use Rattle.market_model.specs.Orders.{next_name}
+use Rattle.market_model.specs.Refusals.{desk_room}
+use Rattle.book_lines.specs.BookOf.{book_of}
+use Rattle.block_lines.specs.BlocksOf.{blocks_of}
+use Rattle.flow_lines.specs.FlowLaws.{IsRangeIn}
+use Rattle.flow_lines.specs.Standing.{IsCarried, IsHaltSet, IsOffered, Stands}
+use Rattle.flow_lines.proofs.Noted as noted
+use Rattle.flow_lines.proofs.Ranges as ranges
+use Rattle.hour_changes.specs.FlowEvents.{LeavesTheBooks, changes_flows}
+use Rattle.hour_changes.specs.OrderEvents.{IsReduced, IsWithdrawn, resting_count, without_hand}
+use Rattle.hour_changes.proofs.FlowChanges.{leaves_books}
+use Rattle.hour_changes.proofs.NextEvents.{next}
+use Rattle.hour_changes.proofs.Reduced.{is_reduced}
+use Rattle.hour_changes.proofs.TakenOut.{withdrawn}
+use Rattle.hour_store.specs.Contents.{Contents}
+use Rattle.hour_store.specs.Store.{StillLeadsBack, Store}
+use Rattle.kept_hour.specs.Kept.{AreOf, Keeps}
+use Rattle.kept_hour.specs.State.{CanBeNext, HourState, gate_of, grant_of, halt_of, name_in, offer_of, reduction_of, resumption_of, withdrawal_of}
+use Rattle.kept_hour.proofs.Keeping.{KeepsNext}
+use Rattle.kept_hour.proofs.Making.{names-same}
+
+module _ (hour : HourState) (numbers settled_numbers : ℕ) (store : Store) (keeps : Keeps hour numbers settled_numbers store) (free : hour.board.hand ≡ None) where
+  pub bare-book : store.contents.book ≡ book_of hour.board.events hour.board.hour
+  bare-book = keeps.contents.book ∙ ap (λ h. without_hand h (book_of hour.board.events hour.board.hour)) free
+
+  few-before : resting_count hour.board.events hour.board.hour None ≤ desk_room
+  few-before = subst (λ h. resting_count hour.board.events hour.board.hour h ≤ desk_room) free keeps.board.few
+
+  -- ---- orders and blocks
+
+  pub withdrawn-next : (number lots : ℕ) → CanBeNext hour (withdrawal_of hour number lots) → (new : Store)
+      → new.contents.book ≡ without store.contents.book number → new.contents.blocks ≡ block_books.without store.contents.blocks number
+      → new.contents.flows ≡ store.contents.flows → StillLeadsBack store new → KeepsNext hour (withdrawal_of hour number lots) None numbers store new
+  withdrawn-next number lots can new book blocks flows back =
+      let is = withdrawn hour.board.grid hour.board.hour hour.board.events (name_in hour number) lots can in
+      record {
+        next = can;
+        few = (let less = is.few in let few = few-before in omega (arith, less, few));
+        contents = record {
+          book = book ∙ ap (λ b. without b number) bare-book ∙ sym is.book;
+          blocks = blocks ∙ ap (λ b. block_books.without b number) keeps.contents.blocks ∙ sym is.blocks;
+          flows = is.flows new.contents.flows
+              (subst (Stands hour.board.grid hour.board.events hour.board.hour) (sym flows) keeps.contents.flows);
+        };
+        numbered = names-same hour (withdrawal_of hour number lots) is.same_next numbers keeps.numbered;
+        in_hand = λ other holds. absurd (let no : ⊥ = cc in no);
+        back = back;
+      }
+
+  pub reduced-next : (number by : ℕ) → CanBeNext hour (reduction_of hour number by) → (new : Store)
+      → new.contents.book ≡ reduced store.contents.book number by → new.contents.blocks ≡ store.contents.blocks
+      → new.contents.flows ≡ store.contents.flows → StillLeadsBack store new → KeepsNext hour (reduction_of hour number by) None numbers store new
+  reduced-next number by can new book blocks flows back =
+      let is = is_reduced hour.board.grid hour.board.hour hour.board.events (name_in hour number) by can in
+      record {
+        next = can;
+        few = (let less = is.few in let few = few-before in omega (arith, less, few));
+        contents = record {
+          book = book ∙ ap (λ b. reduced b number by) bare-book ∙ sym is.book;
+          blocks = blocks ∙ keeps.contents.blocks ∙ sym is.blocks;
+          flows = is.flows new.contents.flows
+              (subst (Stands hour.board.grid hour.board.events hour.board.hour) (sym flows) keeps.contents.flows);
+        };
+        numbered = names-same hour (reduction_of hour number by) is.same_next numbers keeps.numbered;
+        in_hand = λ other holds. absurd (let no : ⊥ = cc in no);
+        back = back;
+      }
+
+  -- ---- flows
+
+  -- an event of the flows, where they stand for the events with it
+  pub flows-next : (e : Event) → changes_flows e ≡ true → CanBeNext hour e → (new : Store) → new.contents.book ≡ store.contents.book
+      → new.contents.blocks ≡ store.contents.blocks → Stands hour.board.grid (and_then hour.board.events e) hour.board.hour new.contents.flows
+      → StillLeadsBack store new → KeepsNext hour e None numbers store new
+  flows-next e changes can new book blocks flows back =
+      let is = leaves_books hour.board.grid hour.board.hour hour.board.events e can changes in
+      record {
+        next = can;
+        few = (let less = is.few in let few = few-before in omega (arith, less, few));
+        contents = record {
+          book = book ∙ bare-book ∙ sym is.book;
+          blocks = blocks ∙ keeps.contents.blocks ∙ sym is.blocks;
+          flows = flows;
+        };
+        numbered = names-same hour e is.same_next numbers keeps.numbered;
+        in_hand = λ other holds. absurd (let no : ⊥ = cc in no);
+        back = back;
+      }
+
+  -- the next event touches the hour
+  touched : (e : Event) → CanBeNext hour e → touches hour.board.hour e ≡ true
+  touched e can = (next hour.board.grid hour.board.hour hour.board.events e can).touched
+
+  module _ (new : Store) (book : new.contents.book ≡ store.contents.book) (blocks : new.contents.blocks ≡ store.contents.blocks) (back : StillLeadsBack store new) where
+    pub offered-next : (arc : Arc) (first last : Quarter) (lots : ℕ) (counts : ℕ → Bool) → CanBeNext hour (offer_of arc first last lots)
+        → IsRangeIn hour.board.hour first last counts → IsOffered arc counts lots store.contents.flows new.contents.flows
+        → KeepsNext hour (offer_of arc first last lots) None numbers store new
+    offered-next arc first last lots counts can in_range offered =
+        flows-next (offer_of arc first last lots) refl can new book blocks
+        (ranges.offers hour.board.grid hour.board.events arc first last lots hour.board.hour counts store.contents.flows new.contents.flows keeps.contents.flows in_range offered) back
+
+    pub granted-next : (arc : Arc) (first last : Quarter) (lots : ℕ) (counts : ℕ → Bool) → CanBeNext hour (grant_of arc first last lots)
+        → IsRangeIn hour.board.hour first last counts → IsCarried (same_arc arc) counts lots store.contents.flows new.contents.flows
+        → KeepsNext hour (grant_of arc first last lots) None numbers store new
+    granted-next arc first last lots counts can in_range carried =
+        flows-next (grant_of arc first last lots) refl can new book blocks
+        (ranges.grants hour.board.grid hour.board.events arc first last lots hour.board.hour counts store.contents.flows new.contents.flows keeps.contents.flows in_range carried) back
+
+    pub halted-next : (border first last : ℕ) → CanBeNext hour (halt_of border first last) → IsHaltSet border true store.contents.flows new.contents.flows
+        → KeepsNext hour (halt_of border first last) None numbers store new
+    halted-next border first last can set =
+        flows-next (halt_of border first last) refl can new book blocks
+        (ranges.halts hour.board.grid hour.board.events border first last hour.board.hour store.contents.flows new.contents.flows keeps.contents.flows
+        (touched (halt_of border first last) can) set) back
+
+    pub resumed-next : (border first last : ℕ) → CanBeNext hour (resumption_of border first last) → IsHaltSet border false store.contents.flows new.contents.flows
+        → KeepsNext hour (resumption_of border first last) None numbers store new
+    resumed-next border first last can set =
+        flows-next (resumption_of border first last) refl can new book blocks
+        (ranges.resumptions hour.board.grid hour.board.events border first last hour.board.hour store.contents.flows new.contents.flows keeps.contents.flows
+        (touched (resumption_of border first last) can) set) back
+
+    pub gated-next : (phase : Phase) → CanBeNext hour (gate_of hour phase) → new.contents.flows ≡ record store.contents.flows { phase = phase }
+        → KeepsNext hour (gate_of hour phase) None numbers store new
+    gated-next phase can set =
+        flows-next (gate_of hour phase) refl can new book blocks
+        (subst (Stands hour.board.grid (and_then hour.board.events (gate_of hour phase)) hour.board.hour) (sym set)
+        (noted.gates hour.board.grid hour.board.events hour.board.hour phase store.contents.flows keeps.contents.flows)) back

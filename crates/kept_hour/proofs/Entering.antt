@@ -1,0 +1,69 @@
+-- An order enters a kept hour.
+use Rattle.std.proofs.Common.{◌≡◌, ◌∙◌, inl, ℕ, ◌+◌, ◌≤◌, Bool, true, cond, List, [], ◌∷◌, ◌++◌, filter, length, Option, Some, None, not, eq-eqb, refl, sym, ap, subst, arith}
+use Rattle.std.specs.List.{count_by}
+use Rattle.order_kinds.specs.declared.order.Order.{Order}
+use Rattle.order_kinds.specs.declared.order.OrderName.{OrderName}
+use Rattle.zone_graph.specs.Graph.{Graph}
+use Rattle.zone_graph.specs.Route.{IsIn}
+use Rattle.zone_graph.proofs.Membership.{IsIn-right}
+use Rattle.market_model.specs.declared.event.Event.{Event}
+use Rattle.market_model.specs.declared.event.Event.TheVariants as event
+use Rattle.market_model.specs.Board.{is_in_hand}
+use Rattle.market_model.specs.History.{and_then, enters_in}
+use Rattle.market_model.specs.Orders.{Placed, next_name, open_names, placed, placed_by}
+use Rattle.market_model.specs.Refusals.{desk_room}
+use Rattle.market_laws.proofs.Members.{IsIn-filter_map}
+use Rattle.book_lines.specs.BookOf.{book_of}
+use Rattle.block_lines.specs.BlockLaws.{IsOfOrder}
+use Rattle.hour_changes.specs.OrderEvents.{IsInHand, resting_count, without_hand}
+use Rattle.hour_changes.proofs.Entries.{enters}
+use Rattle.hour_changes.proofs.Numbers.{count-more, one_if}
+use Rattle.hour_store.specs.Contents.{Contents}
+use Rattle.hour_store.specs.Store.{Store}
+use Rattle.kept_hour.specs.Kept.{AreOf, Keeps, names_given}
+use Rattle.kept_hour.specs.State.{CanBeNext, HourState, after_event, entry_of, name_in}
+use Rattle.kept_hour.proofs.Keeping.{KeepsNext}
+use Rattle.kept_hour.proofs.Lists.{all-pass}
+
+-- with no order in hand all open names count
+pub free-count : (events : List Event) (hour : ℕ) → resting_count events hour None ≡ length (open_names events hour)
+free-count events hour = ap length (all-pass (open_names events hour))
+
+module _ (hour : HourState) (numbers settled_numbers : ℕ) (store : Store) (keeps : Keeps hour numbers settled_numbers store)
+    (free : hour.board.hand ≡ None) (caller : ℕ) (order : Order) (next : CanBeNext hour (entry_of hour caller order)) where
+  abbrev entry : Event
+  entry = entry_of hour caller order
+
+  abbrev name : OrderName
+  name = next_name hour.board.events hour.board.hour
+
+  in_hand : IsInHand hour.board.grid hour.board.hour hour.board.events (and_then hour.board.events entry) name
+  in_hand = enters hour.board.grid hour.board.hour hour.board.events name caller order next
+
+  pub number-is : numbers + 1 ≡ name.number
+  number-is = ap (λ n. n + 1) keeps.numbered
+
+  pub entered-next : KeepsNext hour entry (Some name.number) (numbers + 1) store store
+  entered-next = record {
+    next = next;
+    few = (let few = in_hand.few in
+        let before : resting_count hour.board.events hour.board.hour None ≤ desk_room =
+        subst (λ h. resting_count hour.board.events hour.board.hour h ≤ desk_room) free keeps.board.few in
+        let all = free-count hour.board.events hour.board.hour in omega (arith, few, before, all));
+    contents = record {
+      book = keeps.contents.book ∙ ap (λ h. without_hand h (book_of hour.board.events hour.board.hour)) free ∙ sym in_hand.book;
+      blocks = keeps.contents.blocks ∙ sym in_hand.blocks;
+      flows = in_hand.flows store.contents.flows keeps.contents.flows;
+    };
+    numbered = (let more = count-more hour.board.hour hour.board.events entry in
+        let one = ap one_if (eq-eqb hour.board.hour hour.board.hour refl) in
+        let now = keeps.numbered in omega (arith, more, one, now));
+    in_hand = λ number is.
+        let same : name.number ≡ number = cc in (
+          record { name = name; caller = caller; order = order },
+          IsIn-filter_map placed_by entry (record { name = name; caller = caller; order = order }) (and_then hour.board.events entry)
+              (IsIn-right entry hour.board.events (entry ∷ []) (inl refl)) refl,
+          ap (name_in hour) same,
+        );
+    back = λ target leads. leads;
+  }

@@ -1,0 +1,13 @@
+pub mod Lists
+pub mod Keeping
+pub mod Beginning
+pub mod Entering
+pub mod Shows
+pub mod Hands
+pub mod Making
+pub mod Changing
+pub mod Quarters
+pub mod Wrapped
+pub mod BoardCalls
+pub mod HandCalls
+pub mod FlowCalls

@@ -1,0 +1,27 @@
+-- What a leg makes of what a store keeps.
+use Rattle.std.specs.Prelude.{◌≡◌, ℕ, false, Option}
+use Rattle.order_kinds.specs.Contract.{part_at}
+use Rattle.zone_graph.specs.Pour.{uses}
+use Rattle.market_model.specs.declared.event.Leg.{Leg}
+use Rattle.flow_netting.specs.declared.quarter_set.QuarterSet.{QuarterSet}
+use Rattle.flow_netting.specs.Flows.{HasLotsLeft, IsOverBorders}
+use Rattle.flow_netting.specs.QuarterSet.{has}
+use Rattle.flow_lines.specs.CallLaws.{CanCarry}
+use Rattle.flow_lines.specs.Standing.{IsCarried, IsSetOf}
+use Rattle.hour_changes.specs.OrderEvents.{CanFill, filled_beside, holds}
+use Rattle.hour_store.specs.Contents.{Contents}
+
+-- a leg can be made: its orders rest, but for the one in hand, and its lots can be carried
+pub record CanMakeIn (hand : Option ℕ) (part : ℕ) (leg : Leg) (moment : ℕ) (contents : Contents) : Type 0 where
+  pub maker : holds hand leg.maker.number ≡ false → CanFill contents.book part leg.maker.number leg.lots
+  pub taker : holds hand leg.taker.number ≡ false
+      → CanFill (filled_beside hand leg.maker.number leg.lots moment contents.book) part leg.taker.number leg.lots
+  pub can_carry : (set : QuarterSet) → IsSetOf set (part_at part) → CanCarry contents.flows leg.route set leg.lots
+
+-- a leg is made: its orders are filled, but for the one in hand, and its lots are carried
+pub record IsMadeIn (hand : Option ℕ) (part : ℕ) (leg : Leg) (moment : ℕ) (old new : Contents) : Type 0 where
+  pub book : new.book ≡ filled_beside hand leg.taker.number leg.lots moment (filled_beside hand leg.maker.number leg.lots moment old.book)
+  pub blocks : new.blocks ≡ old.blocks
+  pub set : QuarterSet
+  pub of_part : IsSetOf set (part_at part)
+  pub flows : IsCarried (uses leg.route) (has set) leg.lots old.flows new.flows
