@@ -6,3 +6,4 @@ pub mod Numbers
 pub mod TakenOut
 pub mod Reduced
 pub mod FlowChanges
+pub mod BlockEntries

@@ -2,3 +2,4 @@
 pub mod NextEvents
 pub mod OrderEvents
 pub mod FlowEvents
+pub mod BlockEvents

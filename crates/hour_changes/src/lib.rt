@@ -2,10 +2,12 @@
 //! definitions, each the contract of a function that does nothing.
 #![tactic(auto)]
 
+mod blocks;
 mod flows;
 mod next;
 mod orders;
 
+pub use blocks::blocks_enter;
 pub use flows::{
     flow_events_leave_the_books, grants_fit_the_flows, halts_fit_the_flows, offers_fit_the_flows,
     resumptions_fit_the_flows,

@@ -1,8 +1,6 @@
 -- A kept hour begins without events.
-use Rattle.std.proofs.Common.{◌≡◌, ◌∙◌, ℕ, ◌≤◌, List, [], ◌*◌, length, replicate, None, Some, refl, sym, subst, arith}
+use Rattle.std.proofs.Common.{◌≡◌, ◌∙◌, ℕ, List, [], ◌*◌, replicate, None, refl, sym, subst, arith}
 use Rattle.zone_graph.specs.Graph.{Graph, IsGraph}
-use Rattle.contract_book.specs.declared.resting.Resting.{Resting}
-use Rattle.block_book.specs.declared.block.RestingBlock.{RestingBlock}
 use Rattle.market_model.specs.declared.event.Event.{Event}
 use Rattle.market_model.specs.Board.{IsBoard}
 use Rattle.book_lines.proofs.FoundOrders as books
@@ -11,7 +9,7 @@ use Rattle.flow_lines.specs.Standing.{IsIdle}
 use Rattle.flow_lines.proofs.Ranges.{idle}
 use Rattle.hour_changes.proofs.NextEvents.{empty}
 use Rattle.hour_store.specs.Store.{Store}
-use Rattle.kept_hour.specs.Kept.{AreOf, IsKept, Keeps, hour_of}
+use Rattle.kept_hour.specs.Kept.{AreOf, IsKept, hour_of}
 use Rattle.kept_hour.specs.State.{empty_board}
 use Rattle.kept_hour.proofs.Keeping.{leads-here}
 

@@ -1,5 +1,5 @@
 -- What the calls of a board ask and answer, as the fields of a kept hour have it.
-use Rattle.std.proofs.Common.{◌≡◌, ◌∙◌, ℕ, ◌+◌, ◌<◌, true, List, [], ◌∷◌, ◌++◌, map, length, length-append, get_or, Option, Some, None, reverse, IsSome, refl, sym, ap, ap₂, subst, arith}
+use Rattle.std.proofs.Common.{◌≡◌, ◌∙◌, ℕ, ◌+◌, ◌<◌, true, List, [], ◌∷◌, ◌++◌, length, length-append, get_or, Option, reverse, IsSome, refl, sym, ap, ap₂, subst, arith}
 use Rattle.std.specs.List.{list_any}
 use Rattle.std.specs.Option.{option_map}
 use Rattle.order_kinds.specs.declared.contract.Contract.{Contract}
@@ -13,13 +13,10 @@ use Rattle.contract_book.proofs.BookShapes.{has-number}
 use Rattle.market_model.specs.declared.event.Event.{Event}
 use Rattle.market_model.specs.declared.event.Event.TheVariants as event
 use Rattle.market_model.specs.declared.event.Leg.{Leg}
-use Rattle.market_model.specs.Board.{BoardState, CanBeMade, Rests, RestsIn, resting_line, shown_behind}
-use Rattle.market_model.specs.History.{and_then}
-use Rattle.book_lines.specs.BookOf.{resting_of}
+use Rattle.market_model.specs.Board.{CanBeMade, Rests, RestsIn, resting_line, shown_behind}
 use Rattle.book_lines.proofs.Updates.{from_stands}
 use Rattle.hour_changes.proofs.Entries.{in-orders}
 use Rattle.hour_changes.proofs.OrderlyBooks.{orders_in}
-use Rattle.hour_store.specs.Contents.{Contents}
 use Rattle.hour_store.specs.Store.{StillLeadsBack, Store}
 use Rattle.hour_store.specs.TakenBack.{LeadsBack}
 use Rattle.kept_hour.specs.Kept.{IsKept, hour_of}

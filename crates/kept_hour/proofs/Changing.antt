@@ -1,33 +1,27 @@
 -- Orders and blocks are withdrawn and reduced, and the flows of a kept hour change.
-use Rattle.std.proofs.Common.{◌≡◌, ◌∙◌, ℕ, ◌+◌, ◌<◌, ◌≤◌, Bool, true, false, List, Option, Some, None, refl, sym, ap, subst, arith}
+use Rattle.std.proofs.Common.{◌≡◌, ◌∙◌, ℕ, ◌≤◌, Bool, true, false, None, refl, sym, ap, subst, arith}
 use Rattle.order_kinds.specs.declared.contract.Quarter.{Quarter}
 use Rattle.order_kinds.specs.declared.phase.Phase.{Phase}
-use Rattle.order_kinds.specs.Period.{EachQuarter, is_within, quarter_of, range_has}
 use Rattle.zone_graph.specs.declared.route.Arc.{Arc}
 use Rattle.zone_graph.specs.Pour.{same_arc}
 use Rattle.contract_book.specs.Book.{reduced, without}
 use Rattle.block_book.specs.Book as block_books
-use Rattle.flow_netting.specs.Flows.{Flows}
 use Rattle.market_model.specs.declared.event.Event.{Event}
-use Rattle.market_model.specs.declared.event.Event.TheVariants as event
 use Rattle.market_model.specs.History.{and_then, touches}
-use Rattle.market_model.specs.Orders.{next_name}
 use Rattle.market_model.specs.Refusals.{desk_room}
 use Rattle.book_lines.specs.BookOf.{book_of}
-use Rattle.block_lines.specs.BlocksOf.{blocks_of}
 use Rattle.flow_lines.specs.FlowLaws.{IsRangeIn}
 use Rattle.flow_lines.specs.Standing.{IsCarried, IsHaltSet, IsOffered, Stands}
 use Rattle.flow_lines.proofs.Noted as noted
 use Rattle.flow_lines.proofs.Ranges as ranges
-use Rattle.hour_changes.specs.FlowEvents.{LeavesTheBooks, changes_flows}
-use Rattle.hour_changes.specs.OrderEvents.{IsReduced, IsWithdrawn, resting_count, without_hand}
+use Rattle.hour_changes.specs.FlowEvents.{changes_flows}
+use Rattle.hour_changes.specs.OrderEvents.{resting_count, without_hand}
 use Rattle.hour_changes.proofs.FlowChanges.{leaves_books}
 use Rattle.hour_changes.proofs.NextEvents.{next}
 use Rattle.hour_changes.proofs.Reduced.{is_reduced}
 use Rattle.hour_changes.proofs.TakenOut.{withdrawn}
-use Rattle.hour_store.specs.Contents.{Contents}
 use Rattle.hour_store.specs.Store.{StillLeadsBack, Store}
-use Rattle.kept_hour.specs.Kept.{AreOf, Keeps}
+use Rattle.kept_hour.specs.Kept.{Keeps}
 use Rattle.kept_hour.specs.State.{CanBeNext, HourState, gate_of, grant_of, halt_of, name_in, offer_of, reduction_of, resumption_of, withdrawal_of}
 use Rattle.kept_hour.proofs.Keeping.{KeepsNext}
 use Rattle.kept_hour.proofs.Making.{names-same}

@@ -1,27 +1,20 @@
 -- An order enters a kept hour.
-use Rattle.std.proofs.Common.{◌≡◌, ◌∙◌, inl, ℕ, ◌+◌, ◌≤◌, Bool, true, cond, List, [], ◌∷◌, ◌++◌, filter, length, Option, Some, None, not, eq-eqb, refl, sym, ap, subst, arith}
-use Rattle.std.specs.List.{count_by}
+use Rattle.std.proofs.Common.{◌≡◌, ◌∙◌, inl, ℕ, ◌+◌, ◌≤◌, List, [], ◌∷◌, length, Some, None, eq-eqb, refl, sym, ap, subst, arith}
 use Rattle.order_kinds.specs.declared.order.Order.{Order}
 use Rattle.order_kinds.specs.declared.order.OrderName.{OrderName}
-use Rattle.zone_graph.specs.Graph.{Graph}
-use Rattle.zone_graph.specs.Route.{IsIn}
 use Rattle.zone_graph.proofs.Membership.{IsIn-right}
 use Rattle.market_model.specs.declared.event.Event.{Event}
-use Rattle.market_model.specs.declared.event.Event.TheVariants as event
-use Rattle.market_model.specs.Board.{is_in_hand}
-use Rattle.market_model.specs.History.{and_then, enters_in}
-use Rattle.market_model.specs.Orders.{Placed, next_name, open_names, placed, placed_by}
+use Rattle.market_model.specs.History.{and_then}
+use Rattle.market_model.specs.Orders.{next_name, open_names, placed_by}
 use Rattle.market_model.specs.Refusals.{desk_room}
 use Rattle.market_laws.proofs.Members.{IsIn-filter_map}
 use Rattle.book_lines.specs.BookOf.{book_of}
-use Rattle.block_lines.specs.BlockLaws.{IsOfOrder}
 use Rattle.hour_changes.specs.OrderEvents.{IsInHand, resting_count, without_hand}
 use Rattle.hour_changes.proofs.Entries.{enters}
 use Rattle.hour_changes.proofs.Numbers.{count-more, one_if}
-use Rattle.hour_store.specs.Contents.{Contents}
 use Rattle.hour_store.specs.Store.{Store}
-use Rattle.kept_hour.specs.Kept.{AreOf, Keeps, names_given}
-use Rattle.kept_hour.specs.State.{CanBeNext, HourState, after_event, entry_of, name_in}
+use Rattle.kept_hour.specs.Kept.{Keeps}
+use Rattle.kept_hour.specs.State.{CanBeNext, HourState, entry_of, name_in}
 use Rattle.kept_hour.proofs.Keeping.{KeepsNext}
 use Rattle.kept_hour.proofs.Lists.{all-pass}
 

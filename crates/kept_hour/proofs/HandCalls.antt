@@ -1,5 +1,5 @@
 -- The order in hand comes to rest, as the fields of a kept hour have it.
-use Rattle.std.proofs.Common.{◌≡◌, ◌≢◌, ℕ, ◌<◌, ◌≤◌, List, length, Option, Some, None, refl, sym, ap, subst, arith}
+use Rattle.std.proofs.Common.{◌≡◌, ◌≢◌, ℕ, ◌<◌, ◌≤◌, List, length, Option, Some, None, sym, subst}
 use Rattle.zone_graph.specs.Graph.{Graph}
 use Rattle.contract_book.specs.declared.resting.Resting.{Resting}
 use Rattle.contract_book.specs.Book.{order_count, order_of, parts_of, with_order}

@@ -1,14 +1,10 @@
 -- The order in hand of a kept hour comes to rest, is dropped or is withdrawn.
-use Rattle.std.proofs.Common.{◌≡◌, ◌≢◌, ◌∙◌, inl, ℕ, ◌+◌, ◌<◌, ◌≤◌, false, List, [], ◌∷◌, length, Option, Some, None, refl, sym, ap, subst, arith}
-use Rattle.order_kinds.specs.declared.order.OrderName.{OrderName}
-use Rattle.zone_graph.specs.Route.{IsIn}
+use Rattle.std.proofs.Common.{◌≡◌, ◌≢◌, ◌∙◌, inl, ℕ, ◌<◌, ◌≤◌, false, List, [], ◌∷◌, length, Option, Some, None, refl, sym, ap, subst, arith}
 use Rattle.contract_book.specs.declared.resting.Resting.{Resting}
-use Rattle.contract_book.specs.Book.{IsBook, line_of, order_count, order_of, parts_of, with_order, without}
+use Rattle.contract_book.specs.Book.{IsBook, order_count, order_of, parts_of, with_order, without}
 use Rattle.contract_book.specs.Resting.{IsSound}
 use Rattle.market_model.specs.declared.event.Event.{Event}
 use Rattle.market_model.specs.declared.event.Event.TheVariants as event
-use Rattle.market_model.specs.Board.{BoardState, IsBoard}
-use Rattle.market_model.specs.History.{and_then}
 use Rattle.market_model.specs.Orders.{is_open, open_names}
 use Rattle.market_model.specs.Refusals.{desk_room}
 use Rattle.market_locality.proofs.Answers.{open_names-agree}
@@ -16,14 +12,14 @@ use Rattle.book_lines.specs.BookOf.{book_of}
 use Rattle.book_lines.proofs.PartLines.{parts_of-book}
 use Rattle.book_lines.proofs.WholeBooks.{book-is_book}
 use Rattle.flow_lines.specs.Standing.{Stands}
-use Rattle.hour_changes.specs.OrderEvents.{IsGone, IsWithdrawn, resting_count, without_hand}
+use Rattle.hour_changes.specs.OrderEvents.{resting_count, without_hand}
 use Rattle.hour_changes.proofs.NextEvents.{agrees, book-is}
 use Rattle.hour_changes.proofs.TakenOut.{gone, withdrawn}
 use Rattle.hour_store.specs.Contents.{Contents, IsOfPart}
 use Rattle.hour_store.specs.Store.{StillLeadsBack, Store}
 use Rattle.hour_store.proofs.Keeps.{parts-without}
 use Rattle.hour_store.proofs.UndoneBooks.{absent-without, book-restored, place-left}
-use Rattle.kept_hour.specs.Kept.{AreOf, Keeps, names_given}
+use Rattle.kept_hour.specs.Kept.{Keeps}
 use Rattle.kept_hour.specs.State.{CanBeNext, HourState, name_in, with_board, with_hand}
 use Rattle.kept_hour.proofs.Entering.{free-count}
 use Rattle.kept_hour.proofs.Keeping.{KeepsNext}

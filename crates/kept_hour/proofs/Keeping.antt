@@ -1,12 +1,11 @@
 -- A store keeps an hour, and keeps it after one more event, when it is taken back and when it is settled.
-use Rattle.std.proofs.Common.{◌≡◌, ◌∙◌, ℕ, ◌+◌, ◌≤◌, List, [], ◌∷◌, ◌++◌, filter, length, length-append, take, Option, Some, None, reverse, refl, sym, ap, subst, arith}
+use Rattle.std.proofs.Common.{◌≡◌, ◌∙◌, ℕ, ◌≤◌, List, [], ◌∷◌, length, length-append, take, Option, Some, None, reverse, refl, sym, ap, subst, arith}
 use Rattle.std.proofs.Math.Seq.{take-length}
 use Rattle.std.proofs.lemmas.List.{length-take-le}
 use Rattle.zone_graph.specs.Graph.{Graph}
-use Rattle.zone_graph.specs.Route.{IsIn}
 use Rattle.flow_netting.specs.Flows.{Flows}
 use Rattle.market_model.specs.declared.event.Event.{Event}
-use Rattle.market_model.specs.Board.{BoardState, IsBoard, IsHourOf}
+use Rattle.market_model.specs.Board.{BoardState, IsBoard}
 use Rattle.market_model.specs.History.{and_then}
 use Rattle.market_model.specs.Refusals.{desk_room}
 use Rattle.block_lines.specs.BlockLaws.{IsOfOrder}

@@ -1,5 +1,5 @@
 -- Lists of which all items pass, and first parts of longer lists.
-use Rattle.std.proofs.Common.{◌≡◌, ◌∙◌, ℕ, ◌+◌, ◌≤◌, Bool, true, false, cond, List, [], ◌∷◌, ◌++◌, filter, length, length-append, take, refl, sym, ap, subst, arith}
+use Rattle.std.proofs.Common.{◌≡◌, ℕ, ◌≤◌, true, List, [], ◌∷◌, ◌++◌, filter, length, take, refl, ap}
 use Rattle.std.proofs.lemmas.List.{take-append-le}
 
 pub all-pass : {X : Type 0} (xs : List X) → filter (λ x. true) xs ≡ xs

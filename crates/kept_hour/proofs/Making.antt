@@ -1,23 +1,22 @@
 -- A leg is made in a kept hour.
-use Rattle.std.proofs.Common.{◌≡◌, ◌∙◌, ℕ, ◌+◌, ◌<◌, ◌≤◌, false, List, [], ◌∷◌, ◌++◌, length, Option, Some, None, refl, sym, ap, subst, arith}
+use Rattle.std.proofs.Common.{◌≡◌, ◌∙◌, ℕ, ◌+◌, ◌<◌, List, [], ◌∷◌, length, sym, ap, subst, arith}
 use Rattle.std.proofs.lemmas.List.Elements.{filter_map-append}
 use Rattle.order_kinds.specs.declared.contract.Contract.{Contract}
 use Rattle.order_kinds.specs.declared.order.OrderName.{OrderName}
-use Rattle.order_kinds.specs.Contract.{contract_at, part_at, part_number}
+use Rattle.order_kinds.specs.Contract.{contract_at}
 use Rattle.zone_graph.specs.Route.{IsIn}
 use Rattle.zone_graph.proofs.Membership.{IsIn-left}
 use Rattle.market_model.specs.declared.event.Event.{Event}
 use Rattle.market_model.specs.declared.event.Event.TheVariants as event
 use Rattle.market_model.specs.declared.event.Leg.{Leg}
-use Rattle.market_model.specs.Board.{BoardState, CanBeMade, IsBoard, after_leg}
+use Rattle.market_model.specs.Board.{CanBeMade, IsBoard, after_leg}
 use Rattle.market_model.specs.History.{and_then}
-use Rattle.market_model.specs.Orders.{Placed, next_name, placed, placed_by}
+use Rattle.market_model.specs.Orders.{next_name, placed, placed_by}
 use Rattle.board_laws.proofs.Legs.{leaves}
 use Rattle.book_lines.specs.BookOf.{book_of}
 use Rattle.block_lines.specs.BlockLaws.{IsOfOrder}
-use Rattle.hour_changes.specs.OrderEvents.{CanFill, IsMade, filled_beside, holds, without_hand}
+use Rattle.hour_changes.specs.OrderEvents.{CanFill, IsMade, filled_beside, without_hand}
 use Rattle.hour_changes.proofs.Legs.{made}
-use Rattle.hour_store.specs.Contents.{Contents}
 use Rattle.hour_store.specs.Store.{StillLeadsBack, Store}
 use Rattle.kept_hour.specs.Kept.{Keeps, names_given}
 use Rattle.kept_hour.specs.Legs.{CanMakeIn, IsMadeIn}

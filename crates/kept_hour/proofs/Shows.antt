@@ -1,21 +1,19 @@
 -- What an hour shows of its book is what the board's lines show.
-use Rattle.std.proofs.Common.{◌≡◌, ◌∙◌, inl, inr, ℕ, zero, suc, ◌+◌, ◌<◌, ◌==◌, ◌||◌, not, Bool, true, false, cond, List, [], ◌∷◌, ◌++◌, filter, map, get_or, Option, Some, None, if◌then◌else◌, refl, sym, ap, subst, arith}
+use Rattle.std.proofs.Common.{◌≡◌, ◌∙◌, ℕ, zero, suc, ◌<◌, ◌==◌, ◌||◌, not, Bool, true, false, cond, List, [], ◌∷◌, filter, map, Option, Some, None, if◌then◌else◌, refl, sym, ap, arith}
 use Rattle.std.specs.List.{list_any}
 use Rattle.std.specs.Option.{option_map}
-use Rattle.order_kinds.specs.declared.contract.Part.{Part}
 use Rattle.order_kinds.specs.declared.side.Side.{Side}
 use Rattle.order_kinds.specs.Contract.{contract_at, is_known, part_at, part_number}
 use Rattle.contract_book.specs.declared.resting.Resting.{Resting}
-use Rattle.contract_book.specs.Book.{after_in, first_of, has_number, line_number, line_of, line_without, order_of, without}
+use Rattle.contract_book.specs.Book.{after_in, first_of, has_number, line_number, line_of, line_without}
 use Rattle.market_model.specs.Board.{BoardState, RestsIn, first_shown, is_in_hand, resting_line, shown_behind}
 use Rattle.market_model.specs.Board as boards
 use Rattle.market_model.specs.Lines.{line}
 use Rattle.market_model.specs.Orders.{Standing}
-use Rattle.book_lines.specs.BookOf.{book_of, contract_of, resting_of}
+use Rattle.book_lines.specs.BookOf.{book_of, resting_of}
 use Rattle.book_lines.proofs.PartLines.{line_of-book}
 use Rattle.hour_changes.specs.OrderEvents.{without_hand}
 use Rattle.hour_changes.proofs.Legs.{line-map}
-use Rattle.kept_hour.specs.Kept.{AreOf}
 use Rattle.kept_hour.specs.Showing.{shown_record}
 
 -- the number of the part of a number is that number, and there is such a part

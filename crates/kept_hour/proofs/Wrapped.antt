@@ -1,5 +1,5 @@
 -- A kept hour after one more event, as its fields have it.
-use Rattle.std.proofs.Common.{◌≡◌, ◌∙◌, ℕ, ◌+◌, ◌≤◌, List, [], ◌∷◌, ◌++◌, length, Option, Some, None, refl, sym, ap, subst, arith}
+use Rattle.std.proofs.Common.{◌≡◌, ℕ, ◌+◌, List, [], ◌∷◌, ◌++◌, Option, Some, None, sym, subst}
 use Rattle.order_kinds.specs.declared.order.Order.{Order}
 use Rattle.zone_graph.specs.Graph.{Graph}
 use Rattle.market_model.specs.declared.event.Event.{Event}
@@ -7,8 +7,8 @@ use Rattle.market_model.specs.declared.event.Event.TheVariants as event
 use Rattle.market_model.specs.History.{and_then}
 use Rattle.market_model.specs.Orders.{next_name}
 use Rattle.hour_store.specs.Store.{Store}
-use Rattle.kept_hour.specs.Kept.{IsKept, Keeps, hour_of}
-use Rattle.kept_hour.specs.State.{CanBeNext, HourState, entry_of, without_hand, withdrawal_of}
+use Rattle.kept_hour.specs.Kept.{IsKept, hour_of}
+use Rattle.kept_hour.specs.State.{CanBeNext, HourState, entry_of, withdrawal_of}
 use Rattle.kept_hour.proofs.Entering.{entered-next, number-is}
 use Rattle.kept_hour.proofs.Hands.{withdrawn-next}
 use Rattle.kept_hour.proofs.Keeping.{KeepsNext, kept-next, own}

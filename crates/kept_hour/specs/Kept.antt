@@ -1,5 +1,5 @@
 -- What the store of an hour keeps for its events: their books, without the order in hand, and their flows.
-use Rattle.std.specs.Prelude.{◌≡◌, ℕ, ◌≤◌, List, Option, Some, None, count_by, length, take}
+use Rattle.std.specs.Prelude.{◌≡◌, ℕ, ◌≤◌, List, Option, Some, count_by, length, take}
 use Rattle.zone_graph.specs.Graph.{Graph}
 use Rattle.book_lines.specs.BookOf.{book_of}
 use Rattle.block_lines.specs.BlockLaws.{IsOfOrder}

@@ -4,7 +4,6 @@ use Rattle.order_kinds.specs.Contract.{part_at}
 use Rattle.zone_graph.specs.Pour.{uses}
 use Rattle.market_model.specs.declared.event.Leg.{Leg}
 use Rattle.flow_netting.specs.declared.quarter_set.QuarterSet.{QuarterSet}
-use Rattle.flow_netting.specs.Flows.{HasLotsLeft, IsOverBorders}
 use Rattle.flow_netting.specs.QuarterSet.{has}
 use Rattle.flow_lines.specs.CallLaws.{CanCarry}
 use Rattle.flow_lines.specs.Standing.{IsCarried, IsSetOf}

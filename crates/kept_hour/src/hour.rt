@@ -1,6 +1,6 @@
 //! The hour.
 
-ghost use Rattle.std.specs.Prelude.{◌≡◌, ◌+◌, ◌-◌, ◌^◌, ◌<◌, ◌≤◌, ℕ, [], None, Some, length, false, IsSome, IfOk, OnOk, OnErr};
+ghost use Rattle.std.specs.Prelude.{◌≡◌, ◌+◌, ◌-◌, ◌^◌, ◌<◌, ◌≤◌, ℕ, [], None, Some, length, take, false, IsSome, IfOk, OnOk, OnErr};
 ghost use Rattle.book_lines.specs.BookOf.{book_of};
 ghost use Rattle.block_lines.specs.BlocksOf.{blocks_of};
 ghost use Rattle.flow_lines.specs.Standing.{Stands};
@@ -88,9 +88,10 @@ impl KeptHour {
         self.events.as_slice()
     }
 
-    /// How many of its events are settled.
+    /// How many of its events are settled: those are its first.
     pub fn settled_len(&self) -> usize
-        ensures { result ≡ length self.now.settled }
+        ensures count { result ≡ length self.now.settled }
+        ensures first { self.now.settled ≡ take result self.now.board.events }
     {
         self.settled
     }

@@ -29,7 +29,7 @@ use Rattle.plain_view.proofs.Views.{makers-in_zones, view-is}
 use Rattle.local_view.proofs.Walking.{walked, walked-trades}
 
 module _ (graph : Graph) (hour : ℕ) (events : List Event) (of : IsHourOf graph hour events) where
-  agree : Agree (hour ∷ []) events of.history
+  pub agree : Agree (hour ∷ []) events of.history
   agree = subst (λ es. Agree (hour ∷ []) es of.history) of.in_hour (one-agrees of.setup of.history of.fit hour)
 
   legal : IsLegalOver graph of.history

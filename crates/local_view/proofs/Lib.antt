@@ -8,5 +8,6 @@ mod Makers
 mod NearHours
 mod NearViews
 mod Parts
+mod Sums
 mod Takers
 mod Walking

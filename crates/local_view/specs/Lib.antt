@@ -5,5 +5,6 @@ pub mod Kept
 pub mod Nearness
 pub mod Poured
 pub mod Rows
+pub mod Sums
 pub mod Takers
 pub mod Works

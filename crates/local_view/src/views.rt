@@ -7,6 +7,7 @@ ghost use Rattle.local_view.specs.Kept.{AreAllNext, AreNext, AreSized, empty_par
 ghost use Rattle.market_model.specs.Board.{IsBoard};
 ghost use Rattle.zone_graph.specs.Rooms.{room_of};
 ghost use Rattle.local_view.specs.Nearness.{AreOthers, WereViews, near_count};
+ghost use Rattle.local_view.specs.Sums.{AllNextAddUp, NextAddUp};
 ghost use Rattle.local_view.specs.Works.{AllComputed, HasMade, IsWork};
 
 use crate::listing::Line;
@@ -62,6 +63,11 @@ impl LocalViews {
     /// Makes the next rows of every part, side and zone: the views of the board. The kept rows stay.
     /// `made` rises by the number of lists.
     ///
+    /// Where the board's events are those of the hour in a well-formed history, the lots of each list
+    /// of rows add up to the most that a taker of any quantity at any price can obtain there: to what
+    /// the orders show in the zones that are still in reach where its taking ends, and the room of the
+    /// arcs across their borders.
+    ///
     /// The grid is the board's, and has as many zones as the views; the board has as many parts, and no
     /// order in hand.
     ///
@@ -74,6 +80,7 @@ impl LocalViews {
         requires zones { zone_count grid.now ≡ self.old.zones }
         requires parts { (B.state board.now).parts ≡ length self.old.lines }
         ensures next { OnOk result (AreAllNext (B.state board.now) self.new) }
+        ensures sums { OnOk result (AllNextAddUp (B.state board.now) self.new) }
         ensures kept { views_forgotten self.new ≡ views_forgotten (record { zones = self.old.zones; lines = self.old.lines; made = self.new.made }) }
         ensures made { OnOk result (self.new.made ≡ most_made self.old.made (length self.old.lines * (2 * self.old.zones))) }
         ensures failed { OnErr result (self.new ≡ views_forgotten self.old) }
@@ -115,8 +122,9 @@ impl LocalViews {
     /// The kept rows of the part and side are the views after some events of the hour, `old_rooms` are
     /// the rooms of the part then, and the board differs from then in the zones of `touched` alone: bit
     /// z stands for zone z. Only the rows of the zones that could trade with a touched one are computed,
-    /// and `made` rises by their number; the others are copies of the kept ones. The grid is the board's,
-    /// and has as many zones as the views; the board has as many parts, and no order in hand.
+    /// and `made` rises by their number; the others are copies of the kept ones. The rows add up as those
+    /// of `refresh` do. The grid is the board's, and has as many zones as the views; the board has as many
+    /// parts, and no order in hand.
     ///
     /// # Errors
     ///
@@ -137,6 +145,7 @@ impl LocalViews {
         requires part { part < length self.old.lines }
         requires near { WereViews (B.state board.now) part side touched old_rooms.now (line_of self.old part side).kept }
         ensures next { OnOk result (AreNext (B.state board.now) part side self.new.zones (line_of self.new part side)) }
+        ensures sums { OnOk result (NextAddUp (B.state board.now) part side (line_of self.new part side)) }
         ensures others { OnOk result ((other : ℕ) (otherwise : Side) → AreOthers part side other otherwise → line_of self.new other otherwise ≡ line_of self.old other otherwise) }
         ensures kept { views_forgotten self.new ≡ views_forgotten (record { zones = self.old.zones; lines = self.old.lines; made = self.new.made }) }
         ensures made { OnOk result (self.new.made ≡ most_made self.old.made (near_count grid.now (room_of old_rooms.now) side touched)) }

@@ -136,11 +136,11 @@ module _ (setup : Setup) (all before more : List Event) (is : all ≡ before ++ 
     maker_in : IsIn fits.maker (placed all)
     maker_in = subst (λ es. IsIn fits.maker (placed es)) (sym is) (picked-stays placed_by fits.maker before more fits.maker_open.is_placed)
 
-    sold_in : (zone : ℕ) → order_in all Sell zone leg ≡ ((seller_by fits.taker fits.maker fits.taker.order.side).order.zone == zone)
+    pub sold_in : (zone : ℕ) → order_in all Sell zone leg ≡ ((seller_by fits.taker fits.maker fits.taker.order.side).order.zone == zone)
     sold_in = sells Placed (λ order. order.name) (λ order. order.order.side) (λ order. order.order.zone) (placed all) (one_order all once) leg
         fits.taker fits.maker taker_in maker_in fits.taker_open.is_named fits.maker_open.is_named fits.opposed
 
-    bought_in : (zone : ℕ) → order_in all Buy zone leg ≡ ((buyer_by fits.taker fits.maker fits.taker.order.side).order.zone == zone)
+    pub bought_in : (zone : ℕ) → order_in all Buy zone leg ≡ ((buyer_by fits.taker fits.maker fits.taker.order.side).order.zone == zone)
     bought_in = buys Placed (λ order. order.name) (λ order. order.order.side) (λ order. order.order.zone) (placed all) (one_order all once) leg
         fits.taker fits.maker taker_in maker_in fits.taker_open.is_named fits.maker_open.is_named fits.opposed
 
@@ -168,11 +168,11 @@ module _ (setup : Setup) (all before more : List Event) (is : all ≡ before ++ 
     block_maker_in : IsIn fits.maker (blocks_placed all)
     block_maker_in = subst (λ es. IsIn fits.maker (blocks_placed es)) (sym is) (picked-stays block_placed_by fits.maker before more fits.maker_open.is_placed)
 
-    block_sold_in : (zone : ℕ) → block_in all Sell zone leg ≡ ((seller_by fits.taker fits.maker fits.taker.order.side).order.zone == zone)
+    pub block_sold_in : (zone : ℕ) → block_in all Sell zone leg ≡ ((seller_by fits.taker fits.maker fits.taker.order.side).order.zone == zone)
     block_sold_in = sells PlacedBlock (λ block. block.name) (λ block. block.order.side) (λ block. block.order.zone) (blocks_placed all) (one_block all once) leg
         fits.taker fits.maker block_taker_in block_maker_in fits.taker_open.is_named fits.maker_open.is_named fits.opposed
 
-    block_bought_in : (zone : ℕ) → block_in all Buy zone leg ≡ ((buyer_by fits.taker fits.maker fits.taker.order.side).order.zone == zone)
+    pub block_bought_in : (zone : ℕ) → block_in all Buy zone leg ≡ ((buyer_by fits.taker fits.maker fits.taker.order.side).order.zone == zone)
     block_bought_in = buys PlacedBlock (λ block. block.name) (λ block. block.order.side) (λ block. block.order.zone) (blocks_placed all) (one_block all once) leg
         fits.taker fits.maker block_taker_in block_maker_in fits.taker_open.is_named fits.maker_open.is_named fits.opposed
 
@@ -217,7 +217,7 @@ module _ (setup : Setup) (all before more : List Event) (is : all ≡ before ++ 
       still-even (graph_of setup) all (event.Reduced name by) (λ quarter arc. refl) (λ side zone quarter. refl)
 
 -- what stands before an item of a list, and behind it
-parted : {X : Type 0} (x : X) (xs : List X) → IsIn x xs → (before : List X) × (after : List X) × (xs ≡ before ++ (x ∷ after))
+pub parted : {X : Type 0} (x : X) (xs : List X) → IsIn x xs → (before : List X) × (after : List X) × (xs ≡ before ++ (x ∷ after))
 parted x [] i = absurd i
 parted x (y ∷ ys) i = elim i [
   | inl s ↦ ([], ys, ap (λ z. z ∷ ys) (sym s))

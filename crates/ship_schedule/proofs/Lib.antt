@@ -3,3 +3,8 @@ pub mod RouteSums
 pub mod Evened
 pub mod Positions
 pub mod Flows
+pub mod LineTexts
+pub mod Counting
+pub mod Known
+pub mod Agreeing
+pub mod Shipped

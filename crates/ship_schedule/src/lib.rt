@@ -3,7 +3,17 @@
 #![tactic(auto)]
 
 mod laws;
+mod lines;
+mod page;
+mod party_index;
+mod shipping;
+mod sums;
+mod tally;
 
 pub use laws::{
     exchanges_are_the_flow, positions_add_up_to_nothing, positions_are_what_borders_carry,
 };
+pub use shipping::schedule;
+
+#[cfg(test)]
+mod tests;

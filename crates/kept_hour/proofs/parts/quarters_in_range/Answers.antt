@@ -1,4 +1,4 @@
-use Rattle.std.proofs.Common.{◌≡◌, ◌+◌, ◌*◌, ℕ, ap, sym, subst}
+use Rattle.std.proofs.Common.{◌≡◌, ◌+◌, ◌*◌, sym, subst}
 use Rattle.order_kinds.specs.Period.{quarter_of, range_has}
 use Rattle.flow_netting.specs.QuarterSet.{has}
 use Rattle.flow_netting.proofs.OneArc.{of_four}

@@ -1,6 +1,6 @@
-use Rattle.std.proofs.Common.{◌≡◌, ◌∙◌, ◌<◌, ap, subst}
+use Rattle.std.proofs.Common.{◌∙◌, ◌<◌, ap}
 use Rattle.std.specs.Option.{option_map}
-use Rattle.contract_book.specs.Book.{first_of, line_of}
+use Rattle.contract_book.specs.Book.{first_of}
 use Rattle.market_model.specs.Board.{first_shown, resting_line}
 use Rattle.kept_hour.specs.Showing.{shown_record}
 use Rattle.kept_hour.specs.State.{HourState}
