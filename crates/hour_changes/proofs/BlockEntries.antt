@@ -1,5 +1,5 @@
 -- A block that enters rests in the book of the blocks of its hour.
-use Rattle.std.proofs.Common.{◌≡◌, ◌∙◌, inl, ℕ, ◌+◌, ◌<◌, ◌≤◌, not, Bool, true, false, cond, List, [], ◌∷◌, ◌++◌, filter, length, length-append, Some, None, nat_eq, eq-eqb, eqb-true, refl, sym, ap, subst, if◌then◌else◌, arith}
+use Rattle.std.proofs.Common.{◌≡◌, ◌∙◌, inl, ℕ, ◌+◌, ◌≤◌, Bool, true, false, cond, List, [], ◌∷◌, ◌++◌, filter, length, length-append, Some, None, eq-eqb, eqb-true, refl, sym, ap, subst, if◌then◌else◌, arith}
 use Rattle.std.proofs.lemmas.Bool.{lt-ltb, ltb-true}
 use Rattle.std.proofs.lemmas.List.Elements.{filter-append, filter_map-append}
 use Rattle.std.specs.List.{cons_option, filter_map}
@@ -11,7 +11,6 @@ use Rattle.block_book.specs.Book.{block_of, with_block}
 use Rattle.market_model.specs.declared.event.Event.{Event}
 use Rattle.market_model.specs.declared.event.Event.TheVariants as event
 use Rattle.market_model.specs.declared.setup.Setup.{Setup}
-use Rattle.market_model.specs.Board.{is_in_hand}
 use Rattle.market_model.specs.History.{and_then}
 use Rattle.market_model.specs.Orders.{is_open, left, name_given, open_names}
 use Rattle.market_model.specs.WellFormed.{BlockEnters, FitAfter, Fits}

@@ -11,3 +11,4 @@ pub mod Wrapped
 pub mod BoardCalls
 pub mod HandCalls
 pub mod FlowCalls
+pub mod BlockCalls

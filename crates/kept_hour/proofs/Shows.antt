@@ -6,7 +6,7 @@ use Rattle.order_kinds.specs.declared.side.Side.{Side}
 use Rattle.order_kinds.specs.Contract.{contract_at, is_known, part_at, part_number}
 use Rattle.contract_book.specs.declared.resting.Resting.{Resting}
 use Rattle.contract_book.specs.Book.{after_in, first_of, has_number, line_number, line_of, line_without}
-use Rattle.market_model.specs.Board.{BoardState, RestsIn, first_shown, is_in_hand, resting_line, shown_behind}
+use Rattle.market_model.specs.Board.{BoardState, first_shown, is_in_hand, resting_line, shown_behind}
 use Rattle.market_model.specs.Board as boards
 use Rattle.market_model.specs.Lines.{line}
 use Rattle.market_model.specs.Orders.{Standing}

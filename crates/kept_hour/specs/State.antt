@@ -1,6 +1,7 @@
 -- What a kept hour is: a board, and the events that are settled; and what its calls make of it.
 use Rattle.std.specs.Prelude.{ℕ, List, [], Option, None}
 use Rattle.order_kinds.specs.declared.contract.Quarter.{Quarter}
+use Rattle.order_kinds.specs.declared.order.BlockOrder.{BlockOrder}
 use Rattle.order_kinds.specs.declared.order.Order.{Order}
 use Rattle.order_kinds.specs.declared.order.OrderName.{OrderName}
 use Rattle.order_kinds.specs.declared.phase.Phase.{Phase}
@@ -86,3 +87,7 @@ resumption_of border first last = event.Resumed border first last
 -- the hour moves to a phase
 abbrev pub gate_of : HourState → Phase → Event
 gate_of hour phase = event.Gated hour.board.hour phase
+
+-- the entry of a block under the next name of the hour
+abbrev pub block_entry_of : HourState → (caller : ℕ) → BlockOrder → Event
+block_entry_of hour caller order = event.EnteredBlock (next_name hour.board.events hour.board.hour) caller order

@@ -9,6 +9,7 @@
 //! events, counted from 1.
 #![tactic(auto)]
 
+mod blocks;
 mod board;
 mod capacity;
 mod changes;

@@ -1,15 +1,13 @@
 -- The next rows add up to the most that can be obtained: they are the views of the board, and those of
 -- the history that its events are of.
-use Rattle.std.proofs.Common.{◌≡◌, ◌∙◌, ◌⊎◌, inl, inr, ℕ, ◌<◌, Bool, List, [], ◌∷◌, ◌++◌, filter, get_or, length, map, nat_lt, sum_by, Option, Some, Result, Ok, Err, OnOk, refl, sym, ap, subst}
+use Rattle.std.proofs.Common.{◌≡◌, ◌∙◌, ◌⊎◌, inl, inr, ℕ, ◌<◌, List, [], ◌∷◌, ◌++◌, filter, map, nat_lt, sum_by, refl, sym, ap, subst}
 use Rattle.order_kinds.specs.declared.contract.Contract.{Contract}
 use Rattle.order_kinds.specs.declared.side.Side.{Side}
 use Rattle.order_kinds.specs.Contract.{contract_at}
-use Rattle.order_kinds.specs.Period.{contract_quarters}
 use Rattle.order_kinds.specs.Side.{opposite}
 use Rattle.certified_maximum.specs.FlowPlan.{bound_with}
 use Rattle.zone_graph.specs.declared.route.Arc.{Arc}
 use Rattle.zone_graph.specs.Graph.{Graph, HasZone, zone_count}
-use Rattle.zone_graph.specs.Route.{IsIn}
 use Rattle.zone_graph.proofs.Membership.{from_map}
 use Rattle.market_model.specs.declared.event.Event.{Event}
 use Rattle.market_model.specs.declared.reply.ViewRow.{ViewRow}
@@ -26,10 +24,9 @@ use Rattle.market_locality.proofs.Named.{AreNamedByHour, IsNamedByHour}
 use Rattle.market_locality.proofs.States.{Agree, agree-append}
 use Rattle.view_maximum.specs.Views.{bound_shown, zones_viewed}
 use Rattle.view_maximum.proofs.Viewed.{add_up}
-use Rattle.local_view.specs.Boards.{view_of}
 use Rattle.local_view.specs.Kept.{AreAllNext, AreNext, Views, line_of}
 use Rattle.local_view.specs.Rows.{LineRows}
-use Rattle.local_view.specs.Sums.{AddUp, AllNextAddUp, AreOfHistory, NextAddUp, most_obtained}
+use Rattle.local_view.specs.Sums.{AddUp, AllNextAddUp, NextAddUp}
 use Rattle.local_view.proofs.Hours.{agree, line-of, rooms-of, view-of}
 
 -- the withdrawals of what icebergs hide are named by their hours

@@ -1,5 +1,5 @@
 -- The rows of a view add up to the most that a taker of any quantity at any price can obtain.
-use Rattle.std.specs.Prelude.{◌≡◌, ℕ, ◌<◌, ◌⊎◌, List, [], get_or, length, sum_by, Option, Some}
+use Rattle.std.specs.Prelude.{◌≡◌, ℕ, ◌<◌, ◌⊎◌, List, [], get_or, length, sum_by, Some}
 use Rattle.order_kinds.specs.declared.side.Side.{Side}
 use Rattle.order_kinds.specs.Contract.{contract_at}
 use Rattle.zone_graph.specs.Graph.{zone_count}

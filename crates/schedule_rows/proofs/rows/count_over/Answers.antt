@@ -1,6 +1,6 @@
-use Rattle.std.proofs.Common.{◌∙◌, ◌<◌, length, ap, subst, refl, sym, arith}
+use Rattle.std.proofs.Common.{◌∙◌, ◌<◌, ap, subst, refl, sym, arith}
 use Rattle.schedule_rows.specs.Places.{period_has, quarter_at}
-use Rattle.schedule_rows.specs.Rows.{amount, is_number, row_at}
+use Rattle.schedule_rows.specs.Rows.{amount, is_number}
 use Rattle.schedule_rows.proofs.Counts.{all_done, none_yet, one_more}
 use Rattle.schedule_rows.proofs.rows.count_over.Goals as goal
 
