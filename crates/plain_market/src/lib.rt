@@ -10,5 +10,7 @@ mod blocks;
 mod border_events;
 mod changes;
 mod gates;
+#[cfg(test)]
+mod tests;
 
 pub use answering::{answer, reply};

@@ -1,6 +1,6 @@
 //! Two sums, and how they are printed.
 
-ghost use Rattle.std.specs.Prelude.{◌≡◌, ◌==◌, ◌+◌, ℕ, pos, Bool, Some, IfOk};
+ghost use Rattle.std.specs.Prelude.{◌≡◌, ◌==◌, ◌+◌, ◌^◌, ◌≤◌, ℕ, pos, Bool, Some, IfOk, OnErr};
 ghost use Rattle.std.specs.Fmt.{DisplaysOnOk};
 ghost use Rattle.order_kinds.specs.Price.{lots_text};
 ghost use Rattle.zone_graph.specs.Pour.{lots_if, same_bool};
@@ -29,7 +29,8 @@ impl Balance {
     /// [`NoMemory`] where a sum would have more than 2^64 - 1 lots: no journal that fits into memory
     /// trades as many.
     pub fn plus_lots(self, way: bool, lots: u32) -> Result<Balance, NoMemory>
-        ensures { IfOk result (λ balance. (other : Bool) → sum_of balance other ≡ sum_of self other + lots_if (same_bool way other) lots) }
+        ensures counted { IfOk result (λ balance. (other : Bool) → sum_of balance other ≡ sum_of self other + lots_if (same_bool way other) lots) }
+        ensures full { OnErr result (2 ^ 64 ≤ sum_of self way + lots) }
     {
         if way {
             Ok(Balance {
@@ -54,7 +55,8 @@ impl Balance {
 
 // So many lots more.
 fn sum(lots: u64, more: u32) -> Result<u64, NoMemory>
-    ensures { IfOk result (λ sum. sum ≡ lots + more) }
+    ensures sum { IfOk result (λ sum. sum ≡ lots + more) }
+    ensures full { OnErr result (2 ^ 64 ≤ lots + more) }
 {
     lots.checked_add(u64::from(more)).ok_or(NoMemory)
 }
