@@ -5,3 +5,4 @@ pub mod EnteredAndWithdrawn
 pub mod DealsInBooks
 pub mod Partners
 pub mod Whole
+pub mod BlocksBesideLegs

@@ -2,3 +2,4 @@
 pub mod BlocksOf
 pub mod BlockLaws
 pub mod DealLaws
+pub mod LegLaws

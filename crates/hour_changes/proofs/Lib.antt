@@ -7,3 +7,5 @@ pub mod TakenOut
 pub mod Reduced
 pub mod FlowChanges
 pub mod BlockEntries
+pub mod OpenCounts
+pub mod BlockLegs

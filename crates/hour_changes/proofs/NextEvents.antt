@@ -1,5 +1,6 @@
 -- The last event of an hour fits a history whose hour the events before it are.
-use Rattle.std.proofs.Common.{◌≡◌, ◌∙◌, inl, ℕ, ◌+◌, Bool, true, false, cond, List, [], ◌∷◌, ◌++◌, filter, length, nat_eq, eq-eqb, refl, sym, ap, subst}
+use Rattle.std.proofs.Common.{◌≡◌, ◌∙◌, inl, ℕ, ◌+◌, Bool, true, false, cond, List, [], ◌∷◌, ◌++◌, filter, length, nat_eq, eq-eqb, append_assoc, refl, sym, ap, subst}
+use Rattle.std.proofs.lemmas.List.{append-nil}
 use Rattle.zone_graph.specs.Graph.{Graph}
 use Rattle.zone_graph.specs.Route.{IsIn}
 use Rattle.zone_graph.proofs.Membership.{IsIn-filter, IsIn-right, from_filter}
@@ -20,7 +21,7 @@ use Rattle.block_lines.specs.BlocksOf.{blocks_of}
 use Rattle.block_lines.proofs.Whole as blocks
 use Rattle.flow_lines.specs.Standing.{Stands}
 use Rattle.flow_lines.proofs.OtherEvents.{hours_have}
-use Rattle.hour_changes.specs.NextEvents.{FirstPartsAreHours, HoursBeginEmpty, IsNext, NextEventsFit}
+use Rattle.hour_changes.specs.NextEvents.{FirstOfManyAreHours, FirstPartsAreHours, HoursBeginEmpty, IsNext, NextEventsFit}
 
 -- where what passes a test ends with an item, the list goes on from what passes before it with the item
 record EndsAt {X : Type 0} (p : X → Bool) (item : X) (all passed : List X) : Type 0 where
@@ -82,6 +83,12 @@ first_part graph hour events e stands =
       fit = own.fit;
       in_hour = own.in_hour;
     }
+
+pub first_of_many : FirstOfManyAreHours
+first_of_many graph hour events [] stands = subst (IsHourOf graph hour) (append-nil events) stands
+first_of_many graph hour events (e ∷ more) stands =
+    first_part graph hour events e
+    (first_of_many graph hour (and_then events e) more (subst (IsHourOf graph hour) (sym (append_assoc events (e ∷ []) more)) stands))
 
 pub empty : HoursBeginEmpty
 empty graph hour is_graph = record {

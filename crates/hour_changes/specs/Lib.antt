@@ -3,3 +3,5 @@ pub mod NextEvents
 pub mod OrderEvents
 pub mod FlowEvents
 pub mod BlockEvents
+pub mod OpenCounts
+pub mod BlockLegEvents

@@ -1,6 +1,6 @@
 -- The next event of an hour: where the events of an hour, and one more, are those of the hour of some
 -- history, the last one fits a history whose hour the others are.
-use Rattle.std.specs.Prelude.{◌≡◌, ℕ, true, List, []}
+use Rattle.std.specs.Prelude.{◌≡◌, ℕ, true, List, [], ◌++◌}
 use Rattle.zone_graph.specs.Graph.{Graph, IsGraph}
 use Rattle.market_model.specs.declared.event.Event.{Event}
 use Rattle.market_model.specs.declared.setup.Setup.{Setup}
@@ -27,6 +27,10 @@ NextEventsFit = (graph : Graph) (hour : ℕ) (events : List Event) (event : Even
 -- and those before it are an hour's by themselves
 abbrev pub FirstPartsAreHours : Type 0
 FirstPartsAreHours = (graph : Graph) (hour : ℕ) (events : List Event) (event : Event) → IsHourOf graph hour (and_then events event) → IsHourOf graph hour events
+
+-- so are the first of them, however many follow
+abbrev pub FirstOfManyAreHours : Type 0
+FirstOfManyAreHours = (graph : Graph) (hour : ℕ) (events more : List Event) → IsHourOf graph hour (events ++ more) → IsHourOf graph hour events
 
 -- over a graph whose borders each join two zones there is an hour without events
 abbrev pub HoursBeginEmpty : Type 0

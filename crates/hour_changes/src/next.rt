@@ -1,6 +1,6 @@
 //! The next event of an hour.
 
-ghost use Rattle.hour_changes.specs.NextEvents.{FirstPartsAreHours, HoursBeginEmpty, NextEventsFit};
+ghost use Rattle.hour_changes.specs.NextEvents.{FirstOfManyAreHours, FirstPartsAreHours, HoursBeginEmpty, NextEventsFit};
 
 /// The last event of an hour fits a history whose hour the events before it are.
 pub fn next_events_fit()
@@ -10,6 +10,11 @@ pub fn next_events_fit()
 /// The events of an hour but the last are an hour's by themselves.
 pub fn first_parts_are_hours()
     ensures { FirstPartsAreHours }
+{}
+
+/// So are the first of them, however many follow.
+pub fn first_of_many_are_hours()
+    ensures { FirstOfManyAreHours }
 {}
 
 /// No event is an hour of each grid.

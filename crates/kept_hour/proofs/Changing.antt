@@ -30,7 +30,7 @@ module _ (hour : HourState) (numbers settled_numbers : ℕ) (store : Store) (kee
   pub bare-book : store.contents.book ≡ book_of hour.board.events hour.board.hour
   bare-book = keeps.contents.book ∙ ap (λ h. without_hand h (book_of hour.board.events hour.board.hour)) free
 
-  few-before : resting_count hour.board.events hour.board.hour None ≤ desk_room
+  pub few-before : resting_count hour.board.events hour.board.hour None ≤ desk_room
   few-before = subst (λ h. resting_count hour.board.events hour.board.hour h ≤ desk_room) free keeps.board.few
 
   -- ---- orders and blocks

@@ -12,3 +12,7 @@ pub mod BoardCalls
 pub mod HandCalls
 pub mod FlowCalls
 pub mod BlockCalls
+pub mod Counting
+pub mod Carrying
+pub mod MadeDeals
+pub mod DealCalls

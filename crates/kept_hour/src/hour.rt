@@ -4,7 +4,7 @@ ghost use Rattle.std.specs.Prelude.{◌≡◌, ◌+◌, ◌-◌, ◌^◌, ◌<�
 ghost use Rattle.book_lines.specs.BookOf.{book_of};
 ghost use Rattle.block_lines.specs.BlocksOf.{blocks_of};
 ghost use Rattle.flow_lines.specs.Standing.{Stands};
-ghost use Rattle.market_model.specs.Board.{IsBoard};
+ghost use Rattle.market_model.specs.Board.{IsBoard, resting_names};
 ghost use Rattle.market_model.specs.Orders.{is_open, next_name, open_names};
 ghost use Rattle.market_model.specs.Refusals.{desk_room};
 ghost use Rattle.hour_changes.specs.OrderEvents.{without_hand};
@@ -122,6 +122,16 @@ impl KeptHour {
         ensures { Stands self.now.board.grid self.now.board.events self.now.board.hour result.now }
     {
         self.store.flows()
+    }
+
+    /// How many orders and blocks of the hour are open and rest: the order in hand is not counted. It takes
+    /// no memory.
+    pub fn open(&self) -> u32
+        ensures { result ≡ length (resting_names self.now.board) }
+    {
+        let orders = self.store.book().len();
+        let blocks = self.store.blocks().len();
+        orders + blocks
     }
 
     /// The number of the next order or block that enters by the hour.

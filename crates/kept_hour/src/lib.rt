@@ -14,6 +14,8 @@ mod board;
 mod capacity;
 mod changes;
 mod cutting;
+mod dealing;
+mod deals;
 mod hour;
 mod legs;
 mod parts;

@@ -1,0 +1,12 @@
+pub mod Parts
+pub mod Entry
+pub mod Fresh
+pub mod Staying
+pub mod Opened
+pub mod Quiet
+pub mod Judging
+pub mod Resting
+pub mod Certified
+pub mod Within
+pub mod Planning
+pub mod Finishing

@@ -1,0 +1,118 @@
+//! The rules on offers and requests: the first quarter in which more flows than is offered, or in which
+//! there is less room than is requested.
+
+ghost use Rattle.std.specs.Prelude.{◌≡◌, ◌+◌, ◌*◌};
+ghost use Rattle.order_kinds.specs.Period.{quarter_of, range_has};
+ghost use Rattle.zone_graph.specs.Graph.{HasArc};
+ghost use Rattle.flow_lines.specs.FlowLaws.{IsRangeIn};
+ghost use Rattle.flow_netting.specs.QuarterSet.{has};
+ghost use Rattle.kept_hour.specs.Bits.{bit};
+ghost use Rattle.market_model.specs.Refusals as refusals;
+ghost use Rattle.plain_refusals.specs.Asked.{first_in_hour};
+ghost use Rattle.plain_refusals.specs.State.{capacity_refusal};
+ghost use Rattle.desk_refusals.specs.Concerned.{ConcernsAlone};
+
+use capacity_requests::{test_offer, test_request};
+use flow_netting::QuarterSet;
+use kept_hour::KeptHour;
+use market_model::{Command, Refusal};
+use order_kinds::Quarter;
+use zone_graph::{Arc, Grid};
+
+/// The refusal by the first quarter of the hour, of those in a range, in which more flows over an arc than
+/// would be offered, in lots: `None` exactly where the offer covers the flow in each of them.
+pub fn refuse_offer(
+    hour: &KeptHour,
+    arc: Arc,
+    first: Quarter,
+    last: Quarter,
+    lots: u32,
+) -> Option<Refusal>
+    requires arc { HasArc hour.now.board.grid arc }
+    ensures { result ≡ first_in_hour (refusals.below_flow hour.now.board.events arc lots)
+        (record { arc = arc; first = first; last = last; lots = lots }) hour.now.board.hour }
+{
+    let quarters = quarters_in_range(hour.hour(), first, last);
+    let (number, flow) = test_offer(hour.flows(), arc, quarters, lots)?;
+    Some(Refusal::BelowFlow {
+        quarter: Quarter {
+            hour: hour.hour(),
+            number,
+        },
+        flow,
+    })
+}
+
+/// The refusal by the first quarter of the hour, of those in a range, in which an arc has less room than is
+/// requested, in lots: `None` exactly where each of them has that room.
+pub fn refuse_request(
+    hour: &KeptHour,
+    arc: Arc,
+    first: Quarter,
+    last: Quarter,
+    lots: u32,
+) -> Option<Refusal>
+    requires arc { HasArc hour.now.board.grid arc }
+    ensures { result ≡ first_in_hour (refusals.no_room hour.now.board.events arc lots)
+        (record { arc = arc; first = first; last = last; lots = lots }) hour.now.board.hour }
+{
+    let quarters = quarters_in_range(hour.hour(), first, last);
+    let (number, room) = test_request(hour.flows(), arc, quarters, lots)?;
+    Some(Refusal::NoRoom {
+        quarter: Quarter {
+            hour: hour.hour(),
+            number,
+        },
+        room,
+    })
+}
+
+/// The first rule on capacity that a command which concerns the hour alone breaks.
+pub(crate) fn refuse_by_capacity(hour: &KeptHour, grid: &Grid, command: &Command) -> Option<Refusal>
+    requires grid { grid.now ≡ hour.now.board.grid }
+    requires concerns { ConcernsAlone hour.now command.now }
+    ensures { result ≡ capacity_refusal grid.now hour.now.board.events command.now }
+{
+    match command {
+        Command::Offer {
+            from,
+            to,
+            first,
+            last,
+            lots,
+        } => {
+            let arc = grid.arc(*from, *to)?;
+            refuse_offer(hour, arc, *first, *last, *lots)
+        }
+        Command::Request {
+            from,
+            to,
+            first,
+            last,
+            lots,
+        } => {
+            let arc = grid.arc(*from, *to)?;
+            refuse_request(hour, arc, *first, *last, *lots)
+        }
+        _ => None,
+    }
+}
+
+// The quarters of an hour that are in a range.
+fn quarters_in_range(hour: u32, first: Quarter, last: Quarter) -> QuarterSet
+    ensures { IsRangeIn hour first last (has result) }
+{
+    let one = bit_in_range(hour, 1, first, last);
+    let two = bit_in_range(hour, 2, first, last);
+    let three = bit_in_range(hour, 3, first, last);
+    let four = bit_in_range(hour, 4, first, last);
+    QuarterSet(one + 2 * two + 4 * three + 8 * four)
+}
+
+// 1 where a quarter of an hour is in a range, and else 0.
+fn bit_in_range(hour: u32, number: u32, first: Quarter, last: Quarter) -> u8
+    ensures { result ≡ bit (range_has first last (quarter_of hour number)) }
+{
+    let quarter = Quarter { hour, number };
+    u8::from(quarter.is_in_range(first, last))
+}

@@ -1,0 +1,10 @@
+pub mod BasketHours
+pub mod ClosingDeals
+pub mod EnteredBlocks
+pub mod HoursGoOn
+pub mod LeastRooms
+pub mod PeriodDeals
+pub mod RefusedByHours
+pub mod SharedEvents
+pub mod SweptHours
+pub mod Touching

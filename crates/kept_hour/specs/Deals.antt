@@ -1,0 +1,45 @@
+-- The deals of two blocks in a kept hour: when they close both, and how their legs are carried.
+use Rattle.std.specs.Prelude.{◌≡◌, ℕ, Bool, false, List, [], ◌∷◌, ◌++◌, length, sum_by, if◌then◌else◌}
+use Rattle.order_kinds.specs.declared.contract.Part.TheVariants as part
+use Rattle.zone_graph.specs.declared.route.RouteLeg.{RouteLeg}
+use Rattle.zone_graph.specs.Pour.{uses}
+use Rattle.block_lines.specs.LegLaws.{without_both}
+use Rattle.block_match.specs.declared.deal.BlockDeal.{BlockDeal}
+use Rattle.block_match.specs.Market.{deal_events}
+use Rattle.flow_netting.specs.declared.quarter_set.QuarterSet.{QuarterSet}
+use Rattle.flow_netting.specs.Flows.{Flows}
+use Rattle.flow_netting.specs.QuarterSet.{has}
+use Rattle.flow_lines.specs.CallLaws.{CanCarry}
+use Rattle.flow_lines.specs.Standing.{IsCarried, IsSetOf}
+use Rattle.market_model.specs.Orders.{is_open}
+use Rattle.hour_store.specs.Contents.{Contents}
+use Rattle.kept_hour.specs.State.{HourState}
+
+-- nothing is left of the two blocks of a deal, which start in this hour, once its legs are made
+pub record ClosesBoth (hour : HourState) (first last : ℕ) (deal : BlockDeal) : Type 0 where
+  pub taker : is_open (hour.board.events ++ deal_events first last deal) (record { hour = first; number = deal.taker }) ≡ false
+  pub maker : is_open (hour.board.events ++ deal_events first last deal) (record { hour = first; number = deal.maker }) ≡ false
+
+-- how many arcs the routes of legs have together
+abbrev pub arc_count : List RouteLeg → ℕ
+arc_count legs = sum_by (λ leg. length leg.route) legs
+
+-- legs can be carried in every quarter, each after those before it
+abbrev pub CanCarryAll : Flows → List RouteLeg → Type 0
+CanCarryAll flows [] = Unit {0}
+CanCarryAll flows (leg ∷ legs) =
+    ((set : QuarterSet) → IsSetOf set part.Hour → CanCarry flows leg.route set leg.lots)
+    × ((set : QuarterSet) (next : Flows) → IsSetOf set part.Hour → IsCarried (uses leg.route) (has set) leg.lots flows next → CanCarryAll next legs)
+
+-- legs were carried in every quarter, one after the other
+abbrev pub AreCarried : List RouteLeg → (old new : Flows) → Type 0
+AreCarried [] old new = new ≡ old
+AreCarried (leg ∷ legs) old new =
+    (set : QuarterSet) × (next : Flows) × IsSetOf set part.Hour × IsCarried (uses leg.route) (has set) leg.lots old next × AreCarried legs next new
+
+-- a deal was made in what a store keeps: its two blocks are out where they start in the hour, and its legs were
+-- carried
+pub record IsDealtIn (starts : Bool) (deal : BlockDeal) (old new : Contents) : Type 0 where
+  pub book : new.book ≡ old.book
+  pub blocks : new.blocks ≡ (if starts then without_both old.blocks deal.taker deal.maker else old.blocks)
+  pub flows : AreCarried deal.legs old.flows new.flows
