@@ -1,12 +1,12 @@
 -- What a small board lets in fits its events.
-use Rattle.std.proofs.Common.{◌≡◌, ◌∙◌, ◌+◌, ◌-◌, ◌^◌, ◌<◌, ◌≤◌, ◌≤ℤ◌, ◌&&◌, pos, ℕ, true, [], ◌∷◌, count_by, length, replicate, nat_eq, nat_le, nat_lt, eq-eqb, refl, sym, ap, subst, arith}
-use Rattle.std.proofs.lemmas.Bool.{and_from, le-leb, or_right}
+use Rattle.std.proofs.Common.{◌≡◌, ◌∙◌, ◌+◌, ◌-◌, ◌^◌, ◌<◌, ◌≤◌, ◌≤ℤ◌, ◌&&◌, pos, ℕ, true, inl, inr, [], ◌∷◌, count_by, length, replicate, nat_eq, nat_le, nat_lt, eq-eqb, refl, sym, ap, subst, arith}
+use Rattle.std.proofs.lemmas.Bool.{and_from, and_parts, le-leb, leb-true, ltb-true, or_cases, or_right}
 use Rattle.std.proofs.lemmas.List.{length-replicate}
 use Rattle.std.proofs.lemmas.List.Sums.{count_by-le-length}
 use Rattle.order_kinds.specs.declared.contract.Contract.{Contract}
 use Rattle.order_kinds.specs.declared.contract.Quarter.{Quarter}
 use Rattle.order_kinds.specs.declared.order.Order.{Order}
-use Rattle.order_kinds.specs.Period.{EachQuarter, block_quarters, contract_quarters, hour_quarters, hours_from, is_not_after, is_within, quarter_of, range_quarters}
+use Rattle.order_kinds.specs.Period.{block_quarters, contract_quarters, hour_quarters, hours_from, is_not_after, is_within, quarter_of, range_quarters}
 use Rattle.zone_graph.specs.declared.route.Arc.{Arc}
 use Rattle.zone_graph.specs.Graph.{HasArc}
 use Rattle.zone_graph.specs.Route.{IsIn}
@@ -21,11 +21,18 @@ use Rattle.market_model.specs.WellFormed.{Fits}
 use Rattle.market_laws.proofs.Rooms.{rooms-together}
 use Rattle.market_laws.proofs.Uses.{within_offers}
 use Rattle.plain_capacity.specs.Hour.{Capacity, IsCapacityOf, flow_in}
-use Rattle.worked_boards.specs.Small.{CanEnter, CanOffer, IsGrown, IsInDay, setup_of, trader}
+use Rattle.worked_boards.specs.Small.{CanEnter, CanOffer, EachFrom, IsGrown, IsInDay, setup_of, trader}
 
 -- an hour of the day is one of a small board's market
 hour-within : (hour : ℕ) → IsInDay hour → is_within 1 25 hour ≡ true
 hour-within hour day = and_from (nat_le 1 hour) (nat_le hour 25) (le-leb 1 hour day.first) (le-leb hour 25 day.last)
+
+-- of two quarters of an hour that stand in order the numbers do
+not_after-numbers : (hour a b : ℕ) → is_not_after (quarter_of hour a) (quarter_of hour b) ≡ true → a ≤ b
+not_after-numbers hour a b h = elim (or_cases (nat_lt hour hour) (nat_eq hour hour && nat_le a b) h) [
+  | inl l ↦ let less = ltb-true hour hour l in absurd (let no : ⊥ = omega (arith, less) in no)
+  | inr e ↦ leb-true a b (and_parts (nat_eq hour hour) (nat_le a b) e).1
+]
 
 module _ (board : BoardState) where
   -- there is a number for one more order
@@ -43,38 +50,44 @@ module _ (board : BoardState) where
     sound = can.sound;
   }
 
-  -- a quarter from the first to the last of an hour is one of its four
-  quarter-of_hour : (hour : ℕ) (quarter : Quarter) → IsIn quarter (range_quarters (quarter_of hour 1) (quarter_of hour 4))
-      → (number : ℕ) × (1 ≤ number) × (number ≤ 4) × (quarter ≡ quarter_of hour number)
-  quarter-of_hour hour quarter i =
-      let listed = (from_filter (λ q. is_not_after (quarter_of hour 1) q && is_not_after q (quarter_of hour 4)) quarter (block_quarters hour hour) i).0 in
-      let of_hour = from_flat_map hour_quarters quarter (hours_from hour hour) listed in
+  -- a quarter from one of an hour to another is one of its own, with a number between theirs
+  quarter-of_hour : (hour first last : ℕ) (quarter : Quarter) → IsIn quarter (range_quarters (quarter_of hour first) (quarter_of hour last))
+      → (number : ℕ) × (first ≤ number) × (number ≤ last) × (quarter ≡ quarter_of hour number)
+  quarter-of_hour hour first last quarter i =
+      let listed = from_filter (λ q. is_not_after (quarter_of hour first) q && is_not_after q (quarter_of hour last)) quarter (block_quarters hour hour) i in
+      let of_hour = from_flat_map hour_quarters quarter (hours_from hour hour) listed.0 in
       let bounds = from_range of_hour.0 hour (hour + 1 - hour) of_hour.1 in
       let same : of_hour.0 ≡ hour = (let low = bounds.0 in let high = bounds.1 in omega (arith, low, high)) in
       let of_number = from_map (quarter_of of_hour.0) quarter (1 ∷ 2 ∷ 3 ∷ 4 ∷ []) of_hour.2 in
-      let within = from_range of_number.0 1 4 of_number.1 in
-      (of_number.0, within.0, (let high = within.1 in omega (arith, high)), of_number.2 ∙ ap (λ h. quarter_of h of_number.0) same)
+      let is : quarter ≡ quarter_of hour of_number.0 = of_number.2 ∙ ap (λ h. quarter_of h of_number.0) same in
+      let both = and_parts (is_not_after (quarter_of hour first) quarter) (is_not_after quarter (quarter_of hour last)) listed.1 in (
+        of_number.0,
+        not_after-numbers hour first of_number.0 (sym (ap (is_not_after (quarter_of hour first)) is) ∙ both.0),
+        not_after-numbers hour of_number.0 last (sym (ap (λ q. is_not_after q (quarter_of hour last)) is) ∙ both.1),
+        is,
+      )
 
-  pub offer-fits : (arc : Arc) (lots : ℕ) → HasArc board.grid arc → CanOffer board arc lots
-      → Fits (setup_of board.grid) board.events (event.Offered arc (quarter_of board.hour 1) (quarter_of board.hour 4) lots)
-  offer-fits arc lots there can = record {
+  pub offer-fits : (arc : Arc) (first last lots : ℕ) → HasArc board.grid arc → CanOffer board arc first last lots
+      → Fits (setup_of board.grid) board.events (event.Offered arc (quarter_of board.hour first) (quarter_of board.hour last) lots)
+  offer-fits arc first last lots there can = record {
     range = record {
       on_arc = there;
       from_hour = hour-within board.hour can.in_day;
       to_hour = hour-within board.hour can.in_day;
-      in_order = or_right (nat_lt board.hour board.hour) (nat_eq board.hour board.hour && nat_le 1 4) (and_from (nat_eq board.hour board.hour) (nat_le 1 4) (eq-eqb board.hour board.hour refl) refl);
+      in_order = or_right (nat_lt board.hour board.hour) (nat_eq board.hour board.hour && nat_le first last)
+          (and_from (nat_eq board.hour board.hour) (nat_le first last) (eq-eqb board.hour board.hour refl) (le-leb first last can.in_order));
     };
     most = can.most;
     covers_flow = λ quarter i.
-        let one = quarter-of_hour board.hour quarter i in
+        let one = quarter-of_hour board.hour first last quarter i in
         subst (λ q. flow board.events q arc ≤ℤ pos lots) (sym one.3) (can.covers one.0 one.1 one.2);
   }
 
   -- where no more flows than is offered in the rows of a capacity, none does after the events
-  pub rows-cover : (capacity : Capacity) (arc : Arc) (lots : ℕ) → IsCapacityOf board.grid board.events board.hour capacity
-      → EachQuarter (λ number. flow_in capacity number arc ≤ℤ pos lots) → EachQuarter (λ number. flow board.events (quarter_of board.hour number) arc ≤ℤ pos lots)
-  rows-cover capacity arc lots is covers number low high =
-      subst (λ z. z ≤ℤ pos lots) ((is.quarters number low high).flows arc) (covers number low high)
+  pub rows-cover : (capacity : Capacity) (arc : Arc) (first last lots : ℕ) → 1 ≤ first → last ≤ 4 → IsCapacityOf board.grid board.events board.hour capacity
+      → EachFrom first last (λ number. flow_in capacity number arc ≤ℤ pos lots) → EachFrom first last (λ number. flow board.events (quarter_of board.hour number) arc ≤ℤ pos lots)
+  rows-cover capacity arc first last lots lowest highest is covers number low high =
+      subst (λ z. z ≤ℤ pos lots) ((is.quarters number (omega (arith, lowest, low)) (omega (arith, high, highest))).flows arc) (covers number low high)
 
   -- no arc has room for more than can remain on it
   pub room-most : IsGrown board → (contract : Contract) (arc : Arc) → room board.events (contract_quarters contract) arc ≤ 2000000

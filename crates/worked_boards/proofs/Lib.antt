@@ -1,9 +1,9 @@
 mod Behind
 mod Entered
+mod EnteredAll
 mod Fitting
 mod Grown
-mod KeptParts
+pub mod KeptParts
 mod Placing
 mod RestingOrders
 mod SmallBoards
-mod Adopting

@@ -1,4 +1,3 @@
 -- What the contracts of this crate cite.
 pub mod Kept
 pub mod Small
-pub mod Shown

@@ -1,10 +1,10 @@
 -- What a small board stands for, and what it lets in.
-use Rattle.std.specs.Prelude.{◌≡◌, ℕ, ◌<◌, ◌≤◌, ◌-◌, ◌^◌, true, Bool, not, List, [], codes, filter, length, replicate, Option, Some, None, pos, ◌≤ℤ◌}
+use Rattle.std.specs.Prelude.{◌≡◌, ℕ, ◌<◌, ◌≤◌, ◌-◌, ◌^◌, true, Bool, not, List, [], codes, filter, fold, length, replicate, Option, Some, None, pos, ◌≤ℤ◌}
 use Rattle.order_kinds.specs.declared.order.Order.{Order}
 use Rattle.order_kinds.specs.declared.order.OrderName.{OrderName}
 use Rattle.order_kinds.specs.Contract.{is_known}
 use Rattle.order_kinds.specs.Order.{order_fault}
-use Rattle.order_kinds.specs.Period.{EachQuarter, quarter_of}
+use Rattle.order_kinds.specs.Period.{quarter_of}
 use Rattle.quarter_capacity.specs.Capacity.{most_offered}
 use Rattle.zone_graph.specs.declared.route.Arc.{Arc}
 use Rattle.zone_graph.specs.Graph.{Graph, HasZone, IsGraph}
@@ -16,7 +16,7 @@ use Rattle.market_model.specs.declared.setup.Setup.{Setup}
 use Rattle.market_model.specs.Board.{BoardState, is_in_hand, resting_names, with_events}
 use Rattle.market_model.specs.Capacity.{flow}
 use Rattle.market_model.specs.History.{and_then, of_hour}
-use Rattle.market_model.specs.Orders.{Placed, filled, left, moment, open_names}
+use Rattle.market_model.specs.Orders.{Placed, filled, left, moment, next_name, open_names}
 use Rattle.market_model.specs.Refusals.{desk_room}
 use Rattle.market_model.specs.WellFormed.{FitAfter}
 use Rattle.worked_boards.specs.declared.kept_part.KeptPart.{KeptPart}
@@ -100,11 +100,31 @@ pub record CanEnter (board : BoardState) (caller : ℕ) (order : Order) : Type 0
   pub sound : order_fault order ≡ None
   pub few : length board.events < 2 ^ 32 - 1
 
--- so many lots can be offered over an arc in all quarters of the hour
-pub record CanOffer (board : BoardState) (arc : Arc) (lots : ℕ) : Type 0 where
+-- something is true of each number from a first to a last
+abbrev pub EachFrom : (first last : ℕ) → ((number : ℕ) → Type 0) → Type 0
+EachFrom first last P = (number : ℕ) → first ≤ number → number ≤ last → P number
+
+-- so many lots can be offered over an arc in the quarters of the hour from one to another
+pub record CanOffer (board : BoardState) (arc : Arc) (first last lots : ℕ) : Type 0 where
   pub in_day : IsInDay board.hour
+  pub low : 1 ≤ first
+  pub in_order : first ≤ last
+  pub high : last ≤ 4
   pub most : lots ≤ most_offered
-  pub covers : EachQuarter (λ number. flow board.events (quarter_of board.hour number) arc ≤ℤ pos lots)
+  pub covers : EachFrom first last (λ number. flow board.events (quarter_of board.hour number) arc ≤ℤ pos lots)
+
+-- some events are a history by themselves, of an hour alone
+pub record AreAlone (graph : Graph) (hour : ℕ) (events : List Event) : Type 0 where
+  pub fit : FitAfter (setup_of graph) [] events
+  pub in_hour : of_hour hour events ≡ events
+
+-- events with the entry of a caller's order behind them
+abbrev pub with_entry_of : (hour caller : ℕ) → List Event → Order → List Event
+with_entry_of hour caller events order = and_then events (event.Entered (next_name events hour) caller order)
+
+-- and with those of several orders
+abbrev pub with_entries_of : (hour caller : ℕ) → List Event → List Order → List Event
+with_entries_of hour caller events orders = fold (with_entry_of hour caller) events orders
 
 -- an order that enters
 abbrev pub order_of : BoardState → (number caller : ℕ) → Order → Placed
@@ -120,6 +140,11 @@ pub record IsFresh (events : List Event) (order : Placed) : Type 0 where
 pub record IsOver (graph : Graph) (board : BoardState) : Type 0 where
   pub over : graph ≡ board.grid
   pub all_parts : board.parts ≡ 7
+
+-- so is a board, and another is over the same grid
+pub record AreOver (graph : Graph) (board former : BoardState) : Type 0 where
+  pub of_board : IsOver graph board
+  pub of_former : graph ≡ former.grid
 
 -- a board is over the same grid as another, with as many parts
 pub record SameMarket (old new : BoardState) : Type 0 where

@@ -15,28 +15,24 @@ use zone_graph::{Grid, NoMemory, Rooms};
 
 /// What is kept of a part: its two lines, with the order in hand, and its rooms.
 #[derive(Drop)]
-pub(crate) struct KeptPart {
-    buys: Vec<StandingOrder>,
-    sells: Vec<StandingOrder>,
-    rooms: Rooms,
+pub struct KeptPart {
+    /// The line of its buys.
+    pub buys: Vec<StandingOrder>,
+    /// The line of its sells.
+    pub sells: Vec<StandingOrder>,
+    /// The rooms of its arcs, in lots.
+    pub rooms: Rooms,
 }
 
 impl KeptPart {
     /// The line of a side.
-    pub(crate) fn line(&self, side: Side) -> &[StandingOrder]
+    pub fn line(&self, side: Side) -> &[StandingOrder]
         ensures { result.now ≡ kept.line_in side self.now }
     {
         match side {
             Side::Buy => self.buys.as_slice(),
             Side::Sell => self.sells.as_slice(),
         }
-    }
-
-    /// Its rooms.
-    pub(crate) fn rooms(&self) -> &Rooms
-        ensures { result.now ≡ self.now.rooms }
-    {
-        &self.rooms
     }
 }
 

@@ -1,19 +1,24 @@
 //! A small board in memory: an hour as a list of its events, which answers what is asked of it from
-//! the list alone. The tests of the matchers run on it.
+//! the list alone. The tests of the matchers and of local views run on it.
 #![tactic(auto)]
 
+mod draws;
 mod kept_part;
 mod parts;
 mod refused;
 mod resting;
-mod showing;
 mod small_board;
 mod small_market;
+mod steps;
 mod takers;
 
+pub use draws::Draws;
+pub use kept_part::KeptPart;
+pub use parts::{PARTS, contract_at, number_of};
 pub use refused::Refused;
 pub use small_board::SmallBoard;
 pub use small_market::SmallMarket;
+pub use steps::{HOUR, Step, limit, order};
 
 #[cfg(test)]
 mod tests;

@@ -6,10 +6,10 @@ ghost use Rattle.order_kinds.specs.Contract as contracts;
 use market_model::{Contract, Part};
 
 /// How many parts an hour has.
-pub(crate) const PARTS: u32 = 7;
+pub const PARTS: u32 = 7;
 
 /// The contract of the part of a number: 0 is the hour, 1 to 4 are its quarters, 5 and 6 its halves.
-pub(crate) fn contract_at(hour: u32, number: u32) -> Contract
+pub fn contract_at(hour: u32, number: u32) -> Contract
     requires number { number < 7 }
     ensures contract { result ≡ contracts.contract_at hour number }
     ensures known { contracts.is_known result.part ≡ true }
@@ -23,7 +23,7 @@ pub(crate) fn contract_at(hour: u32, number: u32) -> Contract
 }
 
 /// The number of a part.
-pub(crate) fn number_of(part: Part) -> u32
+pub fn number_of(part: Part) -> u32
     requires known { contracts.is_known part ≡ true }
     ensures number { result ≡ contracts.part_number part }
     ensures few { result < 7 }

@@ -1,14 +1,15 @@
 //! The board.
 
 ghost use Rattle.std.specs.Prelude.{◌≡◌, ◌<◌, ◌≤◌, ◌^◌, ℕ, pos, ◌≤ℤ◌, true, None, Some, length, IfOk, OnOk, OnErr};
-ghost use Rattle.order_kinds.specs.Period.{EachQuarter, quarter_of};
+ghost use Rattle.order_kinds.specs.Contract as contracts;
 ghost use Rattle.zone_graph.specs.Graph.{HasArc};
-ghost use Rattle.market_model.specs.Board.{is_in_hand};
+ghost use Rattle.market_model.specs.Board.{IsHourOf, is_in_hand, with_events};
 ghost use Rattle.market_model.specs.Capacity.{flow};
 ghost use Rattle.market_model.specs.History.{and_then, touches};
 ghost use Rattle.market_model.specs.WellFormed.{Fits};
 ghost use Rattle.plain_capacity.specs.Hour as hours;
 ghost use Rattle.plain_orders.specs.Histories.{IsSomeHistory};
+ghost use Rattle.worked_boards.specs.Kept.{IsKept};
 ghost use Rattle.worked_boards.specs.Small as small;
 
 use crate::kept_part::{KeptPart, parts_of};
@@ -121,9 +122,39 @@ impl SmallBoard {
 
     /// The number of the order in hand, if there is one.
     pub fn hand(&self) -> Option<u32>
-        ensures { result ≡ self.now.hand }
+        ensures hand { result ≡ self.now.hand }
+        ensures parts { self.now.parts ≡ 7 }
     {
         self.hand
+    }
+
+    /// What is kept of a part.
+    pub fn part(&self, number: u32) -> &KeptPart
+        requires number { number < 7 }
+        ensures kept { IsKept self.now.grid self.now.events (contracts.contract_at self.now.hour number) result.now }
+        ensures stands { IsHourOf self.now.grid self.now.hour self.now.events }
+        ensures parts { self.now.parts ≡ 7 }
+    {
+        &self.parts.as_slice()[number as usize]
+    }
+
+    /// Becomes as another board is, which is over the same grid.
+    ///
+    /// # Errors
+    ///
+    /// [`NoMemory`], where memory is wanting: the board is as before.
+    pub fn follow(&mut self, other: &SmallBoard) -> Result<(), NoMemory>
+        requires grid { self.old.grid ≡ other.now.grid }
+        ensures same { OnOk result (self.new ≡ other.now) }
+        ensures unchanged { OnErr result (self.new ≡ self.old) }
+    {
+        let events = other.events.copy()?;
+        let parts = parts_of(self.alloc, &self.grid, events.as_slice(), other.hour)?;
+        self.hour = other.hour;
+        self.hand = other.hand;
+        self.events = events;
+        self.parts = parts;
+        Ok(())
     }
 
     /// Lets a caller's order enter. It is in hand then, and its number is answered.
@@ -165,45 +196,59 @@ impl SmallBoard {
             && self.events.len() < u32::MAX as usize
     }
 
-    /// Offers so many lots over the arc from a zone to a zone in all quarters of the hour.
+    /// Offers so many lots over the arc from a zone to a zone, in the quarters of the hour from one number
+    /// to another.
     ///
     /// # Errors
     ///
-    /// [`Refused`], where there is no such arc, where the offer is too large or below what flows, or
-    /// where memory is wanting: the board is as before.
-    pub fn offer(&mut self, from: u32, to: u32, lots: u32) -> Result<(), Refused>
+    /// [`Refused`], where there is no such arc or no such quarters, where the offer is too large or below
+    /// what flows in them, or where memory is wanting: the board is as before.
+    pub fn offer(
+        &mut self,
+        from: u32,
+        to: u32,
+        first: u32,
+        last: u32,
+        lots: u32,
+    ) -> Result<(), Refused>
         ensures unchanged { OnErr result (self.new ≡ self.old) }
         ensures same { OnOk result (small.SameBut self.old self.new) }
     {
         let Some(arc) = self.grid.arc(from, to) else {
             return Err(Refused::Unfit);
         };
-        if !self.can_offer(arc, lots)? {
+        if !self.can_offer(arc, first, last, lots)? {
             return Err(Refused::Unfit);
         }
         let hour = self.hour;
         let offer = Event::Offered {
             arc,
-            first: Quarter { hour, number: 1 },
-            last: Quarter { hour, number: 4 },
+            first: Quarter {
+                hour,
+                number: first,
+            },
+            last: Quarter { hour, number: last },
             lots,
         };
         self.add(offer, self.hand)
     }
 
-    // Whether so many lots can be offered over an arc.
-    fn can_offer(&self, arc: Arc, lots: u32) -> Result<bool, NoMemory>
+    // Whether so many lots can be offered over an arc in the quarters from one to another.
+    fn can_offer(&self, arc: Arc, first: u32, last: u32, lots: u32) -> Result<bool, NoMemory>
         requires there { HasArc self.now.grid arc }
-        ensures { IfOk result (λ can. can ≡ true → small.CanOffer self.now arc lots) }
+        ensures { IfOk result (λ can. can ≡ true → small.CanOffer self.now arc first last lots) }
     {
         if !self.is_in_day() {
+            return Ok(false);
+        }
+        if !are_quarters(first, last) {
             return Ok(false);
         }
         if MOST_OFFERED < lots {
             return Ok(false);
         }
         let capacity = hour_capacity(self.alloc, &self.grid, self.events.as_slice(), self.hour)?;
-        Ok(covers_flows(&capacity, arc, lots))
+        Ok(covers_flows(&capacity, arc, first, last, lots))
     }
 
     // Whether the day has this hour.
@@ -226,6 +271,51 @@ impl SmallBoard {
             return Err(Refused::Unfit);
         }
         self.hand = None;
+        Ok(())
+    }
+
+    /// Lets orders of a caller enter one after the other, and rest where they are: none of them takes. What
+    /// shows of them is made once.
+    ///
+    /// # Errors
+    ///
+    /// [`Refused`], where one of them cannot enter the hour, where there is no room for them, or where
+    /// memory is wanting: the board is as before.
+    pub fn rest_all(&mut self, caller: u32, orders: &[Order]) -> Result<(), Refused>
+        ensures entered { OnOk result (self.new ≡ with_events self.old (small.with_entries_of self.old.hour caller self.old.events orders.now)) }
+        ensures unchanged { OnErr result (self.new ≡ self.old) }
+    {
+        let mut events = self.events.copy()?;
+        for order in orders {
+            self.push_entry(&mut events, caller, order)?;
+        }
+        if !has_room(self.alloc, events.as_slice(), self.hour, self.hand)? {
+            return Err(Refused::Unfit);
+        }
+        let parts = parts_of(self.alloc, &self.grid, events.as_slice(), self.hour)?;
+        self.events = events;
+        self.parts = parts;
+        Ok(())
+    }
+
+    // Puts the entry of a caller's order behind some events of the hour.
+    fn push_entry(&self, events: &mut Events, caller: u32, order: &Order) -> Result<(), Refused>
+        requires alone { small.AreAlone self.now.grid self.now.hour events.old }
+        ensures entered { OnOk result (events.new ≡ small.with_entry_of self.now.hour caller events.old order.now) }
+        ensures alone { small.AreAlone self.now.grid self.now.hour events.new }
+    {
+        if events.len() >= u32::MAX as usize {
+            return Err(Refused::Unfit);
+        }
+        if !self.can_enter(caller, order) {
+            return Err(Refused::Unfit);
+        }
+        let name = next_name(events.as_slice(), self.hour);
+        events.push(Event::Entered {
+            name,
+            caller,
+            order: *order,
+        })?;
         Ok(())
     }
 
@@ -271,7 +361,7 @@ impl Board for SmallBoard {
 
     fn rooms(&self, part: u32, into: &mut Rooms) {
         let kept = &self.parts.as_slice()[part as usize];
-        into.copy_from(kept.rooms());
+        into.copy_from(&kept.rooms);
     }
 
     fn make(&mut self, part: u32, leg: &Leg) -> Result<(), NoMemory> {
@@ -287,15 +377,28 @@ impl Board for SmallBoard {
     }
 }
 
-// Whether no more flows over an arc in any quarter of an hour than so many lots.
-fn covers_flows(capacity: &HourCapacity, arc: Arc, lots: u32) -> bool
-    requires border { arc.border < hours.size_of capacity.now }
-    ensures { result ≡ true → EachQuarter (λ number. hours.flow_in capacity.now number arc ≤ℤ pos lots) }
+// Whether these are a first and a last quarter of an hour.
+fn are_quarters(first: u32, last: u32) -> bool
+    ensures low { result ≡ true → 1 ≤ first }
+    ensures in_order { result ≡ true → first ≤ last }
+    ensures high { result ≡ true → last ≤ 4 }
 {
-    covers_flow(capacity, arc, 1, lots)
-        && covers_flow(capacity, arc, 2, lots)
-        && covers_flow(capacity, arc, 3, lots)
-        && covers_flow(capacity, arc, 4, lots)
+    1 <= first && first <= last && last <= 4
+}
+
+// Whether no more flows over an arc than so many lots in any of the quarters from one to another.
+fn covers_flows(capacity: &HourCapacity, arc: Arc, first: u32, last: u32, lots: u32) -> bool
+    requires border { arc.border < hours.size_of capacity.now }
+    requires first { 1 ≤ first }
+    requires last { last ≤ 4 }
+    ensures { result ≡ true → small.EachFrom first last (λ number. hours.flow_in capacity.now number arc ≤ℤ pos lots) }
+{
+    for number in first..last + 1 {
+        if !covers_flow(capacity, arc, number, lots) {
+            return false;
+        }
+    }
+    true
 }
 
 // Whether no more flows over an arc in a quarter than so many lots.

@@ -2,39 +2,42 @@
 
 ghost use Rattle.std.specs.Prelude.{◌≡◌, ◌&&◌, true, nat_lt};
 ghost use Rattle.std.specs.List.{list_all};
+ghost use Rattle.sweep_core.specs.Sweeping.{OthersAreQuiet};
 ghost use Rattle.worked_boards.specs.Small.{SameMarket};
 
 use crate::parts::number_of;
 use crate::refused::Refused;
-use crate::showing::shows_on;
 use crate::small_board::SmallBoard;
+use crate::steps::Step;
 use crate::takers::fresh_taker;
-use market_model::{Event, Names, Order, Pairs, Word};
+use market_model::{Event, Names, NoMemory, Order, Pairs, Word};
 use match_core::take;
 use std::alloc::Global;
 use std::marker::Model;
 use std::test::Fail;
+use sweep_core::PartSet;
 use zone_graph::Grid;
 
 /// An hour in which orders are matched: a board, and a grid that is the board's once more. Each taking
-/// and each sweep is made on the board, and beside it on a copy of the events by the plain market.
-/// Contracts see what the board stands for.
+/// and each sweep is made on the board, and beside it on a copy of the events by the plain market. A
+/// second board is as the first one once was. Contracts see what the board stands for.
 #[derive(Drop)]
 pub struct SmallMarket {
     alloc: Global,
     grid: Grid,
     board: SmallBoard,
+    former: SmallBoard,
 }
 
 impl Model for SmallMarket {
     ghost use Rattle.market_model.specs.Board.{BoardState};
-    ghost use Rattle.worked_boards.specs.Small.{IsOver};
+    ghost use Rattle.worked_boards.specs.Small.{AreOver};
 
     ghost Value = { BoardState };
 
     ghost view = { λ market. market.board };
 
-    ghost invariant = { λ market. IsOver market.grid market.board };
+    ghost invariant = { λ market. AreOver market.grid market.board market.former };
 }
 
 impl SmallMarket {
@@ -58,11 +61,35 @@ impl SmallMarket {
         let borders = Pairs::from(Vec::from_slice(alloc, pairs)?);
         let grid = Grid::new(alloc, &names, &borders)?;
         let own = Grid::new(alloc, &names, &borders)?;
+        let once = Grid::new(alloc, &names, &borders)?;
         Ok(SmallMarket {
             alloc,
             grid,
             board: SmallBoard::new(alloc, own, hour)?,
+            former: SmallBoard::new(alloc, once, hour)?,
         })
+    }
+
+    /// Its grid.
+    pub fn grid(&self) -> &Grid
+        ensures { result.now ≡ self.now.grid }
+    {
+        &self.grid
+    }
+
+    /// Its board.
+    pub fn board(&self) -> &SmallBoard
+        ensures board { result.now ≡ self.now }
+        ensures parts { self.now.parts ≡ 7 }
+    {
+        &self.board
+    }
+
+    /// The board as it was when it was last kept, over the same grid; without events before.
+    pub fn former(&self) -> &SmallBoard
+        ensures { result.now.grid ≡ self.now.grid }
+    {
+        &self.former
     }
 
     /// Its events, in order.
@@ -72,13 +99,22 @@ impl SmallMarket {
         self.board.events()
     }
 
+    /// Keeps the board as it is now.
+    ///
+    /// # Errors
+    ///
+    /// [`NoMemory`], where memory is wanting: what was kept before stays.
+    pub fn keep(&mut self) -> Result<(), NoMemory> {
+        self.former.follow(&self.board)
+    }
+
     /// Offers so many lots over the arc from a zone to a zone in all quarters of the hour.
     ///
     /// # Errors
     ///
     /// [`Refused`], where the board does not let the offer in.
     pub fn offer(&mut self, from: u32, to: u32, lots: u32) -> Result<(), Refused> {
-        self.board.offer(from, to, lots)
+        self.board.offer(from, to, 1, 4, lots)
     }
 
     /// Lets an order enter, take and rest, and answers whether the plain market's taking is the same.
@@ -90,13 +126,13 @@ impl SmallMarket {
         take_on(self.alloc, &mut self.board, &self.grid, caller, order)
     }
 
-    /// Whether the local views of all parts, sides and zones are those of the plain market.
+    /// Lets orders of a caller enter one after the other, and rest where they are.
     ///
     /// # Errors
     ///
-    /// [`Refused`], where an order is in hand, or where memory is wanting.
-    pub fn shows(&self) -> Result<bool, Refused> {
-        shows_on(self.alloc, &self.board, &self.grid)
+    /// [`Refused`], where the board does not let them in.
+    pub fn rest_all(&mut self, caller: u32, orders: &[Order]) -> Result<(), Refused> {
+        self.board.rest_all(caller, orders)
     }
 
     /// Sweeps the hour, and answers whether the plain market's sweep is the same.
@@ -105,7 +141,68 @@ impl SmallMarket {
     ///
     /// [`Refused`], where an order is in hand, or where memory is wanting.
     pub fn sweep(&mut self) -> Result<bool, Refused> {
-        sweep_on(self.alloc, &mut self.board, &self.grid)
+        self.sweep_opened(PartSet::all())
+    }
+
+    /// Sweeps the hour, of which only some parts can have a leg, and answers whether the plain market's
+    /// sweep is the same.
+    ///
+    /// # Errors
+    ///
+    /// [`Refused`], where an order is in hand, or where memory is wanting.
+    pub fn sweep_opened(&mut self, opened: PartSet) -> Result<bool, Refused>
+        requires quiet { OthersAreQuiet self.old opened }
+    {
+        sweep_on(self.alloc, &mut self.board, &self.grid, opened)
+    }
+
+    /// Makes a step of a session, and answers whether the plain market makes the same of it.
+    ///
+    /// # Errors
+    ///
+    /// [`Refused`], where the board does not let it in, or where memory is wanting.
+    pub fn play(&mut self, step: &Step) -> Result<bool, Refused> {
+        match *step {
+            Step::Offer(from, to, lots) => {
+                self.offer(from, to, lots)?;
+                Ok(true)
+            }
+            Step::OfferIn(number, from, to, lots) => {
+                self.board.offer(from, to, number, number, lots)?;
+                Ok(true)
+            }
+            Step::Enter(order) => self.enter(0, order),
+            Step::Sweep => self.sweep(),
+        }
+    }
+
+    /// Makes the steps of a session, up to the first of which the plain market does not make the same, and
+    /// answers whether there is none.
+    ///
+    /// # Errors
+    ///
+    /// [`Refused`], where the board does not let a step in, or where memory is wanting.
+    pub fn play_all(&mut self, steps: &[Step]) -> Result<bool, Refused> {
+        for step in steps {
+            if !self.play(step)? {
+                return Ok(false);
+            }
+        }
+        Ok(true)
+    }
+
+    /// Makes a step that was drawn, where the board lets it in, and answers whether the plain market makes the
+    /// same of it.
+    ///
+    /// # Errors
+    ///
+    /// [`NoMemory`], where memory is wanting.
+    pub fn play_drawn(&mut self, step: &Step) -> Result<bool, NoMemory> {
+        match self.play(step) {
+            Ok(alike) => Ok(alike),
+            Err(Refused::Unfit) => Ok(true),
+            Err(Refused::NoMemory) => Err(NoMemory),
+        }
     }
 }
 
@@ -131,10 +228,17 @@ fn take_on(
     Ok(plain.as_slice() == board.events())
 }
 
-// Sweeps a board, and answers whether the plain market's sweep is the same.
-fn sweep_on(alloc: Global, board: &mut SmallBoard, grid: &Grid) -> Result<bool, Refused>
+// Sweeps a board of which only some parts can have a leg, and answers whether the plain market's sweep is
+// the same.
+fn sweep_on(
+    alloc: Global,
+    board: &mut SmallBoard,
+    grid: &Grid,
+    opened: PartSet,
+) -> Result<bool, Refused>
     requires grid { grid.now ≡ board.old.grid }
     requires parts { board.old.parts ≡ 7 }
+    requires quiet { OthersAreQuiet board.old opened }
     ensures { SameMarket board.old board.new }
 {
     if board.hand().is_some() {
@@ -142,7 +246,7 @@ fn sweep_on(alloc: Global, board: &mut SmallBoard, grid: &Grid) -> Result<bool, 
     }
     let hour = board.hour();
     let mut plain = board.copy_events()?;
-    sweep_core::sweep(alloc, board, grid, hour)?;
+    sweep_core::sweep_opened(alloc, board, grid, hour, opened)?;
     plain_matching::sweep(alloc, grid, &mut plain, hour)?;
     Ok(plain.as_slice() == board.events())
 }

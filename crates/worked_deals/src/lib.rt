@@ -6,3 +6,5 @@
 
 #[cfg(test)]
 mod deal_tests;
+#[cfg(test)]
+mod drawn_tests;

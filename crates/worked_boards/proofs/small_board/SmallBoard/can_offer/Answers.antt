@@ -1,8 +1,9 @@
 use Rattle.std.proofs.Common.{◌≤ℤ◌, pos, subst}
-use Rattle.order_kinds.specs.Period.{EachQuarter, quarter_of}
+use Rattle.order_kinds.specs.Period.{quarter_of}
 use Rattle.market_model.specs.Board.{BoardState}
 use Rattle.market_model.specs.Capacity.{flow}
 use Rattle.plain_capacity.specs.Hour.{IsCapacityOf}
+use Rattle.worked_boards.specs.Small.{EachFrom}
 use Rattle.worked_boards.proofs.Fitting.{rows-cover}
 use Rattle.worked_boards.proofs.SmallBoards.{own_of}
 use Rattle.worked_boards.proofs.small_board.SmallBoard.can_offer.Goals as goal
@@ -10,9 +11,13 @@ use Rattle.worked_boards.proofs.small_board.SmallBoard.can_offer.Goals as goal
 pub returns : goal.returns
 returns c can = record {
   in_day = c.is_in_day.ensures c.if-not-is_in_day.false;
+  low = c.are_quarters.ensures.low c.if-not-are_quarters.false;
+  in_order = c.are_quarters.ensures.in_order c.if-not-are_quarters.false;
+  high = c.are_quarters.ensures.high c.if-not-are_quarters.false;
   most = c.if-lots-gt-MOST_OFFERED.false;
-  covers = subst (λ (b : BoardState). EachQuarter (λ number. flow b.events (quarter_of b.hour number) c.args.arc ≤ℤ pos c.args.lots)) c.self.view_is
-      (rows-cover (own_of c.self.inside) c.in_ok-capacity.capacity c.args.arc c.args.lots
+  covers = subst (λ (b : BoardState). EachFrom c.args.first c.args.last (λ number. flow b.events (quarter_of b.hour number) c.args.arc ≤ℤ pos c.args.lots)) c.self.view_is
+      (rows-cover (own_of c.self.inside) c.in_ok-capacity.capacity c.args.arc c.args.first c.args.last c.args.lots
+      (c.are_quarters.ensures.low c.if-not-are_quarters.false) (c.are_quarters.ensures.high c.if-not-are_quarters.false)
       (subst (λ es. IsCapacityOf c.self.inside.grid es c.self.inside.hour c.in_ok-capacity.capacity) c.as_slice.ensures c.in_ok-capacity.ensures)
       (c.covers_flows.ensures can));
 }

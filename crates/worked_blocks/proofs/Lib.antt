@@ -1,0 +1,2 @@
+-- Lemmas of the tests of this crate.
+pub mod Markets

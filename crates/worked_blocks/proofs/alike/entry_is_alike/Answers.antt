@@ -1,0 +1,13 @@
+use Rattle.std.proofs.Common.{sym, subst}
+use Rattle.plain_capacity.specs.Hour.{IsLegalOver}
+use Rattle.worked_blocks.proofs.Markets.{legal-front, legal-some}
+use Rattle.worked_blocks.proofs.alike.entry_is_alike.Goals as goal
+
+pub deal_of_entry-requires : goal.deal_of_entry-requires
+deal_of_entry-requires c = record {
+  legal = subst (IsLegalOver c.args.grid.now) (sym c.split_at.ensures.front) (legal-front c.args.grid.now c.args.events.now c.args.place c.requires.legal);
+}
+
+pub count_passed-requires : goal.count_passed-requires
+count_passed-requires c = legal-some c.args.grid.now c.split_at.result.0.now
+    (subst (IsLegalOver c.args.grid.now) (sym c.split_at.ensures.front) (legal-front c.args.grid.now c.args.events.now c.args.place c.requires.legal))

@@ -1,0 +1,2 @@
+-- What the tests of this crate cite.
+pub mod Market

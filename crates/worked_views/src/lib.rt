@@ -1,0 +1,17 @@
+//! Tests of local views, and of sweeps of a few parts alone: worked sessions, and drawn boards beside the
+//! plain market.
+//!
+//! A crate that has tests is proved once more for them, so these stand beside the crate of the board.
+#![tactic(auto)]
+
+mod crossing;
+mod drawn_views;
+mod few_parts;
+mod grids;
+mod sessions;
+mod showing;
+#[cfg(test)]
+mod sweep_tests;
+#[cfg(test)]
+mod view_tests;
+mod views;

@@ -1,0 +1,131 @@
+//! The local views of a small board, made anew, and their rows.
+
+ghost use Rattle.std.specs.Prelude.{◌≡◌, IfOk, None};
+ghost use Rattle.local_view.specs.Kept.{AreAllNext};
+ghost use Rattle.worked_views.specs.Shown.{AreViewsOf, AreViewsOver};
+
+use local_view::LocalViews;
+use market_model::{Side, ViewRow};
+use std::alloc::Global;
+use worked_boards::{PARTS, Refused, SmallBoard};
+use zone_graph::Grid;
+
+/// A row of the whole hour: its side and zone, its price in cents per MWh, and its lots.
+pub(crate) type Row = (Side, u32, i32, u32);
+
+/// The views of a board as next rows, with no kept ones.
+///
+/// # Errors
+///
+/// [`Refused`], where an order is in hand, or where memory is wanting.
+pub(crate) fn next_views(
+    alloc: Global,
+    board: &SmallBoard,
+    grid: &Grid,
+) -> Result<LocalViews, Refused>
+    requires grid { grid.now ≡ board.now.grid }
+    ensures next { IfOk result (λ views. AreAllNext board.now views) }
+    ensures over { IfOk result (λ views. AreViewsOver grid.now views) }
+    ensures no_hand { IfOk result (λ views. board.now.hand ≡ None) }
+{
+    if board.hand().is_some() {
+        return Err(Refused::Unfit);
+    }
+    let mut views = LocalViews::new(alloc, grid.zones(), PARTS)?;
+    views.refresh(board, grid)?;
+    Ok(views)
+}
+
+/// The views of a board, refreshed and taken over.
+///
+/// # Errors
+///
+/// [`Refused`], where an order is in hand, or where memory is wanting.
+pub(crate) fn views_of(
+    alloc: Global,
+    board: &SmallBoard,
+    grid: &Grid,
+) -> Result<LocalViews, Refused>
+    requires grid { grid.now ≡ board.now.grid }
+    ensures views { IfOk result (AreViewsOf board.now) }
+    ensures no_hand { IfOk result (λ views. board.now.hand ≡ None) }
+{
+    let mut views = next_views(alloc, board, grid)?;
+    views.adopt();
+    Ok(views)
+}
+
+/// Takes the next rows over.
+pub(crate) fn adopt(views: &mut LocalViews, grid: &Grid)
+    requires { AreViewsOver grid.now views.old }
+    ensures { AreViewsOver grid.now views.new }
+{
+    let _grid = grid;
+    views.adopt();
+}
+
+/// Drops the next rows.
+pub(crate) fn forget(views: &mut LocalViews, grid: &Grid)
+    requires { AreViewsOver grid.now views.old }
+    ensures { AreViewsOver grid.now views.new }
+{
+    let _grid = grid;
+    views.forget();
+}
+
+/// Whether two views have the same kept rows.
+pub(crate) fn are_same(grid: &Grid, one: &LocalViews, other: &LocalViews) -> bool
+    requires one { AreViewsOver grid.now one.now }
+    requires other { AreViewsOver grid.now other.now }
+{
+    for part in 0..PARTS {
+        for zone in 0..grid.zones() {
+            let buys = one.rows(part, Side::Buy, zone) == other.rows(part, Side::Buy, zone);
+            let sells = one.rows(part, Side::Sell, zone) == other.rows(part, Side::Sell, zone);
+            if !(buys && sells) {
+                return false;
+            }
+        }
+    }
+    true
+}
+
+/// Whether the kept rows of the whole hour are these: those of the buys of each zone, then of the sells.
+pub(crate) fn has_rows(grid: &Grid, views: &LocalViews, rows: &[Row]) -> bool
+    requires { AreViewsOver grid.now views.now }
+{
+    match after_side(grid, views, Side::Buy, rows) {
+        Some(sells) => match after_side(grid, views, Side::Sell, sells) {
+            Some(rest) => rest.is_empty(),
+            None => false,
+        },
+        None => false,
+    }
+}
+
+// What comes behind the kept rows of a side of the whole hour, where some rows begin with them.
+fn after_side<'a>(grid: &Grid, views: &LocalViews, side: Side, rows: &'a [Row]) -> Option<&'a [Row]>
+    requires { AreViewsOver grid.now views.now }
+{
+    let mut rest = rows;
+    for zone in 0..grid.zones() {
+        rest = after_list(views.rows(0, side, zone), side, zone, rest)?;
+    }
+    Some(rest)
+}
+
+// What comes behind a list of rows of a side and zone, where some rows begin with it.
+fn after_list<'a>(list: &[ViewRow], side: Side, zone: u32, rows: &'a [Row]) -> Option<&'a [Row]> {
+    let mut rest = rows;
+    for row in list {
+        match rest {
+            [first, tail @ ..] if is_row(first, row, side, zone) => rest = tail,
+            _ => return None,
+        }
+    }
+    Some(rest)
+}
+
+fn is_row(wanted: &Row, row: &ViewRow, side: Side, zone: u32) -> bool {
+    wanted.0 == side && wanted.1 == zone && wanted.2 == row.price.0 && wanted.3 == row.lots
+}
