@@ -1,1 +1,2 @@
 mod Adopting
+mod Differing
