@@ -12,7 +12,7 @@ use Rattle.flow_netting.specs.QuarterSet.{has}
 use Rattle.hour_store.specs.declared.change.Change.{Change}
 use Rattle.hour_store.specs.declared.change.Change.TheVariants as change
 use Rattle.hour_store.specs.Contents.{AreAlike, AreSame, Contents, KeepsBooks}
-use Rattle.hour_store.specs.TakenBack.{CanRestAgain, CanRestBlock, CanTakeBack, IsTakenBack}
+use Rattle.hour_store.specs.TakenBack.{CanRestAgain, CanRestBlock, CanTakeBack, HasItsPlace, IsTakenBack}
 
 pub alike-itself : (flows : Flows) → AreAlike flows flows
 alike-itself flows = record {
@@ -32,11 +32,23 @@ alike-through a b c one two = record {
   size = two.size ∙ one.size;
 }
 
+pub alike-other : (a b : Flows) → AreAlike a b → AreAlike b a
+alike-other a b alike = record {
+  offers = λ arc number first last. sym (alike.offers arc number first last);
+  flows = λ arc number first last. sym (alike.flows arc number first last);
+  halts = λ border. sym (alike.halts border);
+  phase = sym alike.phase;
+  size = sym alike.size;
+}
+
 pub alike-equal : (a b : Flows) → b ≡ a → AreAlike a b
 alike-equal a b same = subst (AreAlike a) (sym same) (alike-itself a)
 
 pub same-itself : (contents : Contents) → AreSame contents contents
 same-itself contents = record { book = refl; blocks = refl; flows = alike-itself contents.flows }
+
+pub same-other : (a b : Contents) → AreSame a b → AreSame b a
+same-other a b same = record { book = sym same.book; blocks = sym same.blocks; flows = alike-other a.flows b.flows same.flows }
 
 pub same-through : (a b c : Contents) → AreSame a b → AreSame b c → AreSame a c
 same-through a b c one two = record {
@@ -55,8 +67,9 @@ remaining-same a b offers flows arc number first last =
 module _ (a b : Contents) (same : AreSame a b) where
   -- what can be taken back from the one can be from the other
   pub can-again : (record_of : Change) → CanTakeBack record_of a → CanTakeBack record_of b
-  can-again (change.OrderRested number) can = tt
-  can-again (change.OrderChanged part was) can = subst (λ book. CanRestAgain book part was) (sym same.book) can
+  can-again (change.OrderRested part order) can = subst (λ book. HasItsPlace book part order) (sym same.book) can
+  can-again (change.OrderChanged part was) can =
+      (subst (λ book. HasItsPlace book part was) (sym same.book) can.0, subst (λ book. CanRestAgain book part was) (sym same.book) can.1)
   can-again (change.BlockRested number) can = tt
   can-again (change.BlockLeft was) can = subst (λ list. CanRestBlock list was) (sym same.blocks) can
   can-again (change.Carried arc set lots) can = record {
@@ -79,8 +92,8 @@ module _ (a b : Contents) (same : AreSame a b) where
 
   -- and what the one is after it was taken back, the other is
   pub back-again : (record_of : Change) (before : Contents) → IsTakenBack record_of b before → IsTakenBack record_of a before
-  back-again (change.OrderRested number) before back = record {
-    book_is = back.book_is ∙ ap (λ book. without book number) same.book;
+  back-again (change.OrderRested part order) before back = record {
+    book_is = back.book_is ∙ ap (λ book. without book order.number) same.book;
     blocks = back.blocks ∙ same.blocks;
     flows = alike-through a.flows b.flows before.flows same.flows back.flows;
   }

@@ -39,7 +39,7 @@ kept-alike old new parts alike kept = kept-same old new parts alike.offers alike
 
 -- and after what takes a change back
 pub kept-back : (record_of : Change) (now before : Contents) → CanTakeBack record_of now → IsTakenBack record_of now before → IsKept now → IsKept before
-kept-back (change.OrderRested number) now before can back kept = kept-alike now before (ap parts_of back.book_is ∙ parts-without now.book number) back.flows kept
+kept-back (change.OrderRested part order) now before can back kept = kept-alike now before (ap parts_of back.book_is ∙ parts-without now.book order.number) back.flows kept
 kept-back (change.OrderChanged part was) now before can back kept =
     kept-alike now before (ap parts_of back.book_is ∙ parts-with_order (without now.book was.number) part was ∙ parts-without now.book was.number) back.flows kept
 kept-back (change.BlockRested number) now before can back kept = kept-alike now before (ap parts_of back.book) back.flows kept

@@ -2,6 +2,9 @@ pub mod Alike
 pub mod Ranges
 pub mod Leads
 pub mod PutBack
+pub mod Places
+pub mod Zones
+pub mod ChangesLeave
 pub mod InTurn
 pub mod UndoneFlows
 pub mod UndoneBooks

@@ -20,7 +20,9 @@ use Rattle.hour_store.specs.declared.change.Change.TheVariants as change
 use Rattle.hour_store.specs.Contents.{Contents, IsOfPart, KeepsBooks}
 use Rattle.hour_store.specs.Inside.{IsKept}
 use Rattle.hour_store.proofs.Keeps.{kept-same, parts-less, parts-with_order}
+use Rattle.hour_store.specs.TakenBack.{HasItsPlace}
 use Rattle.hour_store.proofs.Leads.{IsUndoneBy}
+use Rattle.hour_store.proofs.Places.{filled-placed, reduced-placed, without-placed}
 use Rattle.hour_store.proofs.Ranges.{drawn-carried, drawn-offered, offers-alike, offers-offered}
 use Rattle.hour_store.proofs.UndoneBlocks.{block-left-undone, block-rest-undone, block_number}
 use Rattle.hour_store.proofs.UndoneBooks.{found-number, none-stands, order-undone, rest-undone, without-filled, without-reduced, without-twice}
@@ -40,7 +42,7 @@ module _ (old now : Contents) (kept : IsKept old) where
       (subst (λ (f : Flows). (arc : Arc) (number : ℕ) → 1 ≤ number → number ≤ 4 → flow_of f arc number ≡ flow_of old.flows arc number) (sym flows) (λ arc number first last. refl)) kept
 
   pub rest-noted : (part : ℕ) (order : Resting) → order_of old.book order.number ≡ None → now.book ≡ with_order old.book part order → now.blocks ≡ old.blocks → now.flows ≡ old.flows
-      → IsNotedBy (change.OrderRested order.number) old now
+      → IsNotedBy (change.OrderRested part order) old now
   rest-noted part order absent is blocks flows = record {
     kept = kept-flows (ap parts_of is ∙ parts-with_order old.book part order) flows;
     undone = rest-undone part order old now absent is blocks flows;
@@ -48,28 +50,35 @@ module _ (old now : Contents) (kept : IsKept old) where
 
   -- an order of the book was changed
   module _ (part number : ℕ) (order : Resting) (is_book : IsBook old.book) (found : order_of old.book number ≡ Some order) (blocks : now.blocks ≡ old.blocks) (flows : now.flows ≡ old.flows) where
-    changed-noted : IsOfPart old.book part order → without now.book number ≡ without old.book number → IsNotedBy (change.OrderChanged part order) old now
-    changed-noted of_part less = record {
+    own_number : order.number ≡ number
+    own_number = found-number old.book number order found
+
+    changed-noted : IsOfPart old.book part order → without now.book number ≡ without old.book number → HasItsPlace now.book part order → IsNotedBy (change.OrderChanged part order) old now
+    changed-noted of_part less placed = record {
       kept = kept-flows (parts-less now.book old.book number less) flows;
       undone =
           order-undone part order old now is_book of_part
-          (subst (λ n. without now.book n ≡ without old.book n) (sym (found-number old.book number order found)) less) blocks flows;
+          (subst (λ n. without now.book n ≡ without old.book n) (sym own_number) less) placed blocks flows;
     }
 
     pub fill-noted : (lots moment : ℕ) → IsSomeAnd (order_of old.book number) (λ o. IsOfPart old.book part o × (1 ≤ lots) × (lots ≤ o.shown)) → now.book ≡ filled old.book number lots moment
         → IsNotedBy (change.OrderChanged part order) old now
     fill-noted lots moment asked is =
-        changed-noted (rw found at asked).0
-        (ap (λ b. without b number) is ∙ without-filled old.book number order lots moment found (found-number old.book number order found))
+        let of_part = (rw found at asked).0 in
+        changed-noted of_part (ap (λ b. without b number) is ∙ without-filled old.book number order lots moment found own_number)
+        (subst (λ b. HasItsPlace b part order) (sym is) (filled-placed old.book is_book part order of_part number found own_number lots moment))
 
     pub reduce-noted : (by : ℕ) → IsSomeAnd (order_of old.book number) (λ o. IsOfPart old.book part o × (o.ice ≡ None) × (1 ≤ by) × (by < o.left)) → now.book ≡ reduced old.book number by
         → IsNotedBy (change.OrderChanged part order) old now
     reduce-noted by asked is =
-        changed-noted (rw found at asked).0
-        (ap (λ b. without b number) is ∙ without-reduced old.book number order by found (found-number old.book number order found))
+        let of_part = (rw found at asked).0 in
+        changed-noted of_part (ap (λ b. without b number) is ∙ without-reduced old.book number order by found own_number)
+        (subst (λ b. HasItsPlace b part order) (sym is) (reduced-placed old.book is_book part order of_part number found own_number by))
 
     pub withdraw-noted : IfSome (order_of old.book number) (λ o. IsOfPart old.book part o) → now.book ≡ without old.book number → IsNotedBy (change.OrderChanged part order) old now
-    withdraw-noted asked is = changed-noted (rw found at asked) (ap (λ b. without b number) is ∙ without-twice old.book number)
+    withdraw-noted asked is =
+        changed-noted (rw found at asked) (ap (λ b. without b number) is ∙ without-twice old.book number)
+        (subst (λ b. HasItsPlace b part order) (ap (without old.book) own_number ∙ sym is) (without-placed old.book part order))
 
   pub rest_block-noted : (block : RestingBlock) → block_of old.blocks block.number ≡ None → now.blocks ≡ with_block old.blocks block → now.book ≡ old.book → now.flows ≡ old.flows
       → IsNotedBy (change.BlockRested block.number) old now

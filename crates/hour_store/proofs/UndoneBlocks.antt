@@ -29,15 +29,19 @@ pub block-rest-undone : (block : RestingBlock) (old now : Contents) → block_of
     → now.book ≡ old.book → now.flows ≡ old.flows → IsUndoneBy (change.BlockRested block.number) old now
 block-rest-undone block old now absent is book flows = record {
   can = tt;
+  was = record { book = sym book; blocks_are = sym out; flows = alike-equal now.flows old.flows (sym flows) };
   back = λ before back. record {
     book = back.book ∙ book;
-    blocks =
-        back.blocks_are ∙ ap (λ list. without list block.number) is
-        ∙ filter-put (other_than block.number) number_cmp old.blocks block (ap not (has-number block block.number refl))
-        ∙ filter-all (other_than block.number) old.blocks (λ y i. ap not (has_not-number y block.number (number_absent block.number old.blocks absent y i)));
+    blocks = back.blocks_are ∙ out;
     flows = alike-through old.flows now.flows before.flows (alike-equal old.flows now.flows flows) back.flows;
   };
 }
+  where
+    out : without now.blocks block.number ≡ old.blocks
+    out =
+        ap (λ list. without list block.number) is
+        ∙ filter-put (other_than block.number) number_cmp old.blocks block (ap not (has-number block block.number refl))
+        ∙ filter-all (other_than block.number) old.blocks (λ y i. ap not (has_not-number y block.number (number_absent block.number old.blocks absent y i)))
 
 module _ (blocks : List RestingBlock) (is_book : IsBook blocks) (block : RestingBlock) (found : block_of blocks block.number ≡ Some block) where
   -- put back it is where it was
@@ -66,12 +70,16 @@ block-left-undone block old now is_book found is book flows = record {
     absent = subst (λ list. block_of list block.number ≡ None) (sym is) (find-none block.number (without old.blocks block.number) (λ y i. (from_without block.number y old.blocks i).1));
     place = subst (λ list. length list < 4096) (sym is) (block-place old.blocks is_book block found);
   };
+  was = record { book = sym book; blocks_are = sym again; flows = alike-equal now.flows old.flows (sym flows) };
   back = λ before back. record {
     book = back.book ∙ book;
-    blocks = back.blocks_are ∙ ap (λ list. with_block list block) is ∙ blocks-restored old.blocks is_book block found;
+    blocks = back.blocks_are ∙ again;
     flows = alike-through old.flows now.flows before.flows (alike-equal old.flows now.flows flows) back.flows;
   };
 }
+  where
+    again : with_block now.blocks block ≡ old.blocks
+    again = ap (λ list. with_block list block) is ∙ blocks-restored old.blocks is_book block found
 
 -- where no block is found, none is withdrawn
 pub no_block-withdrawn : (blocks : List RestingBlock) (number : ℕ) → block_of blocks number ≡ None → without blocks number ≡ blocks

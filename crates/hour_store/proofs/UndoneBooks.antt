@@ -1,5 +1,5 @@
 -- What takes a change of the book of orders back.
-use Rattle.std.proofs.Common.{◌≡◌, ◌∙◌, inl, inr, ℕ, suc, ◌/◌, ◌%◌, ◌<◌, ◌==◌, Bool, true, false, not, List, [], ◌∷◌, ◌++◌, length, set, get_or, flat_map, find, Option, Some, None, refl, sym, ap, subst, arith, eqb-true, if◌then◌else◌}
+use Rattle.std.proofs.Common.{◌≡◌, ◌∙◌, inl, inr, ℕ, suc, ◌/◌, ◌%◌, ◌<◌, ◌==◌, Bool, true, false, not, List, [], ◌∷◌, ◌++◌, length, set, get_or, flat_map, find, Some, None, refl, sym, ap, subst, arith, eqb-true, if◌then◌else◌}
 use Rattle.std.proofs.lemmas.Bool.{cases_eq, cases_lt, true≢false}
 use Rattle.std.proofs.lemmas.List.{get_or_past, length-map, map-set, set-get_or}
 use Rattle.std.proofs.lemmas.List.Sorted.{ranks_by}
@@ -12,7 +12,6 @@ use Rattle.zone_graph.specs.Route.{IsIn}
 use Rattle.zone_graph.proofs.Finding.{find-none, from_find}
 use Rattle.zone_graph.proofs.Membership.{IsIn-flat_map}
 use Rattle.zone_graph.proofs.Places.{at_place}
-use Rattle.contract_book.specs.declared.resting.Ice.{Ice}
 use Rattle.contract_book.specs.declared.resting.Resting.{Resting}
 use Rattle.contract_book.specs.Book.{IsBook, changed, changed_line, filled, has_number, line_number, line_of, line_without, order_count, order_of, parts_of, reduced, with_order, without}
 use Rattle.contract_book.specs.Priority.{resting_total}
@@ -23,6 +22,8 @@ use Rattle.hour_store.specs.declared.change.Change.TheVariants as change
 use Rattle.hour_store.specs.Contents.{Contents, IsOfPart}
 use Rattle.hour_store.proofs.Alike.{alike-equal, alike-through}
 use Rattle.hour_store.proofs.Leads.{IsUndoneBy}
+use Rattle.hour_store.specs.TakenBack.{HasItsPlace}
+use Rattle.hour_store.proofs.Places.{number-after, rested-placed}
 use Rattle.hour_store.proofs.PutBack.{filter-put, filter-twice, length-put, map-hides, put-restores}
 
 -- ---- what is left without a number
@@ -44,13 +45,6 @@ without-changed book order number is = map-hides (line_without number) (changed_
               ∙ ap (λ n. line_without number (line_without n l)) is ∙ filter-twice (other_than number) l
           | false ↦ refl
         ]
-
-number-after : (order : Resting) (lots moment : ℕ) → (order_after order lots moment).number ≡ order.number
-number-after order lots moment = go order.ice refl
-  where
-    go : (ice : Option Ice) → order.ice ≡ ice → (order_after order lots moment).number ≡ order.number
-    go None e = rw e refl
-    go (Some ice) e = rw e refl
 
 pub without-filled : (book : List (List Resting)) (number : ℕ) (order : Resting) (lots moment : ℕ) → order_of book number ≡ Some order → order.number ≡ number
     → without (filled book number lots moment) number ≡ without book number
@@ -136,22 +130,30 @@ module _ (book : List (List Resting)) (is_book : IsBook book) (part : ℕ) (orde
 
 -- an order that changed
 pub order-undone : (part : ℕ) (order : Resting) (old now : Contents) → IsBook old.book → IsOfPart old.book part order
-    → without now.book order.number ≡ without old.book order.number → now.blocks ≡ old.blocks → now.flows ≡ old.flows → IsUndoneBy (change.OrderChanged part order) old now
-order-undone part order old now is_book of_part same blocks flows = record {
-  can = record {
-    part_there =
-        let many : length now.book ≡ length old.book = sym (length-map now.book (line_without order.number)) ∙ ap length same ∙ length-map old.book (line_without order.number) in
-        let low = part-there old.book is_book part order of_part in
-        omega (arith, many, low);
-    sound = is_book.sound part order.side order of_part;
-    place = subst (λ b. order_count b < 4096) (sym same) (place-left old.book is_book part order of_part);
-  };
+    → without now.book order.number ≡ without old.book order.number → HasItsPlace now.book part order → now.blocks ≡ old.blocks → now.flows ≡ old.flows
+    → IsUndoneBy (change.OrderChanged part order) old now
+order-undone part order old now is_book of_part same placed blocks flows = record {
+  can = (
+    placed,
+    record {
+      part_there =
+          let many : length now.book ≡ length old.book = sym (length-map now.book (line_without order.number)) ∙ ap length same ∙ length-map old.book (line_without order.number) in
+          let low = part-there old.book is_book part order of_part in
+          omega (arith, many, low);
+      sound = is_book.sound part order.side order of_part;
+      place = subst (λ b. order_count b < 4096) (sym same) (place-left old.book is_book part order of_part);
+    },
+  );
+  was = record { book_is = sym again; blocks = sym blocks; flows = alike-equal now.flows old.flows (sym flows) };
   back = λ before back. record {
-    book = back.book_is ∙ ap (λ b. with_order b part order) same ∙ book-restored old.book is_book part order of_part;
+    book = back.book_is ∙ again;
     blocks = back.blocks ∙ blocks;
     flows = alike-through old.flows now.flows before.flows (alike-equal old.flows now.flows flows) back.flows;
   };
 }
+  where
+    again : with_order (without now.book order.number) part order ≡ old.book
+    again = ap (λ b. with_order b part order) same ∙ book-restored old.book is_book part order of_part
 
 -- ---- an order that came to rest
 
@@ -174,15 +176,19 @@ module _ (book : List (List Resting)) (number : ℕ) (absent : order_of book num
       ∙ set-get_or book k []
 
 pub rest-undone : (part : ℕ) (order : Resting) (old now : Contents) → order_of old.book order.number ≡ None → now.book ≡ with_order old.book part order
-    → now.blocks ≡ old.blocks → now.flows ≡ old.flows → IsUndoneBy (change.OrderRested order.number) old now
+    → now.blocks ≡ old.blocks → now.flows ≡ old.flows → IsUndoneBy (change.OrderRested part order) old now
 rest-undone part order old now absent is blocks flows = record {
-  can = tt;
+  can = subst (λ b. HasItsPlace b part order) (sym is) (rested-placed old.book part order (none-stands old.book order.number absent));
+  was = record { book_is = sym out; blocks = sym blocks; flows = alike-equal now.flows old.flows (sym flows) };
   back = λ before back. record {
-    book = back.book_is ∙ ap (λ b. without b order.number) is ∙ without-rested old.book order.number absent part order refl;
+    book = back.book_is ∙ out;
     blocks = back.blocks ∙ blocks;
     flows = alike-through old.flows now.flows before.flows (alike-equal old.flows now.flows flows) back.flows;
   };
 }
+  where
+    out : without now.book order.number ≡ old.book
+    out = ap (λ b. without b order.number) is ∙ without-rested old.book order.number absent part order refl
 
 -- no order has a number that was left out
 pub absent-without : (book : List (List Resting)) (number : ℕ) → order_of (without book number) number ≡ None

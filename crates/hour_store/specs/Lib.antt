@@ -2,4 +2,5 @@
 pub mod Contents
 pub mod TakenBack
 pub mod Store
+pub mod Changed
 pub mod Inside

@@ -1,10 +1,12 @@
 -- How a change is taken back: when it can be, what becomes of the contents, and where a list of
 -- records leads back to.
 use Rattle.std.specs.Prelude.{◌≡◌, ℕ, ◌<◌, ◌≤◌, ◌==◌, true, List, [], ◌∷◌, length, None, pos, ◌≤ℤ◌}
+use Rattle.order_kinds.specs.declared.side.Side.{Side}
 use Rattle.zone_graph.specs.declared.route.Arc.{Arc}
 use Rattle.zone_graph.specs.Pour.{opposite_arc, same_arc}
+use Rattle.zone_graph.specs.Route.{IsIn}
 use Rattle.contract_book.specs.declared.resting.Resting.{Resting}
-use Rattle.contract_book.specs.Book.{order_count, parts_of, with_order, without}
+use Rattle.contract_book.specs.Book.{line_of, order_count, parts_of, with_order, without}
 use Rattle.contract_book.specs.Resting.{IsSound}
 use Rattle.block_book.specs.declared.block.RestingBlock.{RestingBlock}
 use Rattle.block_book.specs.Book.{block_of, with_block}
@@ -18,6 +20,11 @@ use Rattle.flow_lines.specs.Standing.{IsCarried, IsHaltSet, IsOffered}
 use Rattle.hour_store.specs.declared.change.Change.{Change}
 use Rattle.hour_store.specs.declared.change.Change.TheVariants as change
 use Rattle.hour_store.specs.Contents.{AreAlike, AreSame, Contents, KeepsBooks}
+
+-- who has an order's number in a book rests in its part, on its side and in its zone
+abbrev pub HasItsPlace : (book : List (List Resting)) → (part : ℕ) → Resting → Type 0
+HasItsPlace book part was = (place : ℕ) (side : Side) (order : Resting) → IsIn order (line_of book place side) → order.number ≡ was.number
+    → (place ≡ part) × (side ≡ was.side) × (order.zone ≡ was.zone)
 
 -- an order can rest in a part again, once its record of now is out
 pub record CanRestAgain (book : List (List Resting)) (part : ℕ) (was : Resting) : Type 0 where
@@ -45,8 +52,8 @@ pub record CanOfferIn (flows : Flows) (arc : Arc) (number lots : ℕ) : Type 0 w
 
 -- a change can be taken back
 abbrev pub CanTakeBack : Change → (now : Contents) → Type 0
-CanTakeBack (change.OrderRested number) now = Unit {0}
-CanTakeBack (change.OrderChanged part was) now = CanRestAgain now.book part was
+CanTakeBack (change.OrderRested part order) now = HasItsPlace now.book part order
+CanTakeBack (change.OrderChanged part was) now = HasItsPlace now.book part was × CanRestAgain now.book part was
 CanTakeBack (change.BlockRested number) now = Unit {0}
 CanTakeBack (change.BlockLeft was) now = CanRestBlock now.blocks was
 CanTakeBack (change.Carried arc set lots) now = CanFlow now.flows (opposite_arc arc) set lots
@@ -70,7 +77,7 @@ pub record HasBlocks (blocks : List RestingBlock) (now before : Contents) : Type
 -- blocks; what was carried on an arc is carried on the opposite one, and what was offered, halted or
 -- the phase is again
 abbrev pub IsTakenBack : Change → (now before : Contents) → Type 0
-IsTakenBack (change.OrderRested number) now before = HasBook (without now.book number) now before
+IsTakenBack (change.OrderRested part order) now before = HasBook (without now.book order.number) now before
 IsTakenBack (change.OrderChanged part was) now before = HasBook (with_order (without now.book was.number) part was) now before
 IsTakenBack (change.BlockRested number) now before = HasBlocks (blocks.without now.blocks number) now before
 IsTakenBack (change.BlockLeft was) now before = HasBlocks (with_block now.blocks was) now before
@@ -80,7 +87,9 @@ IsTakenBack (change.HaltSet border was) now before = KeepsBooks now before × Is
 IsTakenBack (change.PhaseSet was) now before = KeepsBooks now before × AreAlike (record now.flows { phase = was }) before.flows
 
 -- records, the last one first, lead from the contents of now back to those of a target: each can be
--- taken back in its turn, and in the end the contents are the same
+-- taken back in its turn, to contents that there are, and in the end the contents are the same
 unfoldable pub LeadsBack : List Change → (now target : Contents) → Type 0
 LeadsBack [] now target = AreSame target now
-LeadsBack (last ∷ records) now target = CanTakeBack last now × ((before : Contents) → IsTakenBack last now before → LeadsBack records before target)
+LeadsBack (last ∷ records) now target =
+    CanTakeBack last now × ((before : Contents) × IsTakenBack last now before)
+    × ((before : Contents) → IsTakenBack last now before → LeadsBack records before target)

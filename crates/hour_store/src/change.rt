@@ -11,8 +11,10 @@ use zone_graph::Arc;
 pub enum Change {
     /// An order came to rest.
     OrderRested {
-        /// Its number.
-        number: u32,
+        /// The number of its part.
+        part: u32,
+        /// Its record.
+        order: Resting,
     },
 
     /// An order was filled, reduced or withdrawn.

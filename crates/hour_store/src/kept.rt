@@ -43,8 +43,8 @@ fn take_back(kept: &mut Kept, change: Change)
     ensures kept { IsKept (contents_of kept.new) }
 {
     match change {
-        Change::OrderRested { number } => {
-            kept.book.withdraw(number);
+        Change::OrderRested { order, .. } => {
+            kept.book.withdraw(order.number);
         }
         Change::OrderChanged { part, was } => put_back(&mut kept.book, part, was),
         Change::BlockRested { number } => {

@@ -11,6 +11,7 @@
 #![tactic(auto)]
 
 mod change;
+mod changed;
 mod faults;
 mod flows;
 mod kept;
@@ -18,6 +19,7 @@ mod orders;
 mod store;
 
 pub use change::Change;
+pub use changed::{ChangedZones, flows_change_where_noted, lines_change_in_their_zones};
 pub use faults::Full;
 pub use store::HourStore;
 pub use zone_graph::NoMemory;

@@ -1,6 +1,7 @@
 //! The store.
 
 ghost use Rattle.std.specs.Prelude.{◌≡◌, ◌↔◌, ◌==◌, ◌&&◌, ◌+◌, ◌-◌, ◌*◌, ◌≤◌, ◌<◌, ◌≤ℤ◌, pos, true, [], replicate, length, Some, None, IsErr, IsTrue, IfOk, IfSome, OnOk, OnErr};
+ghost use Rattle.std.specs.List.{list_any};
 ghost use Rattle.std.specs.Option.{IsSomeAnd, option_to_list};
 ghost use Rattle.zone_graph.specs.Pour.{same_arc, uses};
 ghost use Rattle.contract_book.specs.Resting.{IsSound};
@@ -10,9 +11,11 @@ ghost use Rattle.flow_netting.specs.Flows as flow;
 ghost use Rattle.flow_netting.specs.QuarterSet.{has};
 ghost use Rattle.flow_lines.specs.Standing.{IsCarried, IsHaltSet, IsIdle, IsOffered};
 ghost use Rattle.hour_store.specs.Contents.{AreSame, Contents, IsOfPart, NothingOverdrawn, OffersInRange};
+ghost use Rattle.hour_store.specs.Changed.{AreChangedZones, changes_flows};
 ghost use Rattle.hour_store.specs.Store.{GoesBackTo, StillLeadsBack};
 
 use crate::change::Change;
+use crate::changed::{ChangedZones, any_changes_flows, zones_of_changes};
 use crate::faults::Full;
 use crate::flows::{grant_in, offer_one, offered, set_halt};
 use crate::kept::{Kept, take_all_back};
@@ -151,9 +154,7 @@ impl HourStore {
         let Ok(()) = self.kept.book.rest(part, order) else {
             return Err(Full);
         };
-        self.log.note(Change::OrderRested {
-            number: order.number,
-        });
+        self.log.note(Change::OrderRested { part, order });
         Ok(())
     }
 
@@ -379,6 +380,21 @@ impl HourStore {
         ensures spare { self.new.spare ≡ self.old.spare + length self.old.changes }
     {
         self.log.clear();
+    }
+
+    /// In which zones the orders of each part and side have changed since the last settling: one walk of
+    /// the noted changes. It takes no memory.
+    pub fn changed_zones(&self) -> ChangedZones
+        ensures { AreChangedZones self.now.changes result }
+    {
+        zones_of_changes(self.log.as_slice())
+    }
+
+    /// Whether the flows have changed since the last settling: an offer, what flows, a halt or the phase.
+    pub fn flows_changed(&self) -> bool
+        ensures { result ≡ list_any changes_flows self.now.changes }
+    {
+        any_changes_flows(self.log.as_slice())
     }
 
     /// Whether no change is noted.

@@ -16,3 +16,4 @@ pub mod Counting
 pub mod Carrying
 pub mod MadeDeals
 pub mod DealCalls
+pub mod ChangedZones

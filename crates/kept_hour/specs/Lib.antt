@@ -6,3 +6,4 @@ pub mod Showing
 pub mod Legs
 pub mod Deals
 pub mod Bits
+pub mod Changed

@@ -12,6 +12,7 @@
 mod blocks;
 mod board;
 mod capacity;
+mod changed;
 mod changes;
 mod cutting;
 mod dealing;

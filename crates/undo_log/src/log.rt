@@ -81,6 +81,13 @@ impl<C> UndoLog<C> {
         self.records.pop()
     }
 
+    /// The records, from the first that was noted to the last.
+    pub fn as_slice(&self) -> &[C]
+        ensures { result.now ≡ self.now.records }
+    {
+        self.records.as_slice()
+    }
+
     /// The number of records.
     pub fn len(&self) -> usize
         ensures { result ≡ length self.now.records }

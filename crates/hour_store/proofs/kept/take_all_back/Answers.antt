@@ -17,7 +17,7 @@ loop-change-preserved c =
     let can = c.loop-change.invariant.can in
     let is : c.loop-change.log.records ≡ c.back.new.self.records ++ c.in-Some.change ∷ [] = c.in-Some.ensures.records in
     let back = λ (target : Contents) (leads : LogLeadsBack c.loop-change.log.records now target).
-    (led-noted c.back.new.self.records c.in-Some.change now target (subst (λ list. LogLeadsBack list now target) is leads)).1 before c.take_back.ensures.back in
+    (led-noted c.back.new.self.records c.in-Some.change now target (subst (λ list. LogLeadsBack list now target) is leads)).2 before c.take_back.ensures.back in
     record {
       kept = c.take_back.ensures.kept;
       can = record { target = can.target; leads = back can.target can.leads };

@@ -13,7 +13,7 @@ abbrev now : goal.After-note → Contents
 now c = record { book = c.rest.new.self; blocks = c.self.inside.kept.blocks; flows = c.self.inside.kept.flows }
 
 abbrev record_of : goal.After-note → Change
-record_of c = change.OrderRested c.args.order.number
+record_of c = change.OrderRested c.args.part c.args.order
 
 noted : (c : goal.After-note) → IsNotedBy (record_of c) (contents_of c.self.inside.kept) (now c)
 noted c =

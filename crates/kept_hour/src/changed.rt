@@ -1,0 +1,37 @@
+//! What an hour's planned events have changed of what its views see.
+
+ghost use Rattle.std.specs.Prelude.{◌≡◌, ◌≤◌, None, false};
+ghost use Rattle.zone_graph.specs.Graph.{most_zones, zone_count};
+ghost use Rattle.hour_store.specs.Changed.{no_zones};
+ghost use Rattle.kept_hour.specs.Changed.{AreBoards, AreRoomsSettled, AreSeenElsewhere};
+
+use crate::hour::KeptHour;
+use hour_store::ChangedZones;
+
+impl KeptHour {
+    /// In which zones the orders of each part and side have changed since the hour was settled: elsewhere
+    /// they are seen as settled. It takes no memory.
+    ///
+    /// No order is in hand, and the grid has at most 64 zones, as every one has.
+    pub fn changed_zones(&self) -> ChangedZones
+        requires free { self.now.board.hand ≡ None }
+        requires zones { zone_count self.now.board.grid ≤ most_zones }
+        ensures boards { AreBoards self.now }
+        ensures seen { AreSeenElsewhere self.now result }
+        ensures unplanned { self.now.board.events ≡ self.now.settled → result ≡ no_zones }
+    {
+        if self.settled == self.events.len() {
+            return ChangedZones::none();
+        }
+        self.store.changed_zones()
+    }
+
+    /// Whether the flows of the hour have changed since it was settled: an offer, what flows, a halt or the
+    /// phase. Where they have not, each arc has the room that it had.
+    pub fn flows_changed(&self) -> bool
+        ensures rooms { result ≡ false → AreRoomsSettled self.now }
+        ensures unplanned { self.now.board.events ≡ self.now.settled → result ≡ false }
+    {
+        self.settled < self.events.len() && self.store.flows_changed()
+    }
+}
