@@ -7,7 +7,8 @@ use Rattle.market_text.specs.Text.{session_of_text}
 use Rattle.session_run.specs.declared.status.Status.{Status}
 use Rattle.session_run.specs.declared.status.Status.TheVariants as status
 use Rattle.session_run.specs.Outcomes.{Generated, Replayed}
-use Rattle.session_run.specs.Reading.{Reads, longest_session}
+use Rattle.session_io.specs.Reading.{longest_session}
+use Rattle.session_run.specs.Reading.{Reads}
 
 -- what came of known bytes is no more than they are
 no-more : (left new : Option (List ℕ)) (input bytes : List ℕ) → Consumes left new input → left ≡ Some bytes → length input ≤ length bytes

@@ -1,38 +1,10 @@
 -- What a run does to its source.
-use Rattle.std.specs.Prelude.{◌≡◌, ◌≢◌, ℕ, ◌<◌, ◌≤◌, List, [], length, ◌++◌, Option, Bool, true, false, IsTrue}
-use Rattle.std.specs.Io.KnownBytes.{Consumes, IsAtEnd, Keeps}
-use Rattle.session_run.specs.declared.reading.ReadError.{ReadError}
-use Rattle.session_run.specs.declared.reading.ReadError.TheVariants as stopped
+use Rattle.std.specs.Prelude.{◌≡◌, ◌≢◌, ℕ, ◌<◌, ◌≤◌, List, length, Option, IsTrue}
+use Rattle.std.specs.Io.KnownBytes.{Consumes, IsAtEnd}
+use Rattle.session_io.specs.Reading.{longest_session}
 use Rattle.session_run.specs.declared.status.Status.{Status}
 use Rattle.session_run.specs.declared.status.Status.TheVariants as status
 use Rattle.session_run.specs.Status.{reads_to_end}
-
--- the most bytes that a session may have
-abbrev pub longest_session : ℕ
-longest_session = 8388608
-
--- one more read: what came stands behind the bytes before it, and where the input does not go on
--- the source is at its end
-pub record ReadsMore (old new : Option (List ℕ)) (before after : List ℕ) (more : Bool) : Type 0 where
-  pub came : List ℕ
-  pub consumed : Consumes old new came
-  pub grown : after ≡ before ++ came
-  pub some : more ≡ true → 0 < length came
-  pub none : more ≡ false → came ≡ []
-  pub ended : more ≡ false → IsAtEnd new
-
--- a read that gave nothing: a fault took nothing, and no read is too long
-abbrev pub GivesNothing : Option (List ℕ) → Option (List ℕ) → ReadError → Type 0
-GivesNothing old new stopped.Fault = Keeps old new
-GivesNothing old new stopped.TooLong = ⊥
-GivesNothing old new stopped.NoMemory = Unit {0}
-
--- what came before the reading stopped: more than a session may have, or no more than that; where
--- memory was wanting nothing is said of it
-abbrev pub Stops : Option (List ℕ) → Option (List ℕ) → ReadError → Type 0
-Stops old new stopped.Fault = (input : List ℕ) × Consumes old new input × (length input ≤ longest_session)
-Stops old new stopped.TooLong = (input : List ℕ) × Consumes old new input × (longest_session < length input)
-Stops old new stopped.NoMemory = Unit {0}
 
 -- these bytes came from the source; they are too many exactly where the run says so, and the
 -- source is at its end unless a fault or too many bytes stopped the reading

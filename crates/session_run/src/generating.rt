@@ -5,12 +5,12 @@ ghost use Rattle.outside.specs.Faults.{Rose};
 ghost use Rattle.session_run.specs.Journal.{IsSummaryOf};
 ghost use Rattle.session_run.specs.Outcomes.{Generated};
 
-use crate::journal::journal_of;
 use crate::status::Status;
-use crate::writing::write_lines;
 use load_maker::{session_text, summary};
 use market_text::{TextFault, read_session};
 use outside::Sink;
+use session_io::write_lines;
+use session_play::journal_of;
 use std::alloc::Global;
 use zone_graph::{NoMemory, Text};
 

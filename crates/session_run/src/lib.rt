@@ -2,18 +2,9 @@
 //! generated, the market that it plays, and the journal or its summary written to a sink.
 #![tactic(auto)]
 
-mod counts;
 mod generating;
-mod journal;
-mod laws;
-mod reading;
 mod running;
 mod status;
-mod writing;
 
-pub use laws::each_command_once;
 pub use running::{run, run_alone};
 pub use status::{Status, message};
-
-#[cfg(test)]
-mod tests;

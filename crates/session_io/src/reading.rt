@@ -1,0 +1,88 @@
+//! The source is read to its end.
+
+ghost use Rattle.std.specs.Prelude.{◌≡◌, ◌<◌, ◌≤◌, length, vec_len, IfOk, IfErr};
+ghost use Rattle.std.specs.Io.KnownBytes.{Consumes, IsAtEnd};
+ghost use Rattle.outside.specs.Faults.{Rose};
+ghost use Rattle.session_io.specs.Reading.{longest_session, GivesNothing, ReadsMore, Stops};
+
+use outside::Source;
+use std::alloc::{AllocError, Global};
+
+/// The most bytes that a session may have.
+pub const LONGEST_SESSION: usize = 8_388_608;
+
+// How many bytes are asked for at a time.
+const PIECE: usize = 65_536;
+
+/// Why a source was not read to its end.
+#[derive(Clone, Copy, Debug, PartialEq, Eq)]
+pub enum ReadError {
+    /// A read failed.
+    Fault,
+    /// More bytes came than a session may have.
+    TooLong,
+    /// There was no memory.
+    NoMemory,
+}
+
+impl From<AllocError> for ReadError {
+    ghost use Rattle.std.specs.Prelude.{◌≡◌};
+    ghost use Rattle.session_io.specs.declared.reading.ReadError.TheVariants.{NoMemory};
+
+    ghost from_gives = { λ _ error. error ≡ NoMemory };
+
+    fn from(_error: AllocError) -> ReadError {
+        ReadError::NoMemory
+    }
+}
+
+/// Reads a source to its end.
+///
+/// Each read but the last gives at least one byte, and none is made once more than
+/// [`LONGEST_SESSION`] bytes came: so there are at most 8388609 reads.
+pub fn read_all<S: Source>(alloc: Global, source: &mut S) -> Result<Vec<u8>, ReadError>
+    ensures count { S.faults source.old ≤ S.faults source.new }
+    ensures bytes { IfOk result (λ bytes. Consumes (S.left source.old) (S.left source.new) bytes.items) }
+    ensures end { IfOk result (λ bytes. IsAtEnd (S.left source.new)) }
+    ensures short { IfOk result (λ bytes. vec_len bytes ≤ longest_session) }
+    ensures stopped { IfErr result (Stops (S.left source.old) (S.left source.new)) }
+    ensures fault { result ≡ Err ReadError.Fault → Rose (S.faults source.old) (S.faults source.new) }
+{
+    let mut piece = zeros(alloc, PIECE)?;
+    let mut bytes = Vec::new(alloc);
+    while bytes.len() <= LONGEST_SESSION {
+        match read_more(source, piece.as_mut_slice(), &mut bytes) {
+            Ok(true) => {}
+            Ok(false) => return Ok(bytes),
+            Err(error) => return Err(error),
+        }
+    }
+    Err(ReadError::TooLong)
+}
+
+// Room for this many bytes.
+fn zeros(alloc: Global, count: usize) -> Result<Vec<u8>, ReadError>
+    ensures room { IfOk result (λ bytes. vec_len bytes ≡ count) }
+    ensures memory { IfErr result (λ error. error ≡ ReadError.NoMemory) }
+{
+    Ok(vec![in alloc; 0u8; count]?)
+}
+
+// Reads once, and puts what came behind the bytes so far. It answers whether the input goes on.
+fn read_more<S: Source>(
+    source: &mut S,
+    piece: &mut [u8],
+    bytes: &mut Vec<u8>,
+) -> Result<bool, ReadError>
+    requires { 0 < length piece.old }
+    ensures count { S.faults source.old ≤ S.faults source.new }
+    ensures more { IfOk result (ReadsMore (S.left source.old) (S.left source.new) bytes.old.items bytes.new.items) }
+    ensures nothing { IfErr result (GivesNothing (S.left source.old) (S.left source.new)) }
+    ensures fault { result ≡ Err ReadError.Fault → Rose (S.faults source.old) (S.faults source.new) }
+{
+    let Ok(count) = source.read(piece) else {
+        return Err(ReadError::Fault);
+    };
+    bytes.extend_from_slice(&piece[..count])?;
+    Ok(count > 0)
+}

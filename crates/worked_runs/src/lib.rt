@@ -1,0 +1,9 @@
+//! Tests of whole runs of the program.
+//!
+//! A crate that has tests is proved once more for them, so these stand beside the crate of the run.
+#![tactic(auto)]
+
+#[cfg(test)]
+mod run_tests;
+mod sessions;
+mod streams;
