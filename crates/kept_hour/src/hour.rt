@@ -75,7 +75,7 @@ impl KeptHour {
 
     /// Its number, counted from 1 through the delivery day.
     pub fn hour(&self) -> u32
-        ensures { result ≡ self.now.board.hour }
+        ensures number { result ≡ self.now.board.hour }
         ensures parts { self.now.board.parts ≡ 7 }
     {
         self.hour
