@@ -1,6 +1,5 @@
 -- A deal of two blocks, as the fields of a kept hour have it.
-use Rattle.std.proofs.Common.{◌≡◌, ◌∙◌, ℕ, ◌==◌, List, ◌++◌, length-append, Option, None, sym, ap, subst, arith}
-use Rattle.std.proofs.lemmas.List.{take-append-le}
+use Rattle.std.proofs.Common.{◌≡◌, ℕ, ◌==◌, List, ◌++◌, length-append, Option, None, sym, subst, arith}
 use Rattle.zone_graph.specs.Graph.{Graph}
 use Rattle.block_match.specs.declared.deal.BlockDeal.{BlockDeal}
 use Rattle.block_match.specs.Market.{deal_events}
@@ -9,12 +8,12 @@ use Rattle.hour_store.specs.Contents.{Contents}
 use Rattle.hour_store.specs.Store.{StillLeadsBack, Store}
 use Rattle.kept_hour.specs.Deals.{CanCarryAll, ClosesBoth, IsDealtIn}
 use Rattle.kept_hour.specs.Kept.{IsKept, hour_of}
-use Rattle.kept_hour.specs.Planned.{CanFollow, after_events}
+use Rattle.kept_hour.specs.Planned.{CanFollow}
 use Rattle.kept_hour.specs.State.{HourState}
 use Rattle.kept_hour.proofs.BoardCalls.{leads-through, same-leads}
 use Rattle.kept_hour.proofs.MadeDeals.{can-carry-all, dealt-keeps}
 use Rattle.kept_hour.proofs.Keeping.{own}
-use Rattle.kept_hour.proofs.Wrapped.{to-own}
+use Rattle.kept_hour.proofs.Wrapped.{after-many, to-own}
 
 module _ (grid : Graph) (number : ℕ) (events : List Event) (settled : ℕ) (hand : Option ℕ) (numbers settled_numbers : ℕ) (store : Store)
     (kept : IsKept (own grid number events settled hand) settled numbers settled_numbers store)
@@ -38,12 +37,6 @@ module _ (grid : Graph) (number : ℕ) (events : List Event) (settled : ℕ) (ha
       subst (λ (c : Contents). CanCarryAll c.flows deal.legs) (sym same_contents)
       (can-carry-all mine numbers settled_numbers store kept.keeps free_own first last deal next_own)
 
-  -- some events more, and no order in hand
-  after-is : (more : List Event) → hour_of grid number (events ++ more) settled hand ≡ after_events mine more
-  after-is more =
-      ap (hour_of grid number (events ++ more) settled) free_own
-      ∙ ap (λ es. record (hour_of grid number (events ++ more) settled None) { settled = es }) (take-append-le settled events more kept.first_part)
-
   pub dealt-kept : (seen.board.hour ≡ first → ClosesBoth seen first last deal) → (after : List Event) → after ≡ events ++ deal_events first last deal
       → (new : Store) → IsDealtIn (number == first) deal reserved.contents new.contents → StillLeadsBack reserved new
       → IsKept (hour_of grid number after settled hand) settled numbers settled_numbers new
@@ -51,7 +44,7 @@ module _ (grid : Graph) (number : ℕ) (events : List Event) (settled : ℕ) (ha
       let whole_own : number ≡ first → ClosesBoth mine first last deal = here (λ h. h.board.hour ≡ first → ClosesBoth h first last deal) whole in
       let long = length-append events (deal_events first last deal) in
       subst (λ es. IsKept (hour_of grid number es settled hand) settled numbers settled_numbers new) (sym is)
-      (subst (λ h. IsKept h settled numbers settled_numbers new) (sym (after-is (deal_events first last deal)))
+      (subst (λ h. IsKept h settled numbers settled_numbers new) (sym (after-many grid number events settled hand numbers settled_numbers store kept seen view_is free_own (deal_events first last deal)))
       (record {
         first_part = (let few = kept.first_part in omega (arith, few, long));
         keeps = dealt-keeps mine numbers settled_numbers store kept.keeps free_own first last deal next_own whole_own new

@@ -16,4 +16,6 @@ pub mod Counting
 pub mod Carrying
 pub mod MadeDeals
 pub mod DealCalls
+pub mod DealtEntries
+pub mod DealtEntryCalls
 pub mod ChangedZones

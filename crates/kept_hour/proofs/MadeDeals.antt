@@ -5,7 +5,6 @@ use Rattle.std.proofs.lemmas.List.{append-nil}
 use Rattle.order_kinds.specs.declared.order.OrderName.{OrderName}
 use Rattle.zone_graph.specs.declared.route.RouteLeg.{RouteLeg}
 use Rattle.zone_graph.specs.Graph.{Graph}
-use Rattle.block_book.specs.declared.block.RestingBlock.{RestingBlock}
 use Rattle.block_book.specs.Book as block_books
 use Rattle.block_lines.specs.BlocksOf.{blocks_of}
 use Rattle.block_lines.specs.LegLaws.{without_both}
@@ -66,14 +65,14 @@ module _ (grid : Graph) (hour first last : ℕ) (deal : BlockDeal) where
       }
 
   -- what legs make of the books of an hour
-  record IsDealt (events after : List Event) : Type 0 where
-    book : book_of after hour ≡ book_of events hour
-    later : hour ≢ first → blocks_of after hour ≡ blocks_of events hour
-    others : hour ≡ first → without_both (blocks_of after hour) deal.taker deal.maker ≡ without_both (blocks_of events hour) deal.taker deal.maker
-    few : resting_count after hour None ≤ resting_count events hour None
-    same_next : next_name after hour ≡ next_name events hour
+  pub record IsDealt (events after : List Event) : Type 0 where
+    pub book : book_of after hour ≡ book_of events hour
+    pub later : hour ≢ first → blocks_of after hour ≡ blocks_of events hour
+    pub others : hour ≡ first → without_both (blocks_of after hour) deal.taker deal.maker ≡ without_both (blocks_of events hour) deal.taker deal.maker
+    pub few : resting_count after hour None ≤ resting_count events hour None
+    pub same_next : next_name after hour ≡ next_name events hour
 
-  dealt : (legs : List RouteLeg) (events : List Event) → IsHourOf grid hour (events ++ trades legs) → IsDealt events (events ++ trades legs)
+  pub dealt : (legs : List RouteLeg) (events : List Event) → IsHourOf grid hour (events ++ trades legs) → IsDealt events (events ++ trades legs)
   dealt [] events stands = subst (IsDealt events) (sym (append-nil events)) (record {
     book = refl;
     later = λ apart. refl;
@@ -93,8 +92,19 @@ module _ (grid : Graph) (hour first last : ℕ) (deal : BlockDeal) where
         same_next = rest.same_next ∙ one.same_next;
       })
 
+  -- where the two blocks start, and nothing is left of them, both are gone
+  pub both-out : (events : List Event) → IsHourOf grid hour (events ++ trades deal.legs) → hour ≡ first
+      → is_open (events ++ trades deal.legs) (record { hour = first; number = deal.taker }) ≡ false
+      → is_open (events ++ trades deal.legs) (record { hour = first; number = deal.maker }) ≡ false
+      → blocks_of (events ++ trades deal.legs) hour ≡ without_both (blocks_of events hour) deal.taker deal.maker
+  both-out events stands here taker maker =
+      let after : List Event = events ++ trades deal.legs in
+      let gone : (number : ℕ) → is_open after (record { hour = first; number = number }) ≡ false → block_books.without (blocks_of after hour) number ≡ blocks_of after hour =
+      λ number none. closed_gone grid hour after number stands (subst (λ h. is_open after (record { hour = h; number = number }) ≡ false) (sym here) none) in
+      sym (ap (λ b. block_books.without b deal.maker) (gone deal.taker taker) ∙ gone deal.maker maker) ∙ (dealt deal.legs events stands).others here
+
   -- and of its flows
-  can-carry : (legs : List RouteLeg) (events : List Event) (flows : Flows) → IsHourOf grid hour (events ++ trades legs) → Stands grid events hour flows
+  pub can-carry : (legs : List RouteLeg) (events : List Event) (flows : Flows) → IsHourOf grid hour (events ++ trades legs) → Stands grid events hour flows
       → CanCarryAll flows legs
   can-carry [] events flows stands is = tt
   can-carry (leg ∷ legs) events flows stands is =
@@ -103,7 +113,7 @@ module _ (grid : Graph) (hour first last : ℕ) (deal : BlockDeal) where
         λ set next of_hour carries. can-carry legs (and_then events (trade leg)) next start.rest (start.one.flows set flows next is of_hour carries),
       )
 
-  stand-after : (legs : List RouteLeg) (events : List Event) (old new : Flows) → IsHourOf grid hour (events ++ trades legs) → Stands grid events hour old
+  pub stand-after : (legs : List RouteLeg) (events : List Event) (old new : Flows) → IsHourOf grid hour (events ++ trades legs) → Stands grid events hour old
       → AreCarried legs old new → Stands grid (events ++ trades legs) hour new
   stand-after [] events old new stands is same =
       subst (λ es. Stands grid es hour new) (sym (append-nil events)) (subst (Stands grid events hour) (sym same) is)
@@ -125,22 +135,12 @@ module _ (hour : HourState) (numbers settled_numbers : ℕ) (store : Store) (kee
   is-dealt : IsDealt hour.board.grid hour.board.hour first last deal hour.board.events after
   is-dealt = dealt hour.board.grid hour.board.hour first last deal deal.legs hour.board.events next
 
-  -- where the two blocks start, both are gone
-  out : (hour.board.hour ≡ first → ClosesBoth hour first last deal) → hour.board.hour ≡ first
-      → blocks_of after hour.board.hour ≡ without_both (blocks_of hour.board.events hour.board.hour) deal.taker deal.maker
-  out whole here =
-      let closes = whole here in
-      let book : List RestingBlock = blocks_of after hour.board.hour in
-      let taker = closed_gone hour.board.grid hour.board.hour after deal.taker next
-      (subst (λ h. is_open after (record { hour = h; number = deal.taker }) ≡ false) (sym here) closes.taker) in
-      let maker = closed_gone hour.board.grid hour.board.hour after deal.maker next
-      (subst (λ h. is_open after (record { hour = h; number = deal.maker }) ≡ false) (sym here) closes.maker) in
-      sym (ap (λ b. block_books.without b deal.maker) taker ∙ maker) ∙ is-dealt.others here
-
   blocks-after : (hour.board.hour ≡ first → ClosesBoth hour first last deal) → (starts : Bool) → (hour.board.hour == first) ≡ starts
       → (if starts then without_both store.contents.blocks deal.taker deal.maker else store.contents.blocks) ≡ blocks_of after hour.board.hour
   blocks-after whole true e =
-      ap (λ b. without_both b deal.taker deal.maker) keeps.contents.blocks ∙ sym (out whole (eqb-true hour.board.hour first e))
+      let out : hour.board.hour ≡ first → blocks_of after hour.board.hour ≡ without_both (blocks_of hour.board.events hour.board.hour) deal.taker deal.maker =
+      λ here. both-out hour.board.grid hour.board.hour first last deal hour.board.events next here (whole here).taker (whole here).maker in
+      ap (λ b. without_both b deal.taker deal.maker) keeps.contents.blocks ∙ sym (out (eqb-true hour.board.hour first e))
   blocks-after whole false e =
       keeps.contents.blocks ∙ sym (is-dealt.later (λ same. true≢false (sym (eq-eqb hour.board.hour first same) ∙ e)))
 

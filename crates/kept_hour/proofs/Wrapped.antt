@@ -1,5 +1,6 @@
 -- A kept hour after one more event, as its fields have it.
-use Rattle.std.proofs.Common.{◌≡◌, ℕ, ◌+◌, List, [], ◌∷◌, ◌++◌, Option, Some, None, sym, subst}
+use Rattle.std.proofs.Common.{◌≡◌, ◌∙◌, ℕ, ◌+◌, List, [], ◌∷◌, ◌++◌, Option, Some, None, sym, ap, subst}
+use Rattle.std.proofs.lemmas.List.{take-append-le}
 use Rattle.order_kinds.specs.declared.order.Order.{Order}
 use Rattle.zone_graph.specs.Graph.{Graph}
 use Rattle.market_model.specs.declared.event.Event.{Event}
@@ -8,6 +9,7 @@ use Rattle.market_model.specs.History.{and_then}
 use Rattle.market_model.specs.Orders.{next_name}
 use Rattle.hour_store.specs.Store.{Store}
 use Rattle.kept_hour.specs.Kept.{IsKept, hour_of}
+use Rattle.kept_hour.specs.Planned.{after_events}
 use Rattle.kept_hour.specs.State.{CanBeNext, HourState, entry_of, withdrawal_of}
 use Rattle.kept_hour.proofs.Entering.{entered-next, number-is}
 use Rattle.kept_hour.proofs.Hands.{withdrawn-next}
@@ -26,6 +28,12 @@ module _ (grid : Graph) (number : ℕ) (events : List Event) (settled : ℕ) (ha
   kept-by event later more new after is next =
       subst (λ es. IsKept (hour_of grid number es settled later) settled more settled_numbers new) (sym is)
       (kept-next grid number events settled hand numbers settled_numbers store kept event later more new next)
+
+  -- some events more, and no order in hand
+  pub after-many : hand ≡ None → (more : List Event) → hour_of grid number (events ++ more) settled hand ≡ after_events (own grid number events settled hand) more
+  after-many free_own more =
+      ap (hour_of grid number (events ++ more) settled) free_own
+      ∙ ap (λ es. record (hour_of grid number (events ++ more) settled None) { settled = es }) (take-append-le settled events more kept.first_part)
 
   -- an order enters
   pub entered-kept : (caller : ℕ) (order : Order) → seen.board.hand ≡ None → CanBeNext seen (entry_of seen caller order) → (after : List Event)

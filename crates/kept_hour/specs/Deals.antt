@@ -1,6 +1,8 @@
--- The deals of two blocks in a kept hour: when they close both, and how their legs are carried.
-use Rattle.std.specs.Prelude.{◌≡◌, ℕ, Bool, false, List, [], ◌∷◌, ◌++◌, length, sum_by, if◌then◌else◌}
+-- The deals of two blocks in a kept hour: when they close both, how their legs are carried, and the entry of a
+-- block that trades at once.
+use Rattle.std.specs.Prelude.{◌≡◌, ℕ, Bool, false, List, [], ◌∷◌, ◌++◌, None, length, sum_by, if◌then◌else◌}
 use Rattle.order_kinds.specs.declared.contract.Part.TheVariants as part
+use Rattle.order_kinds.specs.declared.order.BlockOrder.{BlockOrder}
 use Rattle.zone_graph.specs.declared.route.RouteLeg.{RouteLeg}
 use Rattle.zone_graph.specs.Pour.{uses}
 use Rattle.block_lines.specs.LegLaws.{without_both}
@@ -11,14 +13,23 @@ use Rattle.flow_netting.specs.Flows.{Flows}
 use Rattle.flow_netting.specs.QuarterSet.{has}
 use Rattle.flow_lines.specs.CallLaws.{CanCarry}
 use Rattle.flow_lines.specs.Standing.{IsCarried, IsSetOf}
+use Rattle.market_model.specs.declared.event.Event.{Event}
 use Rattle.market_model.specs.Orders.{is_open}
 use Rattle.hour_store.specs.Contents.{Contents}
-use Rattle.kept_hour.specs.State.{HourState}
+use Rattle.kept_hour.specs.State.{HourState, after_event, block_entry_of}
 
 -- nothing is left of the two blocks of a deal, which start in this hour, once its legs are made
 pub record ClosesBoth (hour : HourState) (first last : ℕ) (deal : BlockDeal) : Type 0 where
   pub taker : is_open (hour.board.events ++ deal_events first last deal) (record { hour = first; number = deal.taker }) ≡ false
   pub maker : is_open (hour.board.events ++ deal_events first last deal) (record { hour = first; number = deal.maker }) ≡ false
+
+-- a block enters under the next number of the hour, and its deal is made
+abbrev pub dealt_entry : HourState → (caller : ℕ) → BlockOrder → BlockDeal → List Event
+dealt_entry hour caller order deal = block_entry_of hour caller order ∷ deal_events order.first order.last deal
+
+-- the hour with the entry alone
+abbrev pub with_entry : HourState → (caller : ℕ) → BlockOrder → HourState
+with_entry hour caller order = after_event hour (block_entry_of hour caller order) None
 
 -- how many arcs the routes of legs have together
 abbrev pub arc_count : List RouteLeg → ℕ

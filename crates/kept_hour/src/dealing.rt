@@ -4,13 +4,14 @@ ghost use Rattle.std.specs.Prelude.{◌≡◌, ◌+◌, ◌≤◌, [], ◌∷◌
 ghost use Rattle.block_lines.specs.LegLaws.{without_both};
 ghost use Rattle.block_match.specs.Market.{deal_events, leg_event};
 ghost use Rattle.hour_store.specs.Store.{StillLeadsBack};
+ghost use Rattle.market_model.specs.declared.event.Event.TheVariants as event;
 ghost use Rattle.kept_hour.specs.Deals as deals;
 
 use crate::cutting::cut;
 use crate::parts::quarters_of;
 use block_match::BlockDeal;
 use hour_store::HourStore;
-use market_model::{Event, Events, Leg, OrderName};
+use market_model::{BlockOrder, Event, Events, Leg, OrderName};
 use zone_graph::{Duplicate, NoMemory, RouteLeg};
 
 // The part that delivers in every quarter: the hour itself.
@@ -70,6 +71,34 @@ pub(crate) fn push_deal(
             return Err(NoMemory);
         };
     }
+    Ok(())
+}
+
+/// Puts the entry of a block and the legs of its deal behind the events.
+///
+/// # Errors
+///
+/// [`NoMemory`] where memory runs out, and then the events are as before.
+pub(crate) fn push_dealt_entry(
+    events: &mut Events,
+    name: OrderName,
+    caller: u32,
+    order: &BlockOrder,
+    deal: &BlockDeal,
+) -> Result<(), NoMemory>
+    ensures pushed { OnOk result (events.new ≡ events.old ++ event.EnteredBlock name caller order.now ∷ deal_events order.now.first order.now.last deal.now) }
+    ensures unchanged { OnErr result (events.new ≡ events.old) }
+{
+    let len = events.len();
+    events.push(Event::EnteredBlock {
+        name,
+        caller,
+        order: *order,
+    })?;
+    let Ok(()) = push_deal(events, order.first, order.last, deal) else {
+        cut(events, len);
+        return Err(NoMemory);
+    };
     Ok(())
 }
 
