@@ -1,0 +1,10 @@
+pub mod Hours
+pub mod Staying
+pub mod Opened
+pub mod Planning
+pub mod Lowered
+pub mod SameRooms
+pub mod Periods
+pub mod Fewer
+pub mod Making
+pub mod NextDeals

@@ -1,0 +1,81 @@
+//! Whether legs may give an arc of an hour its first room.
+
+ghost use Rattle.std.specs.Prelude.{◌≡◌, ◌≤◌, nat_lt};
+ghost use Rattle.order_kinds.specs.Period.{quarter_of};
+ghost use Rattle.zone_graph.specs.declared.route.Arc.{Arc as RouteArc};
+ghost use Rattle.zone_graph.specs.Graph.{HasArc};
+ghost use Rattle.zone_graph.specs.Route.{IsIn};
+ghost use Rattle.market_model.specs.Room.{is_open_phase, quarter_room};
+ghost use Rattle.joint_laws.specs.PeriodRooms.{hour_room};
+ghost use Rattle.desk_blocks.specs.Openings as openings;
+
+use kept_hour::KeptHour;
+use order_kinds::Phase;
+use zone_graph::{Arc, RouteLeg};
+
+/// Whether one of some legs goes over an arc whose opposite arc lacks room in some quarter of the hour.
+pub(crate) fn may_open(hour: &KeptHour, legs: &[RouteLeg]) -> bool
+    requires { openings.AreOver hour.now.board.grid legs.now }
+    ensures { result ≡ openings.may_open (hour_room hour.now.board.events hour.now.board.hour) legs.now }
+{
+    for leg in legs {
+        if opens(hour, leg.route.as_slice()) {
+            return true;
+        }
+    }
+    false
+}
+
+// Whether a route goes over such an arc.
+fn opens(hour: &KeptHour, route: &[Arc]) -> bool
+    requires { (arc : RouteArc) → IsIn arc route.now → HasArc hour.now.board.grid arc }
+    ensures { result ≡ openings.opens (hour_room hour.now.board.events hour.now.board.hour) route.now }
+{
+    for arc in route {
+        if is_shut_back(hour, *arc) {
+            return true;
+        }
+    }
+    false
+}
+
+// Whether the opposite of an arc lacks room in some quarter of the hour.
+fn is_shut_back(hour: &KeptHour, arc: Arc) -> bool
+    requires { HasArc hour.now.board.grid arc }
+    ensures { result ≡ openings.is_shut_back (hour_room hour.now.board.events hour.now.board.hour) arc }
+{
+    !has_room(hour, arc.opposite())
+}
+
+// Whether an arc has room in all quarters of the hour.
+fn has_room(hour: &KeptHour, arc: Arc) -> bool
+    requires { HasArc hour.now.board.grid arc }
+    ensures { result ≡ nat_lt 0 (hour_room hour.now.board.events hour.now.board.hour arc) }
+{
+    let one = has_room_in(hour, arc, 1);
+    let two = has_room_in(hour, arc, 2);
+    let three = has_room_in(hour, arc, 3);
+    let four = has_room_in(hour, arc, 4);
+    one && two && three && four
+}
+
+// Whether an arc has room in a quarter of the hour.
+fn has_room_in(hour: &KeptHour, arc: Arc, number: u32) -> bool
+    requires arc { HasArc hour.now.board.grid arc }
+    requires first { 1 ≤ number }
+    requires last { number ≤ 4 }
+    ensures { result ≡ nat_lt 0 (quarter_room hour.now.board.events arc (quarter_of hour.now.board.hour number)) }
+{
+    let flows = hour.flows();
+    let open = is_open(flows.phase());
+    let halted = flows.halted(arc.border);
+    let lots = flows.remaining(arc, number);
+    open && !halted && lots > 0
+}
+
+// Whether orders match across zones in a phase.
+fn is_open(phase: Phase) -> bool
+    ensures { result ≡ is_open_phase phase }
+{
+    matches!(phase, Phase::Open)
+}
