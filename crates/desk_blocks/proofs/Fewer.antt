@@ -1,6 +1,5 @@
 -- Each deal leaves fewer blocks in the book of the first hour of its period.
-use Rattle.std.proofs.Common.{◌≡◌, ◌∙◌, ◌⊎◌, inl, inr, ℕ, ◌<◌, ◌==◌, Bool, true, false, List, [], ◌∷◌, ◌++◌, filter, length, not, Some, eq-eqb, eqb-true, refl, sym, ap, subst, if◌then◌else◌, arith}
-use Rattle.std.proofs.lemmas.Bool.{true≢false}
+use Rattle.std.proofs.Common.{◌≡◌, ◌⊎◌, inl, inr, ℕ, ◌<◌, ◌==◌, Bool, true, false, List, [], ◌∷◌, ◌++◌, filter, length, not, Some, eq-eqb, eqb-true, refl, sym, ap, subst, if◌then◌else◌, arith}
 use Rattle.order_kinds.specs.declared.side.Side.TheVariants.{Buy}
 use Rattle.zone_graph.specs.declared.route.Arc.{Arc}
 use Rattle.zone_graph.specs.Graph.{Graph}

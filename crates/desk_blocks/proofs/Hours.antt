@@ -1,5 +1,5 @@
 -- Many events of an hour: each is the next one of those before it.
-use Rattle.std.proofs.Common.{◌≡◌, inl, inr, ℕ, List, [], ◌∷◌, ◌++◌, append_assoc, sym, subst}
+use Rattle.std.proofs.Common.{inl, inr, ℕ, List, [], ◌∷◌, ◌++◌, append_assoc, sym, subst}
 use Rattle.zone_graph.specs.declared.route.RouteLeg.{RouteLeg}
 use Rattle.zone_graph.specs.Graph.{Graph, HasArc, IsGraph}
 use Rattle.zone_graph.specs.Route.{IsIn}

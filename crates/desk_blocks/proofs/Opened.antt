@@ -1,6 +1,6 @@
 -- An hour in which nothing trades is so after an entry and the legs of a deal, where no leg went over an arc
 -- whose opposite arc had no room.
-use Rattle.std.proofs.Common.{◌≡◌, ◌∙◌, inl, inr, ◌⊎◌, ℕ, ◌<◌, ◌&&◌, ◌||◌, Bool, true, false, not, nat_le, nat_lt, List, [], ◌∷◌, ◌++◌, refl, sym, ap, subst, arith}
+use Rattle.std.proofs.Common.{◌≡◌, ◌∙◌, inl, inr, ◌⊎◌, ℕ, ◌||◌, Bool, true, false, not, nat_le, nat_lt, List, [], ◌∷◌, ◌++◌, refl, sym, ap, subst, arith}
 use Rattle.std.proofs.lemmas.Bool.{and_parts, leb-true, ltb-true, true≢false}
 use Rattle.std.specs.List.{list_any}
 use Rattle.order_kinds.specs.declared.contract.Contract.{Contract}

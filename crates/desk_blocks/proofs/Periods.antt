@@ -1,5 +1,5 @@
 -- The deals of a period are found one after the other, in the first hour and the rooms of the period.
-use Rattle.std.proofs.Common.{◌≡◌, ◌∙◌, inl, ℕ, ◌≤◌, Bool, true, false, List, [], ◌∷◌, ◌++◌, append_assoc, flat_map, map, nat_le, Some, None, refl, sym, ap, subst, if◌then◌else◌, arith}
+use Rattle.std.proofs.Common.{◌≡◌, ◌∙◌, ℕ, true, List, [], ◌∷◌, ◌++◌, append_assoc, nat_le, Some, None, sym, ap, subst, if◌then◌else◌, arith}
 use Rattle.std.proofs.Math.Path.{fun_ext}
 use Rattle.std.proofs.lemmas.Bool.{and_from, le-leb}
 use Rattle.std.proofs.lemmas.List.{append-nil}
@@ -7,7 +7,6 @@ use Rattle.std.proofs.lemmas.List.Concat.{flat_map-append}
 use Rattle.std.proofs.lemmas.List.Elements.{filter-append}
 use Rattle.order_kinds.specs.Period.{hours_from, is_within}
 use Rattle.zone_graph.specs.declared.route.Arc.{Arc}
-use Rattle.zone_graph.specs.declared.route.RouteLeg.{RouteLeg}
 use Rattle.zone_graph.specs.Graph.{Graph, HasArc, HasZone, IsGraph, border_count}
 use Rattle.zone_graph.specs.Rooms.{room_of}
 use Rattle.zone_graph.specs.Route.{IsIn}
@@ -18,7 +17,7 @@ use Rattle.block_lines.specs.BlocksOf.{blocks_of}
 use Rattle.block_lines.proofs.MarketBooks.{from-book}
 use Rattle.block_match.specs.declared.deal.BlockDeal.{BlockDeal}
 use Rattle.block_match.specs.Deals.{deal_of_period}
-use Rattle.block_match.specs.Market.{deal_events, leg_event, rooms_over}
+use Rattle.block_match.specs.Market.{deal_events, rooms_over}
 use Rattle.block_match.specs.Meeting.{HaveZones}
 use Rattle.block_book.specs.declared.block.RestingBlock.{RestingBlock}
 use Rattle.market_model.specs.declared.event.Event.{Event}
@@ -27,14 +26,14 @@ use Rattle.market_model.specs.Board.{IsHourOf}
 use Rattle.market_model.specs.Grid.{graph_of}
 use Rattle.market_model.specs.History.{of_hour, touches}
 use Rattle.market_model.specs.Room.{least}
-use Rattle.market_model.specs.WellFormed.{FitAfter, IsHistory, IsMarketSetup}
+use Rattle.market_model.specs.WellFormed.{IsHistory}
 use Rattle.market_laws.proofs.Growing.{fit-back}
 use Rattle.market_laws.proofs.Placed.{all_are_sound}
 use Rattle.market_locality.proofs.Restrict.{map-same}
 use Rattle.hour_changes.proofs.NextEvents.{blocks-are}
 use Rattle.joint_laws.specs.ByHour.{hour_events}
 use Rattle.joint_laws.specs.EnteringBlocks.{AreClosed}
-use Rattle.joint_laws.specs.MatchingBlocks.{ArePeriodDeals, legs_of, next_deal, of_period, with_legs}
+use Rattle.joint_laws.specs.MatchingBlocks.{ArePeriodDeals, legs_of, next_deal, with_legs}
 use Rattle.joint_laws.specs.PeriodRooms.{hour_room, period_room}
 use Rattle.joint_laws.proofs.LeastRooms.{least_of_hours}
 use Rattle.joint_laws.proofs.PeriodDeals.{next_go_on}

@@ -1,12 +1,12 @@
 -- What an hour has planned after some events and the sweep behind them.
-use Rattle.std.proofs.Common.{◌≡◌, ◌∙◌, ℕ, List, [], ◌∷◌, ◌++◌, append_assoc, None, false, refl, sym, ap, subst}
+use Rattle.std.proofs.Common.{◌≡◌, ◌∙◌, ℕ, List, [], ◌∷◌, ◌++◌, append_assoc, None, refl, sym, ap, subst}
 use Rattle.std.proofs.lemmas.List.{append-nil}
 use Rattle.zone_graph.specs.Graph.{Graph}
 use Rattle.market_model.specs.declared.event.Event.{Event}
-use Rattle.market_model.specs.Board.{BoardState, with_events}
+use Rattle.market_model.specs.Board.{with_events}
 use Rattle.market_model.specs.Sweep.{all_parts, sweep}
 use Rattle.desk_laws.specs.Settled.{IsSettled}
-use Rattle.sweep_core.specs.Sweeping.{hour_sweep, swept}
+use Rattle.sweep_core.specs.Sweeping.{swept}
 use Rattle.block_match.specs.declared.deal.BlockDeal.{BlockDeal}
 use Rattle.block_match.specs.Market.{deal_events}
 use Rattle.joint_laws.specs.EnteringBlocks.{AreClosed}

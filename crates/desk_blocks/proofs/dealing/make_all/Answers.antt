@@ -1,10 +1,5 @@
-use Rattle.std.proofs.Common.{◌≡◌, ◌∙◌, ◌++◌, ◌<◌, ◌||◌, Bool, true, false, length, List, refl, sym, ap, subst, arith}
-use Rattle.market_model.specs.declared.event.Event.{Event}
-use Rattle.block_match.specs.Market.{deal_events}
-use Rattle.joint_laws.specs.EnteringBlocks.{AreClosed}
-use Rattle.kept_hour.specs.State.{HourState, undone}
-use Rattle.desk_changes.specs.Quiet.{HasNoLeg}
-use Rattle.desk_blocks.proofs.Making.{deal-closes, deal-follows, made-more, others-close, others-follow}
+use Rattle.std.proofs.Common.{◌<◌, length, arith}
+use Rattle.desk_blocks.proofs.Making.{deal-closes, deal-follows}
 use Rattle.desk_blocks.proofs.dealing.make_all.Goals as goal
 
 pub make_deal-requires-clause-next : goal.make_deal-requires-clause-next

@@ -1,6 +1,4 @@
-use Rattle.std.proofs.Common.{◌≡◌, ◌∙◌, ◌++◌, [], ◌∷◌, List, append_assoc, sym, ap, subst}
-use Rattle.market_model.specs.declared.event.Event.{Event}
-use Rattle.joint_laws.specs.EnteringBlocks.{AreClosed}
+use Rattle.std.proofs.Common.{◌∙◌, ◌++◌, [], ◌∷◌, sym, ap, subst}
 use Rattle.joint_laws.specs.PeriodRooms.{hour_room}
 use Rattle.kept_hour.specs.State.{HourState, block_entry_of}
 use Rattle.desk_changes.specs.Quiet.{HasNoLeg}
@@ -10,7 +8,7 @@ use Rattle.block_match.specs.Market.{deal_events}
 use Rattle.desk_blocks.specs.Openings.{AreOver, may_open}
 use Rattle.desk_blocks.proofs.Hours.{legs-over, others-follow}
 use Rattle.desk_blocks.proofs.Opened.{entry-quiet}
-use Rattle.desk_blocks.proofs.Planning.{entry-closes, swept-planned, undone-same}
+use Rattle.desk_blocks.proofs.Planning.{entry-closes}
 use Rattle.desk_blocks.proofs.entering.enter_and_deal.Goals as goal
 
 pub may_open-opened-requires : goal.may_open-opened-requires

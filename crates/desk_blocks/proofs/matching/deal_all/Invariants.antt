@@ -1,5 +1,4 @@
 use Rattle.std.proofs.Common.{◌≡◌, false, length}
-use Rattle.zone_graph.specs.Graph.{border_count}
 use Rattle.block_lines.specs.BlocksOf.{blocks_of}
 use Rattle.joint_laws.specs.MatchingBlocks.{legs_of}
 use Rattle.kept_hour.specs.Planned.{after_events}
