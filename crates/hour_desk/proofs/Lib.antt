@@ -1,0 +1,9 @@
+pub mod Histories
+pub mod Touching
+pub mod Owned
+pub mod Planned
+pub mod Commands
+pub mod Views
+pub mod Desks
+pub mod Seen
+pub mod Parts

@@ -1,0 +1,43 @@
+use Rattle.std.proofs.Common.{◌≡◌, ◌∙◌, inl, inr, ap, refl, sym, subst}
+use Rattle.market_model.specs.declared.command.Command.TheVariants as command
+use Rattle.market_model.specs.Market.{events_done}
+use Rattle.market_model.specs.Sweep.{all_parts}
+use Rattle.kept_hour.specs.Planned.{with_planned}
+use Rattle.desk_changes.proofs.Planning.{on-ok}
+use Rattle.hour_desk.specs.Placed.{CanChange}
+use Rattle.hour_desk.proofs.Commands.{gate-next, gate-planned, quiet, view-planned}
+use Rattle.hour_desk.proofs.Planned.{none-planned}
+use Rattle.hour_desk.proofs.Touching.{no-basket, no-block, no-matching}
+use Rattle.hour_desk.proofs.changing.change_others.Goals as goal
+
+pub gate-requires-clause-next : goal.gate-requires-clause-next
+gate-requires-clause-next c =
+    gate-next c.args.setup.now c.args.hour.now c.args.caller c.in-Gate.hour c.in-Gate.phase
+    (subst (CanChange c.args.setup.now c.args.hour.now c.args.caller) c.in-Gate.is c.requires.can)
+
+pub gate-requires-clause-quiet : goal.gate-requires-clause-quiet
+gate-requires-clause-quiet c = quiet c.args.setup.now c.args.hour.now c.args.caller c.args.command.now c.requires.can c.args.hour.now.board.grid refl
+
+pub returns-in-Gate-clause-done : goal.returns-in-Gate-clause-done
+returns-in-Gate-clause-done c =
+    on-ok c.gate.result _ _ (λ is. gate-planned c.args.setup.now c.args.hour.now c.args.caller c.in-Gate.hour c.in-Gate.phase
+    (subst (CanChange c.args.setup.now c.args.hour.now c.args.caller) c.in-Gate.is c.requires.can) c.gate.new.hour is
+    ∙ ap (λ g. with_planned c.args.hour.now (events_done all_parts c.args.setup.now c.args.hour.now.settled c.args.caller g)) (sym c.in-Gate.is)) c.gate.ensures.planned
+
+pub returns-in-View-clause-done : goal.returns-in-View-clause-done
+returns-in-View-clause-done c =
+    none-planned c.args.hour.now (events_done all_parts c.args.setup.now c.args.hour.now.settled c.args.caller c.args.command.now) c.requires.can.placed.unplanned
+    (ap (events_done all_parts c.args.setup.now c.args.hour.now.settled c.args.caller) c.in-View.is
+    ∙ view-planned c.args.setup.now c.args.hour.now c.args.caller c.in-View.contract c.in-View.side c.in-View.zone)
+
+pub unreachable-requires : goal.unreachable-requires
+unreachable-requires c = elim c.in-Enter.is [
+  | inl order ↦ c.requires.no_order order.0 order.1
+  | inr others ↦ elim others [
+    | inl block ↦ no-block c.args.setup.now c.args.hour.now c.args.caller c.args.command.now c.requires.can.placed c.requires.can.early block.0 block.1
+    | inr more ↦ elim more [
+      | inl basket ↦ no-basket c.args.setup.now c.args.hour.now c.args.caller c.args.command.now c.requires.can.placed c.requires.can.early basket.0 basket.1
+      | inr matching ↦ no-matching c.args.setup.now c.args.hour.now c.args.caller c.args.command.now c.requires.can.placed c.requires.can.early matching.0 matching.1 matching.2
+    ]
+  ]
+]

@@ -1,0 +1,228 @@
+//! What a command does in an hour that it touches alone.
+
+ghost use Rattle.std.specs.Prelude.{◌≡◌, ◌≢◌, ◌<◌, ◌-◌, ◌^◌, Ok, None, Some, IfOk, IsSome, OnErr, OnOk, true};
+ghost use Rattle.order_kinds.specs.declared.order.Order.{Order as AnOrder};
+ghost use Rattle.order_kinds.specs.Contract as contracts;
+ghost use Rattle.zone_graph.specs.Grid.{arc_between};
+ghost use Rattle.market_model.specs.declared.command.Command.TheVariants as commands;
+ghost use Rattle.market_model.specs.declared.refusal.Refusal.{Refusal as Reason};
+ghost use Rattle.market_model.specs.Market.{events_done};
+ghost use Rattle.market_model.specs.Rules.{first_broken};
+ghost use Rattle.market_model.specs.Sweep.{all_parts};
+ghost use Rattle.kept_hour.specs.Kept.{names_given};
+ghost use Rattle.kept_hour.specs.Planned.{with_planned};
+ghost use Rattle.kept_hour.specs.State.{settled_board};
+ghost use Rattle.plain_refusals.specs.State.{filling_rules};
+ghost use Rattle.desk_views.specs.Standing.{StandAt};
+ghost use Rattle.hour_desk.specs.Kinds as kinds;
+ghost use Rattle.hour_desk.specs.Placed.{CanChange};
+
+use desk_changes::{gate, grant, halt, offer, resume};
+use desk_entering::enter_order;
+use desk_refusals::own_of;
+use desk_views::DeskViews;
+use kept_hour::KeptHour;
+use market_model::{Command, OrderName, Part, Refusal, Setup};
+use std::alloc::Global;
+use zone_graph::{Arc, Grid, NoMemory};
+
+/// Plans what a command does in an hour that it touches alone, where no rule refuses it by itself and none
+/// on the state of the hour. Answers why it is refused by a rule on filling; nothing is planned then.
+///
+/// # Errors
+///
+/// [`NoMemory`] where memory runs out; nothing is planned then.
+pub(crate) fn change(
+    alloc: Global,
+    hour: &mut KeptHour,
+    views: &DeskViews,
+    grid: &Grid,
+    setup: &Setup,
+    caller: u32,
+    command: &Command,
+) -> Result<Option<Refusal>, NoMemory>
+    requires grid { grid.now ≡ hour.old.board.grid }
+    requires can { CanChange setup.now hour.old caller command.now }
+    requires few { names_given hour.old.board < 2 ^ 32 - 1 }
+    requires stands { StandAt (settled_board hour.old) views.now }
+    ensures refusal { IfOk result (λ refusal. refusal ≡ first_broken (filling_rules grid.now hour.old.settled caller command.now)) }
+    ensures done { result ≡ Ok None → hour.new ≡ with_planned hour.old (events_done all_parts setup.now hour.old.settled caller command.now) }
+    ensures refused { (refusal : Reason) → result ≡ Ok (Some refusal) → hour.new ≡ hour.old }
+    ensures unchanged { OnErr result (hour.new ≡ hour.old) }
+{
+    match command {
+        Command::Enter { order } => {
+            let rooms = views.rooms(number_of(order.contract.part));
+            enter_order(alloc, hour, grid, rooms, caller, order)
+        }
+        _ => {
+            change_others(alloc, hour, grid, setup, caller, command)?;
+            Ok(None)
+        }
+    }
+}
+
+// The same, for a command that enters no order.
+fn change_others(
+    alloc: Global,
+    hour: &mut KeptHour,
+    grid: &Grid,
+    setup: &Setup,
+    caller: u32,
+    command: &Command,
+) -> Result<(), NoMemory>
+    requires grid { grid.now ≡ hour.old.board.grid }
+    requires can { CanChange setup.now hour.old caller command.now }
+    requires no_order { (order : AnOrder) → command.now ≢ commands.Enter order }
+    ensures done { OnOk result (hour.new ≡ with_planned hour.old (events_done all_parts setup.now hour.old.settled caller command.now)) }
+    ensures unchanged { OnErr result (hour.new ≡ hour.old) }
+{
+    match command {
+        Command::Cancel { name } => cancel(hour, setup, caller, *name),
+        Command::Reduce { name, to } => reduce(hour, setup, caller, *name, *to),
+        Command::Gate { phase, .. } => gate(alloc, hour, *phase),
+        Command::View { .. } => Ok(()),
+        Command::Offer { .. } | Command::Request { .. } => {
+            change_capacity(alloc, hour, grid, setup, caller, command)
+        }
+        Command::Halt { .. } | Command::Resume { .. } => {
+            change_border(alloc, hour, grid, setup, caller, command)
+        }
+        Command::Enter { .. }
+        | Command::EnterBlock { .. }
+        | Command::EnterBasket { .. }
+        | Command::Blocks { .. } => unreachable!(),
+    }
+}
+
+// The same, for an offer or a request.
+fn change_capacity(
+    alloc: Global,
+    hour: &mut KeptHour,
+    grid: &Grid,
+    setup: &Setup,
+    caller: u32,
+    command: &Command,
+) -> Result<(), NoMemory>
+    requires grid { grid.now ≡ hour.old.board.grid }
+    requires can { CanChange setup.now hour.old caller command.now }
+    requires kind { kinds.IsOfCapacity command.now }
+    ensures done { OnOk result (hour.new ≡ with_planned hour.old (events_done all_parts setup.now hour.old.settled caller command.now)) }
+    ensures unchanged { OnErr result (hour.new ≡ hour.old) }
+{
+    match command {
+        Command::Offer {
+            from,
+            to,
+            first,
+            last,
+            lots,
+        } => {
+            let arc = arc_of(grid, *from, *to);
+            offer(alloc, hour, grid, arc, *first, *last, *lots)
+        }
+        Command::Request {
+            from,
+            to,
+            first,
+            last,
+            lots,
+        } => {
+            let asked = arc_of(grid, *from, *to);
+            grant(alloc, hour, grid, asked, *first, *last, *lots)
+        }
+        _ => unreachable!(),
+    }
+}
+
+// The same, for a halt or a resumption.
+fn change_border(
+    alloc: Global,
+    hour: &mut KeptHour,
+    grid: &Grid,
+    setup: &Setup,
+    caller: u32,
+    command: &Command,
+) -> Result<(), NoMemory>
+    requires grid { grid.now ≡ hour.old.board.grid }
+    requires can { CanChange setup.now hour.old caller command.now }
+    requires kind { kinds.IsOfBorder command.now }
+    ensures done { OnOk result (hour.new ≡ with_planned hour.old (events_done all_parts setup.now hour.old.settled caller command.now)) }
+    ensures unchanged { OnErr result (hour.new ≡ hour.old) }
+{
+    match command {
+        Command::Halt {
+            from,
+            to,
+            first,
+            last,
+        } => {
+            let halted = arc_of(grid, *from, *to);
+            halt(hour, halted.border, *first, *last)
+        }
+        Command::Resume {
+            from,
+            to,
+            first,
+            last,
+        } => {
+            let resumed = arc_of(grid, *from, *to);
+            resume(alloc, hour, grid, resumed.border, *first, *last)
+        }
+        _ => unreachable!(),
+    }
+}
+
+// The arc from a zone to another one, where a border joins them.
+fn arc_of(grid: &Grid, from: u32, to: u32) -> Arc
+    requires { IsSome (arc_between grid.now from to) }
+    ensures { arc_between grid.now from to ≡ Some result }
+{
+    match grid.arc(from, to) {
+        Some(arc) => arc,
+        None => unreachable!(),
+    }
+}
+
+// Withdraws an order or a block of the caller's.
+fn cancel(hour: &mut KeptHour, setup: &Setup, caller: u32, name: OrderName) -> Result<(), NoMemory>
+    requires { CanChange setup.now hour.old caller (commands.Cancel name) }
+    ensures done { OnOk result (hour.new ≡ with_planned hour.old (events_done all_parts setup.now hour.old.settled caller (commands.Cancel name))) }
+    ensures unchanged { OnErr result (hour.new ≡ hour.old) }
+{
+    match own_of(hour, caller, name.number) {
+        Some(own) => hour.withdraw(own.part(), name.number, own.left()),
+        None => unreachable!(),
+    }
+}
+
+// Lowers to so many lots what is left of a plain limit order of the caller's.
+fn reduce(
+    hour: &mut KeptHour,
+    setup: &Setup,
+    caller: u32,
+    name: OrderName,
+    to: u32,
+) -> Result<(), NoMemory>
+    requires { CanChange setup.now hour.old caller (commands.Reduce name to) }
+    ensures done { OnOk result (hour.new ≡ with_planned hour.old (events_done all_parts setup.now hour.old.settled caller (commands.Reduce name to))) }
+    ensures unchanged { OnErr result (hour.new ≡ hour.old) }
+{
+    match own_of(hour, caller, name.number) {
+        Some(own) => hour.reduce(own.part(), name.number, own.left() - to),
+        None => unreachable!(),
+    }
+}
+
+/// The number of a part: the hour has 0, its quarters 1 to 4, its halves 5 and 6.
+pub(crate) fn number_of(part: Part) -> u32
+    requires known { contracts.is_known part ≡ true }
+    ensures number { result ≡ contracts.part_number part }
+    ensures few { result < 7 }
+{
+    match part {
+        Part::Hour => 0,
+        Part::Quarter(number) => number,
+        Part::Half(number) => 4 + number,
+    }
+}
