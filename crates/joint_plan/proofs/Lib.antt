@@ -1,0 +1,17 @@
+mod Lists
+mod Dropped
+mod Over
+mod States
+mod Histories
+mod OverRanges
+mod Asked
+mod OneDesk
+mod Touched
+mod AskedRanges
+mod LeastRooms
+mod OverPeriods
+mod AskedPeriods
+mod SameRooms
+mod Entered
+mod OverEntries
+mod AskedEntries

@@ -1,0 +1,192 @@
+-- Commands over a range of hours, desk by desk.
+use Rattle.std.proofs.Common.{◌≡◌, ◌∙◌, ℕ, ◌<◌, true, List, [], ◌∷◌, ◌++◌, flat_map, length, Option, None, Some, refl, sym, ap, arith, if◌then◌else◌, subst}
+use Rattle.std.specs.Option.{option_map}
+use Rattle.zone_graph.specs.declared.route.Arc.{Arc}
+use Rattle.zone_graph.specs.Graph.{Graph}
+use Rattle.zone_graph.specs.Grid.{arc_between}
+use Rattle.zone_graph.specs.Route.{IsIn, has}
+use Rattle.zone_graph.proofs.Membership.{IsIn-map, has-IsIn}
+use Rattle.market_model.specs.declared.command.Command.{Command}
+use Rattle.market_model.specs.declared.command.Command.TheVariants as command
+use Rattle.market_model.specs.declared.event.Event.{Event}
+use Rattle.market_model.specs.declared.event.Event.TheVariants as event
+use Rattle.market_model.specs.declared.refusal.Refusal.{Refusal}
+use Rattle.market_model.specs.declared.reply.Reply.TheVariants as reply
+use Rattle.market_model.specs.declared.setup.Setup.{Setup}
+use Rattle.market_model.specs.Grid.{graph_of}
+use Rattle.market_model.specs.History.{and_then, events_of, of_hour}
+use Rattle.market_model.specs.Market.{reply_to}
+use Rattle.market_model.specs.Refusals.{refusal_of_command}
+use Rattle.market_model.specs.Rules.{early_refusal, first_broken, hours_concerned}
+use Rattle.market_model.specs.Sweep.{all_parts, or_else, sweep}
+use Rattle.market_laws.proofs.Repeats.{map-some}
+use Rattle.plain_refusals.specs.State.{filling_rules}
+use Rattle.joint_laws.specs.ByHour.{hour_events}
+use Rattle.joint_laws.specs.Ranges.{shared_event, swept_after}
+use Rattle.joint_laws.proofs.SharedEvents.{done_ranges, of_hour_ranges}
+use Rattle.joint_laws.proofs.SweptHours.{flat_map-same}
+use Rattle.hour_desk.specs.declared.part_work.PartWork.{PartWork}
+use Rattle.hour_desk.specs.declared.part_work.PartWork.TheVariants as work
+use Rattle.hour_desk.specs.Desk.{DeskState}
+use Rattle.hour_desk.specs.Shared.{BlocksFit, CanShare, part_events, shared_events}
+use Rattle.joint_plan.specs.Kinds.{IsJoint, IsOverRange}
+use Rattle.joint_plan.specs.Refusing as refusing
+use Rattle.joint_plan.specs.Rows.{AreOver, IsHistoryOf, hours_of}
+use Rattle.joint_plan.specs.Works.{events_over, range_work, swept}
+use Rattle.joint_plan.proofs.Histories.{follows, refused, split}
+use Rattle.joint_plan.proofs.Over.{flat_map-over}
+use Rattle.joint_plan.proofs.States.{state-by-desks}
+
+-- the work is one event, that of the command
+pub record IsRangeWork (graph : Graph) (given : Command) (w : PartWork) : Type 0 where
+  pub shared : Event
+  pub is_event : shared_event graph given ≡ Some shared
+  pub same : (events : List Event) → shared_events events w ≡ shared ∷ []
+  pub fits : (desk : DeskState) → BlocksFit desk w
+
+pub range-work : (graph : Graph) (given : Command) (w : PartWork) → range_work graph given ≡ Some w → IsRangeWork graph given w
+range-work graph (command.Offer from to first last lots) w is =
+    let found = map-some (λ (arc : Arc). work.Offer arc first last lots) (arc_between graph from to) w is in
+    subst (IsRangeWork graph (command.Offer from to first last lots)) found.2 (record {
+      shared = event.Offered found.0 first last lots;
+      is_event = ap (option_map (λ (arc : Arc). event.Offered arc first last lots)) found.1;
+      same = λ _. refl;
+      fits = λ _. tt;
+    })
+range-work graph (command.Request from to first last lots) w is =
+    let found = map-some (λ (arc : Arc). work.Grant arc first last lots) (arc_between graph from to) w is in
+    subst (IsRangeWork graph (command.Request from to first last lots)) found.2 (record {
+      shared = event.Granted found.0 first last lots;
+      is_event = ap (option_map (λ (arc : Arc). event.Granted arc first last lots)) found.1;
+      same = λ _. refl;
+      fits = λ _. tt;
+    })
+range-work graph (command.Halt from to first last) w is =
+    let found = map-some (λ (arc : Arc). work.Halt arc.border first last) (arc_between graph from to) w is in
+    subst (IsRangeWork graph (command.Halt from to first last)) found.2 (record {
+      shared = event.Halted found.0.border first last;
+      is_event = ap (option_map (λ (arc : Arc). event.Halted arc.border first last)) found.1;
+      same = λ _. refl;
+      fits = λ _. tt;
+    })
+range-work graph (command.Resume from to first last) w is =
+    let found = map-some (λ (arc : Arc). work.Resume arc.border first last) (arc_between graph from to) w is in
+    subst (IsRangeWork graph (command.Resume from to first last)) found.2 (record {
+      shared = event.Resumed found.0.border first last;
+      is_event = ap (option_map (λ (arc : Arc). event.Resumed arc.border first last)) found.1;
+      same = λ _. refl;
+      fits = λ _. tt;
+    })
+range-work graph (command.Enter order) w is = absurd (cc)
+range-work graph (command.EnterBlock order) w is = absurd (cc)
+range-work graph (command.EnterBasket orders) w is = absurd (cc)
+range-work graph (command.Cancel name) w is = absurd (cc)
+range-work graph (command.Reduce name to) w is = absurd (cc)
+range-work graph (command.Blocks first last) w is = absurd (cc)
+range-work graph (command.Gate hour asked) w is = absurd (cc)
+range-work graph (command.View contract side zone) w is = absurd (cc)
+
+pub range-joint : (given : Command) → IsOverRange given → IsJoint given
+range-joint (command.Offer from to first last lots) range = tt
+range-joint (command.Request from to first last lots) range = tt
+range-joint (command.Halt from to first last) range = tt
+range-joint (command.Resume from to first last) range = tt
+range-joint (command.Enter order) range = absurd range
+range-joint (command.EnterBlock order) range = absurd range
+range-joint (command.EnterBasket orders) range = absurd range
+range-joint (command.Cancel name) range = absurd range
+range-joint (command.Reduce name to) range = absurd range
+range-joint (command.Blocks first last) range = absurd range
+range-joint (command.Gate hour asked) range = absurd range
+range-joint (command.View contract side zone) range = absurd range
+
+-- no rule on filling refuses such a command
+range-filled : (graph : Graph) (history : List Event) (caller : ℕ) (given : Command) → IsOverRange given → first_broken (filling_rules graph history caller given) ≡ None
+range-filled graph history caller (command.Offer from to first last lots) range = refl
+range-filled graph history caller (command.Request from to first last lots) range = refl
+range-filled graph history caller (command.Halt from to first last) range = refl
+range-filled graph history caller (command.Resume from to first last) range = refl
+range-filled graph history caller (command.Enter order) range = absurd range
+range-filled graph history caller (command.EnterBlock order) range = absurd range
+range-filled graph history caller (command.EnterBasket orders) range = absurd range
+range-filled graph history caller (command.Cancel name) range = absurd range
+range-filled graph history caller (command.Reduce name to) range = absurd range
+range-filled graph history caller (command.Blocks first last) range = absurd range
+range-filled graph history caller (command.Gate hour asked) range = absurd range
+range-filled graph history caller (command.View contract side zone) range = absurd range
+
+module _ (setup : Setup) (history : List Event) (desks : List DeskState) (caller : ℕ) (given : Command) (is : IsHistoryOf setup desks history)
+    (early : early_refusal setup caller given ≡ None) (hours : hours_of desks ≡ hours_concerned given) where
+  -- a command that the desks refuse is refused so
+  pub joint-refused : (broken : Refusal) → IsJoint given → refusing.state_refusal (graph_of setup) given desks ≡ Some broken → reply_to setup history caller given ≡ reply.Refused broken
+  joint-refused broken joint state =
+      refused setup history caller given broken
+      (split setup history caller given early
+      ∙ ap (λ (o : Option Refusal). or_else o (λ _. first_broken (filling_rules (graph_of setup) history caller given)))
+      (state-by-desks setup history desks caller given is.is_history.fit is.left joint hours ∙ state))
+
+  -- and else by the rules on filling
+  pub joint-let_in : IsJoint given → refusing.state_refusal (graph_of setup) given desks ≡ None
+      → refusal_of_command setup history caller given ≡ first_broken (filling_rules (graph_of setup) history caller given)
+  joint-let_in joint state =
+      split setup history caller given early
+      ∙ ap (λ (o : Option Refusal). or_else o (λ _. first_broken (filling_rules (graph_of setup) history caller given)))
+      (state-by-desks setup history desks caller given is.is_history.fit is.left joint hours ∙ state)
+
+  module _ (over : AreOver (graph_of setup) desks) (range : IsOverRange given) (free : refusing.state_refusal (graph_of setup) given desks ≡ None)
+      (w : PartWork) (works : range_work (graph_of setup) given ≡ Some w) where
+    found : IsRangeWork (graph_of setup) given w
+    found = range-work (graph_of setup) given w works
+
+    unrefused : refusal_of_command setup history caller given ≡ None
+    unrefused = joint-let_in (range-joint given range) free ∙ range-filled (graph_of setup) history caller given range
+
+    shared : Event
+    unfolding found
+    shared = found.shared
+
+    same : (events : List Event) → shared_events events w ≡ shared ∷ []
+    unfolding found shared
+    same = found.same
+
+    swept-same : (desk : DeskState) → IsIn desk desks → sweep all_parts (graph_of setup) desk.hour (and_then desk.settled shared) ≡ swept w desk
+    swept-same desk i =
+        ap (λ (graph : Graph). sweep all_parts graph desk.hour (and_then desk.settled shared)) (sym (over desk i))
+        ∙ ap (λ es. sweep all_parts desk.grid desk.hour (desk.settled ++ es)) (sym (same desk.settled))
+
+    done : reply_to setup history caller given ≡ reply.Done (shared ∷ flat_map (swept w) desks)
+    unfolding found shared
+    done =
+        done_ranges setup all_parts history caller given shared is.is_history.fit unrefused found.is_event
+        ∙ ap (λ hs. reply.Done (shared ∷ flat_map (swept_after all_parts (graph_of setup) history shared) hs)) (sym hours)
+        ∙ ap (λ es. reply.Done (shared ∷ es))
+        (flat_map-over (hour_events history) (λ events hour. sweep all_parts (graph_of setup) hour (and_then events shared)) desks is.left
+        ∙ flat_map-same (λ desk. sweep all_parts (graph_of setup) desk.hour (and_then desk.settled shared)) (swept w) desks swept-same)
+
+    over-first : (ds : List DeskState) → 0 < length ds → shared ∷ flat_map (swept w) ds ≡ events_over w ds
+    over-first [] some = absurd (omega arith)
+    over-first (desk ∷ ds) some = sym (ap (λ es. (es ++ swept w desk) ++ flat_map (swept w) ds) (same desk.settled))
+
+    -- the reply is the event once, and then the sweep of each hour
+    pub range-reply : 0 < length desks → reply_to setup history caller given ≡ reply.Done (events_over w desks)
+    range-reply some = done ∙ ap reply.Done (over-first desks some)
+
+    -- of it each hour has its part
+    pub range-part : (desk : DeskState) → IsIn desk desks → of_hour desk.hour (events_of (reply_to setup history caller given)) ≡ part_events desk w
+    unfolding found shared
+    range-part desk i =
+        let there : has desk.hour (hours_concerned given) ≡ true =
+        has-IsIn desk.hour (hours_concerned given) (subst (IsIn desk.hour) hours (IsIn-map (λ (d : DeskState). d.hour) desk desks i)) in
+        of_hour_ranges setup all_parts history caller given shared desk.hour is.is_history.fit unrefused found.is_event
+        ∙ ap (λ b. if b then shared ∷ swept_after all_parts (graph_of setup) history shared desk.hour else []) there
+        ∙ ap (λ (events : List Event). shared ∷ sweep all_parts (graph_of setup) desk.hour (and_then events shared)) (is.left desk i)
+        ∙ ap (λ es. shared ∷ es) (swept-same desk i)
+        ∙ sym (ap (λ es. es ++ swept w desk) (same desk.settled))
+
+    -- which it can plan
+    pub range-can : (desk : DeskState) → IsIn desk desks → CanShare desk w
+    unfolding found
+    range-can desk i = record {
+      follows = follows setup history desks caller given is desk i (over desk i) (shared_events desk.settled w) (swept w desk) (range-part desk i);
+      blocks = found.fits desk;
+    }

@@ -1,0 +1,111 @@
+-- The rules on the state, told desk by desk.
+use Rattle.std.proofs.Common.{◌≡◌, ◌∙◌, ℕ, find, List, [], Option, None, Some, refl, ap, subst}
+use Rattle.std.specs.Option.{option_and_then, option_map}
+use Rattle.order_kinds.specs.declared.contract.Quarter.{Quarter}
+use Rattle.order_kinds.specs.Period.{hours_from}
+use Rattle.zone_graph.specs.declared.route.Arc.{Arc}
+use Rattle.zone_graph.specs.Graph.{Graph}
+use Rattle.zone_graph.specs.Grid.{arc_between}
+use Rattle.market_model.specs.declared.command.Command.{Command}
+use Rattle.market_model.specs.declared.command.Command.TheVariants as command
+use Rattle.market_model.specs.declared.event.Event.{Event}
+use Rattle.market_model.specs.declared.refusal.Refusal.{Refusal}
+use Rattle.market_model.specs.declared.refusal.Refusal.TheVariants as refusal
+use Rattle.market_model.specs.declared.setup.Setup.{Setup}
+use Rattle.market_model.specs.Grid.{graph_of}
+use Rattle.market_model.specs.Refusals as refusals
+use Rattle.market_model.specs.Room.{is_closed_phase, phase_of}
+use Rattle.market_model.specs.Rules.{hours_concerned}
+use Rattle.market_model.specs.Sweep.{first_answer, or_else}
+use Rattle.market_model.specs.WellFormed.{FitAfter}
+use Rattle.plain_refusals.specs.Asked.{first_in_hour}
+use Rattle.plain_refusals.specs.State as state
+use Rattle.joint_laws.specs.ByHour.{hour_events}
+use Rattle.joint_laws.specs.StateRefusals.{first_over_hours, offer_refused, request_refused, state_refusal_by}
+use Rattle.joint_laws.proofs.RefusedByHours.{state_alone}
+use Rattle.hour_desk.specs.Desk.{DeskState}
+use Rattle.joint_plan.specs.Refusing as refusing
+use Rattle.joint_plan.specs.Kinds.{IsJoint}
+use Rattle.joint_plan.specs.Rows.{hours_of}
+use Rattle.joint_plan.proofs.Over.{Are, answer-over, find-over}
+
+module _ (own : ℕ → List Event) (desks : List DeskState) (are : Are own desks) where
+  closed-over : option_map (λ hour. refusal.Closed hour) (find (λ hour. is_closed_phase (phase_of (own hour) hour)) (hours_of desks)) ≡ refusing.closed_refusal desks
+  closed-over =
+      ap (option_map (λ hour. refusal.Closed hour)) (find-over own (λ events hour. is_closed_phase (phase_of events hour)) desks are)
+      ∙ again (find refusing.is_closed desks)
+    where
+      again : (o : Option DeskState) → option_map (λ hour. refusal.Closed hour) (option_map (λ desk. desk.hour) o) ≡ option_map (λ desk. refusal.Closed desk.hour) o
+      again None = refl
+      again (Some desk) = refl
+
+  offer-over : (graph : Graph) (from to : ℕ) (first last : Quarter) (lots : ℕ) → hours_of desks ≡ hours_from first.hour last.hour
+      → offer_refused graph own (command.Offer from to first last lots) ≡ refusing.capacity_refusal graph (command.Offer from to first last lots) desks
+  unfolding first_in_hour
+  offer-over graph from to first last lots hours = go (arc_between graph from to)
+    where
+      over : (arc : Arc) → first_over_hours own (λ events. refusals.below_flow events arc lots) first last ≡ refusing.offer_refusal arc first last lots desks
+      over arc =
+          subst (λ (hs : List ℕ). first_answer (λ hour. first_in_hour (refusals.below_flow (own hour) arc lots) (record { arc = arc; first = first; last = last; lots = lots }) hour) hs
+          ≡ refusing.offer_refusal arc first last lots desks) hours
+          (answer-over own (λ events hour. first_in_hour (refusals.below_flow events arc lots) (record { arc = arc; first = first; last = last; lots = lots }) hour) desks are)
+
+      go : (o : Option Arc) → option_and_then (λ arc. first_over_hours own (λ events. refusals.below_flow events arc lots) first last) o
+          ≡ option_and_then (λ arc. refusing.offer_refusal arc first last lots desks) o
+      go None = refl
+      go (Some arc) = over arc
+
+  request-over : (graph : Graph) (from to : ℕ) (first last : Quarter) (lots : ℕ) → hours_of desks ≡ hours_from first.hour last.hour
+      → request_refused graph own (command.Request from to first last lots) ≡ refusing.capacity_refusal graph (command.Request from to first last lots) desks
+  unfolding first_in_hour
+  request-over graph from to first last lots hours = go (arc_between graph from to)
+    where
+      over : (arc : Arc) → first_over_hours own (λ events. refusals.no_room events arc lots) first last ≡ refusing.request_refusal arc first last lots desks
+      over arc =
+          subst (λ (hs : List ℕ). first_answer (λ hour. first_in_hour (refusals.no_room (own hour) arc lots) (record { arc = arc; first = first; last = last; lots = lots }) hour) hs
+          ≡ refusing.request_refusal arc first last lots desks) hours
+          (answer-over own (λ events hour. first_in_hour (refusals.no_room events arc lots) (record { arc = arc; first = first; last = last; lots = lots }) hour) desks are)
+
+      go : (o : Option Arc) → option_and_then (λ arc. first_over_hours own (λ events. refusals.no_room events arc lots) first last) o
+          ≡ option_and_then (λ arc. refusing.request_refusal arc first last lots desks) o
+      go None = refl
+      go (Some arc) = over arc
+
+  closed-at : (hours : List ℕ) → hours_of desks ≡ hours
+      → option_map (λ hour. refusal.Closed hour) (find (λ hour. is_closed_phase (phase_of (own hour) hour)) hours) ≡ refusing.closed_refusal desks
+  closed-at hours is =
+      subst (λ (hs : List ℕ). option_map (λ hour. refusal.Closed hour) (find (λ hour. is_closed_phase (phase_of (own hour) hour)) hs) ≡ refusing.closed_refusal desks) is closed-over
+
+  -- a rule on closed hours, and then one on capacity
+  joined : (closed now : Option Refusal) (capacity here : Option Refusal) → closed ≡ now → capacity ≡ here
+      → or_else closed (λ _. or_else capacity (λ _. None)) ≡ or_else now (λ _. here)
+  joined closed now capacity here same alike =
+      ap (λ (o : Option Refusal). or_else o (λ _. or_else capacity (λ _. None))) same ∙ ap (λ (o : Option Refusal). or_else now (λ _. o)) (or-none capacity ∙ alike)
+    where
+      or-none : (o : Option Refusal) → or_else o (λ _. None) ≡ o
+      or-none None = refl
+      or-none (Some r) = refl
+
+  pub state-over : (graph : Graph) (caller : ℕ) (given : Command) → IsJoint given → hours_of desks ≡ hours_concerned given
+      → state_refusal_by graph own caller given ≡ refusing.state_refusal graph given desks
+  unfolding state_refusal_by
+  state-over graph caller (command.Offer from to first last lots) joint hours =
+      joined _ _ (offer_refused graph own (command.Offer from to first last lots)) _ (closed-at (hours_from first.hour last.hour) hours) (offer-over graph from to first last lots hours)
+  state-over graph caller (command.Request from to first last lots) joint hours =
+      joined _ _ (request_refused graph own (command.Request from to first last lots)) _ (closed-at (hours_from first.hour last.hour) hours) (request-over graph from to first last lots hours)
+  state-over graph caller (command.Halt from to first last) joint hours = joined _ _ None None (closed-at (hours_from first last) hours) refl
+  state-over graph caller (command.Resume from to first last) joint hours = joined _ _ None None (closed-at (hours_from first last) hours) refl
+  state-over graph caller (command.Blocks first last) joint hours = joined _ _ None None (closed-at (hours_from first last) hours) refl
+  state-over graph caller (command.EnterBlock order) joint hours = joined _ _ None None (closed-at (hours_from order.first order.last) hours) refl
+  state-over graph caller (command.Enter order) joint hours = absurd joint
+  state-over graph caller (command.EnterBasket orders) joint hours = absurd joint
+  state-over graph caller (command.Cancel name) joint hours = absurd joint
+  state-over graph caller (command.Reduce name to) joint hours = absurd joint
+  state-over graph caller (command.Gate hour asked) joint hours = absurd joint
+  state-over graph caller (command.View contract side zone) joint hours = absurd joint
+
+-- so the rules on the state refuse a command of several hours after a history as the desks tell
+pub state-by-desks : (setup : Setup) (history : List Event) (desks : List DeskState) (caller : ℕ) (given : Command) → FitAfter setup [] history → Are (hour_events history) desks
+    → IsJoint given → hours_of desks ≡ hours_concerned given → state.state_refusal (graph_of setup) history caller given ≡ refusing.state_refusal (graph_of setup) given desks
+state-by-desks setup history desks caller given fit are joint hours =
+    state_alone setup (graph_of setup) history caller given fit ∙ state-over (hour_events history) desks are (graph_of setup) caller given joint hours
