@@ -1,7 +1,8 @@
 //! Commands of several hours, planned on a row of desks, each of an hour of its own.
 //!
 //! [`plan_joint`] answers the market's reply to a command and plans on each desk what the reply has of the desk's
-//! hour. The value that has the desks is any [`Desks`].
+//! hour; [`carry_all`] settles what they plan, and [`undo_all`] drops it. The value that has the desks is any
+//! [`Desks`].
 //!
 //! Quantities are lots, tenths of a MW. Prices are cents per MWh.
 #![tactic(auto)]
@@ -19,3 +20,4 @@ mod undoing;
 
 pub use desks::Desks;
 pub use joint::plan_joint;
+pub use undoing::{carry_all, undo_all};
