@@ -1,7 +1,7 @@
 -- Desks that are asked to match the resting blocks of a period.
 use Rattle.std.proofs.Common.{◌≡◌, ◌∙◌, ℕ, ◌+◌, ◌-◌, ◌<◌, ◌≤◌, List, ◌∷◌, ◌++◌, drop, flat_map, length, length-append, map, nat_le, nat_lt, set, slice_get, take, Option, None, Some, refl, sym, ap, arith, subst}
 use Rattle.std.proofs.lemmas.Bool.{and_parts, ltb-true}
-use Rattle.zone_graph.specs.Graph.{Graph}
+use Rattle.zone_graph.specs.Graph.{Graph, border_count}
 use Rattle.zone_graph.specs.Route.{IsIn}
 use Rattle.block_match.specs.declared.deal.BlockDeal.{BlockDeal}
 use Rattle.market_model.specs.declared.command.Command.TheVariants as command
@@ -17,10 +17,11 @@ use Rattle.market_laws.proofs.Admitted.{naming-none}
 use Rattle.market_locality.proofs.Restrict.{map-same}
 use Rattle.joint_laws.specs.ByHour.{hour_events}
 use Rattle.joint_laws.specs.MatchingBlocks.{ArePeriodDeals, legs_of}
+use Rattle.desk_blocks.specs.Periods.{AreDealsOf}
 use Rattle.hour_desk.specs.declared.part_work.PartWork.{PartWork}
 use Rattle.hour_desk.specs.declared.part_work.PartWork.TheVariants as work
 use Rattle.hour_desk.specs.Desk.{DeskState, planned_events, planning}
-use Rattle.hour_desk.specs.Shared.{AreDealsOfPeriod, part_events, then_swept}
+use Rattle.hour_desk.specs.Shared.{part_events, then_swept}
 use Rattle.joint_plan.specs.Refusing as refusing
 use Rattle.joint_plan.specs.Rooms.{AreRoomsOver, CanMatch}
 use Rattle.joint_plan.specs.Rows.{AreAsked, IsHistoryOf, hours_of, planning_all}
@@ -65,17 +66,17 @@ module _ (setup : Setup) (graph : Graph) (caller first last : ℕ) (desks : List
         over = sym (asked.ready.over desk (IsIn-get desks 0 desk at));
         numbers = asked.ready.numbers desk (IsIn-get desks 0 desk at);
         place = ready-place setup graph desks asked.ready desk (IsIn-get desks 0 desk at);
-        period = record {
-          setup = setup;
-          history = ready-history setup graph desks asked.ready;
-          period =
+        size = rooms_are.size ∙ ap border_count (sym (asked.ready.over desk (IsIn-get desks 0 desk at)));
+        period = (
+          setup,
+          ready-history setup graph desks asked.ready,
               is-period setup (ready-history setup graph desks asked.ready) desks (ready-is setup graph desks asked.ready) first last
-              (asked-hours setup graph caller (command.Blocks first last) desks asked) (ready-over setup graph desks asked.ready) period-up desk (drop 1 desks) are rooms own-rooms;
-        };
+              (asked-hours setup graph caller (command.Blocks first last) desks asked) (ready-over setup graph desks asked.ready) period-up desk (drop 1 desks) are rooms own-rooms,
+        );
       }
 
       -- what it finds are the deals of the period after every history
-      pub period-deals : (deals : List BlockDeal) → AreDealsOfPeriod desk last rooms deals → (history : List Event) → IsHistoryOf setup desks history
+      pub period-deals : (deals : List BlockDeal) → AreDealsOf desk.grid desk.hour last desk.settled rooms deals → (history : List Event) → IsHistoryOf setup desks history
           → ArePeriodDeals (graph_of setup) first last (hour_events history) deals
       period-deals deals found history is =
           subst (λ (hour : ℕ). ArePeriodDeals (graph_of setup) hour last (hour_events history) deals) period-here

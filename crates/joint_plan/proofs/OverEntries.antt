@@ -41,10 +41,11 @@ use Rattle.joint_laws.specs.MatchingBlocks.{legs_of}
 use Rattle.joint_laws.specs.PeriodRooms.{period_room}
 use Rattle.joint_laws.proofs.EnteredBlocks.{close_both, enter_by_hour, enter_of_hour, room_in_first}
 use Rattle.joint_laws.proofs.SweptHours.{flat_map-same}
+use Rattle.desk_blocks.specs.Plans.{CloseInTurn}
 use Rattle.hour_desk.specs.declared.part_work.BlockEntry.{BlockEntry}
 use Rattle.hour_desk.specs.declared.part_work.PartWork.{PartWork}
 use Rattle.hour_desk.specs.Desk.{DeskState}
-use Rattle.hour_desk.specs.Shared.{CanShare, EachCloses, EntersFirst, TakesOrRests, part_events, shared_events}
+use Rattle.hour_desk.specs.Shared.{CanShare, EntersFirst, TakesOrRests, part_events, shared_events}
 use Rattle.joint_plan.specs.Entering.{deal_within, entering_block, first_work, full_refusal, other_work}
 use Rattle.joint_plan.specs.Refusing as refusing
 use Rattle.joint_plan.specs.Rooms.{AreRoomsOver}
@@ -239,18 +240,20 @@ module _ (setup : Setup) (history : List Event) (caller : ℕ) (order : BlockOrd
       pub entry-other_can : (other : DeskState) → IsIn other rest → CanShare other (other_work order deals)
       entry-other_can other i = record {
         follows = follows setup history desks caller (command.EnterBlock order) is other (inr i) (over other (inr i)) (shared_events other.settled (other_work order deals))
-            (swept (other_work order deals) other) (entry-other_part other i);
+            (swept (other_work order deals) other) (entry-other_part other i)
+            (shared_events other.settled (other_work order deals)) [] (sym (append-nil (shared_events other.settled (other_work order deals))));
         blocks = record { enters = λ entry none. absurd (no-entry entry none); closes = λ same. absurd (other-hours desk rest order.first order.last hours other i same) };
       }
         where
           no-entry : (entry : BlockEntry) → None ≡ Some entry → ⊥
           no-entry entry none = cc
 
-      pub entry-first_can : TakesOrRests desk.hour desk.settled deals → EachCloses order.first order.last (desk.settled ++ block_entry desk.settled caller order ∷ []) deals
+      pub entry-first_can : TakesOrRests desk.hour desk.settled deals → CloseInTurn order.first order.last (desk.settled ++ block_entry desk.settled caller order ∷ []) deals
           → CanShare desk (first_work caller order deals)
       entry-first_can trades closes = record {
         follows = follows setup history desks caller (command.EnterBlock order) is desk (inl refl) (over desk (inl refl)) (shared_events desk.settled (first_work caller order deals))
-            (swept (first_work caller order deals) desk) entry-first_part;
+            (swept (first_work caller order deals) desk) entry-first_part
+            (shared_events desk.settled (first_work caller order deals)) [] (sym (append-nil (shared_events desk.settled (first_work caller order deals))));
         blocks = record {
           enters = λ entry same. enters entry same;
           closes = λ _. closes;
@@ -278,7 +281,7 @@ module _ (setup : Setup) (history : List Event) (caller : ℕ) (order : BlockOrd
 
   -- and the deal closes both its blocks
   pub closes-both : (deal : Option BlockDeal) → deal_found (graph_of setup) (hour_events history) caller order ≡ deal
-      → EachCloses order.first order.last (desk.settled ++ block_entry desk.settled caller order ∷ []) (option_to_list deal)
+      → CloseInTurn order.first order.last (desk.settled ++ block_entry desk.settled caller order ∷ []) (option_to_list deal)
   closes-both None found = tt
   closes-both (Some deal) found = (subst (AreClosed order.first deal) at_end closed, tt)
     where

@@ -1,9 +1,10 @@
 -- Resting blocks that are matched, desk by desk.
 use Rattle.std.proofs.Common.{◌≡◌, ◌∙◌, inl, ℕ, zero, suc, ◌+◌, ◌-◌, ◌<◌, ◌≤◌, true, List, [], ◌∷◌, ◌++◌, flat_map, length, map, None, Some, refl, sym, ap, append_assoc, arith, if◌then◌else◌, subst}
+use Rattle.std.proofs.lemmas.List.{append-nil}
 use Rattle.std.specs.List.{range_with_len}
 use Rattle.order_kinds.specs.Period.{hours_from, is_within}
 use Rattle.zone_graph.specs.declared.route.Arc.{Arc}
-use Rattle.zone_graph.specs.Graph.{Graph, HasArc, border_count}
+use Rattle.zone_graph.specs.Graph.{Graph, HasArc}
 use Rattle.zone_graph.specs.Route.{AreDifferent, IsIn}
 use Rattle.zone_graph.proofs.Membership.{IsIn-map, has-IsIn}
 use Rattle.block_match.specs.declared.deal.BlockDeal.{BlockDeal}
@@ -25,11 +26,12 @@ use Rattle.joint_laws.specs.PeriodRooms.{hour_room, period_room}
 use Rattle.joint_laws.proofs.PeriodDeals.{match_by_hour, match_of_hour, match_reply}
 use Rattle.joint_laws.proofs.SharedEvents.{within-has}
 use Rattle.joint_laws.proofs.SweptHours.{ascends-different, flat_map-same, hours-ascend}
+use Rattle.desk_blocks.specs.Periods.{IsPeriodOf}
 use Rattle.hour_desk.specs.declared.part_work.BlockEntry.{BlockEntry}
 use Rattle.hour_desk.specs.declared.part_work.PartWork.{PartWork}
 use Rattle.hour_desk.specs.declared.part_work.PartWork.TheVariants as work
 use Rattle.hour_desk.specs.Desk.{DeskState}
-use Rattle.hour_desk.specs.Shared.{CanShare, IsPeriodOf, part_events}
+use Rattle.hour_desk.specs.Shared.{CanShare, part_events}
 use Rattle.joint_plan.specs.Refusing as refusing
 use Rattle.joint_plan.specs.Rooms.{AreRoomsOver}
 use Rattle.joint_plan.specs.Rows.{AreOver, IsHistoryOf, hours_of}
@@ -67,18 +69,17 @@ module _ (setup : Setup) (history : List Event) (desks : List DeskState) (is : I
 
   -- the first desk is that of the first hour of the period
   pub is-period : AreOver (graph_of setup) desks → first ≤ last → (desk : DeskState) (rest : List DeskState) → desks ≡ desk ∷ rest → (rooms : List (ℕ × ℕ)) → AreRoomsOver (graph_of setup) desks rooms
-      → IsPeriodOf desk last rooms setup history
+      → IsPeriodOf desk.grid setup history desk.hour last desk.settled rooms
   is-period over up desk rest are rooms rooms_are =
       let inside : IsIn desk desks = subst (IsIn desk) (sym are) (inl refl) in
       let here : desk.hour ≡ first = first-hour desk rest first last (sym (ap (λ ds. hours_of ds) are) ∙ hours) in
       let grid = over desk inside in record {
         is_setup = is.is_setup;
-        over = sym grid;
+        over_grid = sym grid;
         is_history = is.is_history;
         in_hour = is.left desk inside;
         in_order = subst (λ (hour : ℕ). hour ≤ last) (sym here) up;
-        size = rooms_are.size ∙ ap border_count (sym grid);
-        are_rooms = λ arc has.
+        has_rooms = λ arc has.
             rooms_are.are arc (subst (λ (g : Graph). HasArc g arc) grid has) ∙ room-of-period arc
             ∙ ap (λ hour. period_room (hour_events history) hour last arc) (sym here);
       }
@@ -130,7 +131,7 @@ module _ (setup : Setup) (history : List Event) (desks : List DeskState) (caller
   -- which each but the first can plan
   pub matching-can : (desk : DeskState) → IsIn desk desks → ¬ (first ≡ desk.hour) → CanShare desk given
   matching-can desk i later = record {
-    follows = follows setup history desks caller (command.Blocks first last) is desk i (over desk i) legs (swept given desk) (matching-part desk i);
+    follows = follows setup history desks caller (command.Blocks first last) is desk i (over desk i) legs (swept given desk) (matching-part desk i) legs [] (sym (append-nil legs));
     blocks = record { enters = λ entry none. absurd (no-entry entry none); closes = λ same. absurd (later same) };
   }
     where

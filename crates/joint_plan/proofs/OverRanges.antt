@@ -1,4 +1,5 @@
 -- Commands over a range of hours, desk by desk.
+use Rattle.std.proofs.lemmas.List.{append-nil}
 use Rattle.std.proofs.Common.{◌≡◌, ◌∙◌, ℕ, ◌<◌, true, List, [], ◌∷◌, ◌++◌, flat_map, length, Option, None, Some, refl, sym, ap, arith, if◌then◌else◌, subst}
 use Rattle.std.specs.Option.{option_map}
 use Rattle.zone_graph.specs.declared.route.Arc.{Arc}
@@ -187,6 +188,7 @@ module _ (setup : Setup) (history : List Event) (desks : List DeskState) (caller
     pub range-can : (desk : DeskState) → IsIn desk desks → CanShare desk w
     unfolding found
     range-can desk i = record {
-      follows = follows setup history desks caller given is desk i (over desk i) (shared_events desk.settled w) (swept w desk) (range-part desk i);
+      follows = follows setup history desks caller given is desk i (over desk i) (shared_events desk.settled w) (swept w desk) (range-part desk i)
+          (shared_events desk.settled w) [] (sym (append-nil (shared_events desk.settled w)));
       blocks = found.fits desk;
     }

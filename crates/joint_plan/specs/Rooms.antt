@@ -7,8 +7,9 @@ use Rattle.zone_graph.specs.Rooms.{room_of}
 use Rattle.market_model.specs.History.{enters_in}
 use Rattle.market_model.specs.Room.{least}
 use Rattle.joint_laws.specs.PeriodRooms.{hour_room}
+use Rattle.desk_blocks.specs.Periods.{IsFirstOfPeriod}
 use Rattle.hour_desk.specs.Desk.{DeskState}
-use Rattle.hour_desk.specs.Shared.{IsAfterSomeJournal, IsFirstOfPeriod}
+use Rattle.hour_desk.specs.Shared.{IsAfterSomeJournal}
 
 -- the room of an arc in the hour of a desk
 abbrev pub room_at : Arc → DeskState → ℕ
@@ -25,4 +26,5 @@ pub record CanMatch (graph : Graph) (last : ℕ) (rooms : List (ℕ × ℕ)) (de
   pub over : graph ≡ desk.grid
   pub numbers : count_by (enters_in desk.hour) desk.settled < 2 ^ 32 - 1
   pub place : IsAfterSomeJournal desk
-  pub period : IsFirstOfPeriod desk last rooms
+  pub size : length rooms ≡ border_count desk.grid
+  pub period : IsFirstOfPeriod desk.grid desk.hour last desk.settled rooms

@@ -6,8 +6,9 @@ ghost use Rattle.market_model.specs.declared.event.Event.{Event as AnEvent};
 ghost use Rattle.market_model.specs.History.{events_of};
 ghost use Rattle.market_model.specs.Market.{reply_to};
 ghost use Rattle.joint_laws.specs.MatchingBlocks.{legs_of};
+ghost use Rattle.desk_blocks.specs.Periods.{AreDealsOf};
 ghost use Rattle.hour_desk.specs.Desk.{DeskState, planned_events, planning, with_nothing_planned};
-ghost use Rattle.hour_desk.specs.Shared.{AreDealsOfPeriod, then_swept};
+ghost use Rattle.hour_desk.specs.Shared.{then_swept};
 ghost use Rattle.joint_plan.specs.Rooms.{CanMatch};
 ghost use Rattle.joint_plan.specs.Rows.{AreAsked, IsHistoryOf, dropped, planning_all};
 
@@ -69,7 +70,7 @@ fn match_first<D: Desks>(
 ) -> Result<BlockDeals, NoMemory>
     requires some { 0 < length (D.desks row.old) }
     requires can { (desk : DeskState) → slice_get (D.desks row.old) 0 ≡ Some desk → CanMatch grid.now last rooms.old desk }
-    ensures deals { (desk : DeskState) → slice_get (D.desks row.old) 0 ≡ Some desk → IfOk result (λ deals. AreDealsOfPeriod desk last rooms.old deals) }
+    ensures deals { (desk : DeskState) → slice_get (D.desks row.old) 0 ≡ Some desk → IfOk result (λ deals. AreDealsOf desk.grid desk.hour last desk.settled rooms.old deals) }
     ensures planned { (desk : DeskState) → slice_get (D.desks row.old) 0 ≡ Some desk
         → IfOk result (λ deals. D.desks row.new ≡ slice_set (D.desks row.old) 0 (planning desk (then_swept desk (legs_of desk.hour last deals)))) }
     ensures failed { (desk : DeskState) → slice_get (D.desks row.old) 0 ≡ Some desk → OnErr result (D.desks row.new ≡ slice_set (D.desks row.old) 0 (with_nothing_planned desk)) }
