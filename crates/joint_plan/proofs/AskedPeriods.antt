@@ -70,7 +70,7 @@ module _ (setup : Setup) (graph : Graph) (caller first last : ℕ) (desks : List
         period = (
           setup,
           ready-history setup graph desks asked.ready,
-              is-period setup (ready-history setup graph desks asked.ready) desks (ready-is setup graph desks asked.ready) first last
+          is-period setup (ready-history setup graph desks asked.ready) desks (ready-is setup graph desks asked.ready) first last
               (asked-hours setup graph caller (command.Blocks first last) desks asked) (ready-over setup graph desks asked.ready) period-up desk (drop 1 desks) are rooms own-rooms,
         );
       }
