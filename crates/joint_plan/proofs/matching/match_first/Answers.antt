@@ -5,3 +5,6 @@ match_blocks-requires-clause-grid g c = (c.requires.can c.desk_mut.result.now c.
 
 pub match_blocks-requires-clause-few : goal.match_blocks-requires-clause-few
 match_blocks-requires-clause-few g c = (c.requires.can c.desk_mut.result.now c.desk_mut.ensures.value).numbers
+
+pub match_blocks-requires-clause-period : goal.match_blocks-requires-clause-period
+match_blocks-requires-clause-period g c = (c.requires.can c.desk_mut.result.now c.desk_mut.ensures.value).period
