@@ -54,7 +54,8 @@ module _ (graph : Graph) (is : IsGraph graph) where
         (λ arc has. ap (λ n. (n + lots_if (uses leg.route (opposite_arc arc)) leg.lots) - lots_if (uses leg.route arc) leg.lots) (same arc has)) some.1,
   )
 
-  pour-rooms : (one other : Arc → ℕ) (from to most : ℕ) → AreAlike one other → pour graph one from to most ≡ pour graph other from to most
+  -- so a pour is the same
+  pub pour-rooms : (one other : Arc → ℕ) (from to most : ℕ) → AreAlike one other → pour graph one from to most ≡ pour graph other from to most
   pour-rooms one other from to most same =
       (runs_to_its_end graph other from to most (pour graph one from to most) is).0
       (poured-rooms (pour graph one from to most) one other from to most same (pour-run graph from to one most is))

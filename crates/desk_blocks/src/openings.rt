@@ -1,16 +1,14 @@
 //! Whether legs may give an arc of an hour its first room.
 
-ghost use Rattle.std.specs.Prelude.{◌≡◌, ◌≤◌, nat_lt};
-ghost use Rattle.order_kinds.specs.Period.{quarter_of};
+ghost use Rattle.std.specs.Prelude.{◌≡◌, nat_lt};
 ghost use Rattle.zone_graph.specs.declared.route.Arc.{Arc as RouteArc};
 ghost use Rattle.zone_graph.specs.Graph.{HasArc};
 ghost use Rattle.zone_graph.specs.Route.{IsIn};
-ghost use Rattle.market_model.specs.Room.{is_open_phase, quarter_room};
 ghost use Rattle.joint_laws.specs.PeriodRooms.{hour_room};
 ghost use Rattle.desk_blocks.specs.Openings as openings;
 
+use desk_changes::has_room_in;
 use kept_hour::KeptHour;
-use order_kinds::Phase;
 use zone_graph::{Arc, RouteLeg};
 
 /// Whether one of some legs goes over an arc whose opposite arc lacks room in some quarter of the hour.
@@ -57,25 +55,4 @@ fn has_room(hour: &KeptHour, arc: Arc) -> bool
     let three = has_room_in(hour, arc, 3);
     let four = has_room_in(hour, arc, 4);
     one && two && three && four
-}
-
-// Whether an arc has room in a quarter of the hour.
-fn has_room_in(hour: &KeptHour, arc: Arc, number: u32) -> bool
-    requires arc { HasArc hour.now.board.grid arc }
-    requires first { 1 ≤ number }
-    requires last { number ≤ 4 }
-    ensures { result ≡ nat_lt 0 (quarter_room hour.now.board.events arc (quarter_of hour.now.board.hour number)) }
-{
-    let flows = hour.flows();
-    let open = is_open(flows.phase());
-    let halted = flows.halted(arc.border);
-    let lots = flows.remaining(arc, number);
-    open && !halted && lots > 0
-}
-
-// Whether orders match across zones in a phase.
-fn is_open(phase: Phase) -> bool
-    ensures { result ≡ is_open_phase phase }
-{
-    matches!(phase, Phase::Open)
 }

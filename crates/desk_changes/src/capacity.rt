@@ -16,7 +16,7 @@ use zone_graph::{Arc, Grid, NoMemory};
 /// Offers so many lots on an arc in a range of quarters, some of which are this hour's, and sweeps the
 /// hour.
 ///
-/// Nothing is planned before, and nothing is left to trade. The hour has all its seven parts.
+/// Nothing is planned before, and nothing is left to trade.
 ///
 /// # Errors
 ///
@@ -31,7 +31,6 @@ pub fn offer(
     lots: u32,
 ) -> Result<(), NoMemory>
     requires grid { grid.now ≡ hour.old.board.grid }
-    requires parts { 7 ≤ hour.old.board.parts }
     requires unplanned { IsUnplanned hour.old }
     requires next { CanBeNext hour.old (offer_of arc first last lots) }
     requires quiet { IsSettled grid.now hour.old.board.hour hour.old.settled }
@@ -47,7 +46,7 @@ pub fn offer(
 /// Grants so many lots on an arc in a range of quarters, some of which are this hour's, and sweeps the
 /// hour.
 ///
-/// Nothing is planned before, and nothing is left to trade. The hour has all its seven parts.
+/// Nothing is planned before, and nothing is left to trade.
 ///
 /// # Errors
 ///
@@ -62,7 +61,6 @@ pub fn grant(
     lots: u32,
 ) -> Result<(), NoMemory>
     requires grid { grid.now ≡ hour.old.board.grid }
-    requires parts { 7 ≤ hour.old.board.parts }
     requires unplanned { IsUnplanned hour.old }
     requires next { CanBeNext hour.old (grant_of arc first last lots) }
     requires quiet { IsSettled grid.now hour.old.board.hour hour.old.settled }

@@ -32,7 +32,7 @@ pub fn halt(hour: &mut KeptHour, border: u32, first: u32, last: u32) -> Result<(
 
 /// Lets trade over a border go on from an hour to an hour, this one among them, and sweeps the hour.
 ///
-/// Nothing is planned before, and nothing is left to trade. The hour has all its seven parts.
+/// Nothing is planned before, and nothing is left to trade.
 ///
 /// # Errors
 ///
@@ -46,7 +46,6 @@ pub fn resume(
     last: u32,
 ) -> Result<(), NoMemory>
     requires grid { grid.now ≡ hour.old.board.grid }
-    requires parts { 7 ≤ hour.old.board.parts }
     requires unplanned { IsUnplanned hour.old }
     requires next { CanBeNext hour.old (resumption_of border first last) }
     requires quiet { IsSettled grid.now hour.old.board.hour hour.old.settled }

@@ -18,4 +18,5 @@ mod sweeping;
 pub use capacity::{grant, offer};
 pub use closing::gate;
 pub use halting::{halt, resume};
+pub use openings::has_room_in;
 pub use zone_graph::NoMemory;

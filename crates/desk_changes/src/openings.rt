@@ -35,10 +35,10 @@ fn parts_of_arc(hour: &KeptHour, arc: Arc) -> PartSet
     requires { HasArc hour.now.board.grid arc }
     ensures { openings.HaveRoom hour.now.board arc result }
 {
-    let one = has_room(hour, arc, 1);
-    let two = has_room(hour, arc, 2);
-    let three = has_room(hour, arc, 3);
-    let four = has_room(hour, arc, 4);
+    let one = has_room_in(hour, arc, 1);
+    let two = has_room_in(hour, arc, 2);
+    let three = has_room_in(hour, arc, 3);
+    let four = has_room_in(hour, arc, 4);
     let first = one && two;
     let second = three && four;
     let all = first && second;
@@ -47,8 +47,8 @@ fn parts_of_arc(hour: &KeptHour, arc: Arc) -> PartSet
     }
 }
 
-// Whether an arc has room in a quarter of an hour.
-fn has_room(hour: &KeptHour, arc: Arc, number: u32) -> bool
+/// Whether an arc has room in a quarter of an hour, as its planned events leave it.
+pub fn has_room_in(hour: &KeptHour, arc: Arc, number: u32) -> bool
     requires arc { HasArc hour.now.board.grid arc }
     requires first { 1 ≤ number }
     requires last { number ≤ 4 }

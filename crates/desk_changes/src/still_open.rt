@@ -1,15 +1,14 @@
 //! The orders and blocks of an hour that are open, in order of entry.
 
-ghost use Rattle.std.specs.Prelude.{◌≡◌, None, IfOk, true};
-ghost use Rattle.order_kinds.specs.Contract as contracts;
+ghost use Rattle.std.specs.Prelude.{◌≡◌, None, IfOk};
 ghost use Rattle.zone_graph.specs.Route.{IsIn};
 ghost use Rattle.block_lines.specs.BlockLaws.{IsOfOrder};
 ghost use Rattle.book_lines.specs.BookLaws.{IsOfBlock};
 ghost use Rattle.market_model.specs.Board.{IsBoard};
 ghost use Rattle.desk_changes.specs.StillOpen as listed;
 
-use kept_hour::KeptHour;
-use market_model::{Event, OrderName, Part};
+use kept_hour::{KeptHour, number_of};
+use market_model::{Event, OrderName};
 use std::alloc::Global;
 use zone_graph::NoMemory;
 
@@ -90,16 +89,4 @@ fn open_block(hour: &KeptHour, name: OrderName) -> Option<StillOpen>
         part: 0,
         lots: block.quantity,
     })
-}
-
-// The number of a part: the hour has 0, its quarters 1 to 4, its halves 5 and 6.
-fn number_of(part: Part) -> u32
-    requires { contracts.is_known part ≡ true }
-    ensures { result ≡ contracts.part_number part }
-{
-    match part {
-        Part::Hour => 0,
-        Part::Quarter(number) => number,
-        Part::Half(number) => 4 + number,
-    }
 }

@@ -21,7 +21,6 @@ pub(crate) fn sweep_planned(
     opened: PartSet,
 ) -> Result<(), NoMemory>
     requires grid { grid.now ≡ hour.old.board.grid }
-    requires parts { 7 ≤ hour.old.board.parts }
     requires free { hour.old.board.hand ≡ None }
     requires quiet { OthersAreQuiet hour.old.board opened }
     ensures swept { OnOk result (hour.new ≡ with_board hour.old (swept hour.old.board)) }

@@ -32,6 +32,7 @@ use Rattle.market_locality.proofs.States.{filled-agree, left-agree}
 use Rattle.match_core.specs.declared.taker.Taker.{Taker}
 use Rattle.match_core.specs.Takers.{price_at, taker_at, taker_of}
 use Rattle.match_core.specs.Takings.{HasEntered}
+use Rattle.kept_hour.proofs.PartNumbers.{part-of_number}
 use Rattle.desk_entering.specs.Entries.{Enters, placed_next}
 use Rattle.desk_entering.proofs.Entry as entries
 
@@ -64,24 +65,6 @@ price-fresh order zero = price-first order
 price-fresh order (suc more) = price-first order
 
 -- ---- its part
-
--- the part of its number is the part
-part-of_number : (p : Part) → is_known p ≡ true → part_at (part_number p) ≡ p
-part-of_number part.Hour known = refl
-part-of_number (part.Quarter zero) known = absurd (cc)
-part-of_number (part.Quarter (suc zero)) known = refl
-part-of_number (part.Quarter (suc (suc zero))) known = refl
-part-of_number (part.Quarter (suc (suc (suc zero)))) known = refl
-part-of_number (part.Quarter (suc (suc (suc (suc zero))))) known = refl
-part-of_number (part.Quarter (suc (suc (suc (suc (suc more)))))) known =
-    absurd (let both = and_parts (nat_le 1 (suc (suc (suc (suc (suc more)))))) (nat_le (suc (suc (suc (suc (suc more))))) 4) known in
-    let most = leb-true (suc (suc (suc (suc (suc more))))) 4 both.1 in let no : ⊥ = omega (arith, most) in no)
-part-of_number (part.Half zero) known = absurd (cc)
-part-of_number (part.Half (suc zero)) known = refl
-part-of_number (part.Half (suc (suc zero))) known = refl
-part-of_number (part.Half (suc (suc (suc more)))) known =
-    absurd (let both = and_parts (nat_le 1 (suc (suc (suc more)))) (nat_le (suc (suc (suc more))) 2) known in
-    let most = leb-true (suc (suc (suc more))) 2 both.1 in let no : ⊥ = omega (arith, most) in no)
 
 pub part-low : (p : Part) → is_known p ≡ true → part_number p < 7
 part-low part.Hour known = omega arith

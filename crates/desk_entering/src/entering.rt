@@ -18,8 +18,8 @@ ghost use Rattle.desk_entering.specs.Entries.{AreZonesOf, Enters, IsJudged, IsSe
 use crate::ending::{end_taking, refusal_for};
 use crate::obstacle::Obstacle;
 use crate::opening::sweep_if_opened;
-use crate::taking::{enter_and_take, number_of};
-use kept_hour::KeptHour;
+use crate::taking::enter_and_take;
+use kept_hour::{KeptHour, number_of};
 use market_model::{NoMemory, Order, Refusal};
 use std::alloc::Global;
 use zone_graph::{Grid, Rooms};
@@ -29,7 +29,7 @@ use zone_graph::{Grid, Rooms};
 /// wholly and cannot be, or what would rest of it has no room on the desk. Answers why it is refused;
 /// nothing is planned then.
 ///
-/// The hour has all its seven parts and nothing planned, and nothing is left to trade in it. `rooms`
+/// The hour has nothing planned, and nothing is left to trade in it. `rooms`
 /// are the rooms of the order's part, as they are settled.
 ///
 /// # Errors
@@ -44,7 +44,6 @@ pub fn enter_order(
     order: &Order,
 ) -> Result<Option<Refusal>, NoMemory>
     requires grid { grid.now ≡ hour.old.board.grid }
-    requires parts { 7 ≤ hour.old.board.parts }
     requires unplanned { IsUnplanned hour.old }
     requires few { names_given hour.old.board < 2 ^ 32 - 1 }
     requires in_hour { order.now.contract.hour ≡ hour.old.board.hour }
@@ -83,7 +82,6 @@ fn plan(
     order: &Order,
 ) -> Result<Option<Obstacle>, NoMemory>
     requires grid { grid.now ≡ hour.old.board.grid }
-    requires parts { 7 ≤ hour.old.board.parts }
     requires unplanned { IsUnplanned hour.old }
     requires few { names_given hour.old.board < 2 ^ 32 - 1 }
     requires enters { Enters hour.old.board.grid hour.old.board.hour hour.old.settled caller order.now }

@@ -29,7 +29,6 @@ pub(crate) fn sweep_if_opened(
     rooms: &Rooms,
 ) -> Result<(), NoMemory>
     requires grid { grid.now ≡ hour.old.board.grid }
-    requires parts { 7 ≤ hour.old.board.parts }
     requires no_hand { hour.old.board.hand ≡ None }
     requires size { length rooms.now ≡ border_count grid.now }
     requires quiet { opening.any_opens (room_of rooms.now) (opening.planned_events hour.old) ≡ false → hour_sweep hour.old.board ≡ [] }

@@ -1,6 +1,6 @@
 //! An order enters an hour and takes.
 
-ghost use Rattle.std.specs.Prelude.{◌≡◌, ◌<◌, ◌≤◌, ◌^◌, ◌-◌, ℕ, true, IfOk};
+ghost use Rattle.std.specs.Prelude.{◌≡◌, ◌<◌, ◌^◌, ◌-◌, ℕ, IfOk};
 ghost use Rattle.order_kinds.specs.Contract as contracts;
 ghost use Rattle.book_lines.specs.BookOf.{ice_of};
 ghost use Rattle.match_core.specs.Takers.{taker_at};
@@ -10,7 +10,7 @@ ghost use Rattle.desk_entering.specs.Entries.{Enters, HasTaken, IsSettledAs};
 
 use contract_book::Ice;
 use kept_hour::KeptHour;
-use market_model::{Kind, NoMemory, Order, OrderName, Part};
+use market_model::{Kind, NoMemory, Order, OrderName};
 use match_core::{Taker, take};
 use std::alloc::Global;
 use zone_graph::Grid;
@@ -30,7 +30,6 @@ pub(crate) fn enter_and_take(
     order: &Order,
 ) -> Result<Taker, NoMemory>
     requires grid { grid.now ≡ hour.old.board.grid }
-    requires parts { 7 ≤ hour.old.board.parts }
     requires unplanned { IsUnplanned hour.old }
     requires few { names_given hour.old.board < 2 ^ 32 - 1 }
     requires enters { Enters hour.old.board.grid hour.old.board.hour hour.old.settled caller order.now }
@@ -75,18 +74,5 @@ fn hidden_of(order: &Order) -> Option<Ice>
             filled: 0,
         }),
         Kind::Limit | Kind::Ioc | Kind::Fok => None,
-    }
-}
-
-/// The number of a part.
-pub(crate) fn number_of(part: Part) -> u32
-    requires known { contracts.is_known part ≡ true }
-    ensures number { result ≡ contracts.part_number part }
-    ensures few { result < 7 }
-{
-    match part {
-        Part::Hour => 0,
-        Part::Quarter(number) => number,
-        Part::Half(number) => 4 + number,
     }
 }

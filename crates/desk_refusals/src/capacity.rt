@@ -1,20 +1,15 @@
 //! The rules on offers and requests: the first quarter in which more flows than is offered, or in which
 //! there is less room than is requested.
 
-ghost use Rattle.std.specs.Prelude.{◌≡◌, ◌+◌, ◌*◌};
-ghost use Rattle.order_kinds.specs.Period.{quarter_of, range_has};
+ghost use Rattle.std.specs.Prelude.{◌≡◌};
 ghost use Rattle.zone_graph.specs.Graph.{HasArc};
-ghost use Rattle.flow_lines.specs.FlowLaws.{IsRangeIn};
-ghost use Rattle.flow_netting.specs.QuarterSet.{has};
-ghost use Rattle.kept_hour.specs.Bits.{bit};
 ghost use Rattle.market_model.specs.Refusals as refusals;
 ghost use Rattle.plain_refusals.specs.Asked.{first_in_hour};
 ghost use Rattle.plain_refusals.specs.State.{capacity_refusal};
 ghost use Rattle.desk_refusals.specs.Concerned.{ConcernsAlone};
 
 use capacity_requests::{test_offer, test_request};
-use flow_netting::QuarterSet;
-use kept_hour::KeptHour;
+use kept_hour::{KeptHour, quarters_in_range};
 use market_model::{Command, Refusal};
 use order_kinds::Quarter;
 use zone_graph::{Arc, Grid};
@@ -96,23 +91,4 @@ pub(crate) fn refuse_by_capacity(hour: &KeptHour, grid: &Grid, command: &Command
         }
         _ => None,
     }
-}
-
-// The quarters of an hour that are in a range.
-fn quarters_in_range(hour: u32, first: Quarter, last: Quarter) -> QuarterSet
-    ensures { IsRangeIn hour first last (has result) }
-{
-    let one = bit_in_range(hour, 1, first, last);
-    let two = bit_in_range(hour, 2, first, last);
-    let three = bit_in_range(hour, 3, first, last);
-    let four = bit_in_range(hour, 4, first, last);
-    QuarterSet(one + 2 * two + 4 * three + 8 * four)
-}
-
-// 1 where a quarter of an hour is in a range, and else 0.
-fn bit_in_range(hour: u32, number: u32, first: Quarter, last: Quarter) -> u8
-    ensures { result ≡ bit (range_has first last (quarter_of hour number)) }
-{
-    let quarter = Quarter { hour, number };
-    u8::from(quarter.is_in_range(first, last))
 }

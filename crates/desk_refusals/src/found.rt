@@ -9,10 +9,10 @@ ghost use Rattle.block_lines.specs.BlocksOf as blocks;
 ghost use Rattle.market_model.specs.Orders as orders;
 ghost use Rattle.desk_refusals.specs.Found.{IsOpenAs, record_of};
 
-use crate::told::{contract_told, enters_limit, number_of};
+use crate::told::{contract_told, enters_limit};
 use block_book::RestingBlock;
 use contract_book::Resting;
-use kept_hour::KeptHour;
+use kept_hour::{KeptHour, number_of};
 
 /// The order of a number, if it is open. No order is in hand.
 pub(crate) fn open_order(hour: &KeptHour, number: u32) -> Option<Resting>

@@ -1,10 +1,9 @@
 //! What the event at the moment of an order tells of it.
 
-ghost use Rattle.std.specs.Prelude.{◌≡◌, ◌≤◌, ◌<◌, true};
-ghost use Rattle.order_kinds.specs.Contract as contracts;
+ghost use Rattle.std.specs.Prelude.{◌≡◌, ◌≤◌};
 ghost use Rattle.desk_refusals.specs.Told as told;
 
-use market_model::{Contract, Event, Part};
+use market_model::{Contract, Event};
 
 /// The contract in which the event at a moment of an hour enters an order or trades.
 pub(crate) fn contract_told(events: &[Event], moment: u64) -> Option<Contract>
@@ -26,17 +25,5 @@ pub(crate) fn enters_limit(events: &[Event], moment: u64) -> bool
     match events.get(moment as usize - 1) {
         Some(Event::Entered { order, .. }) => order.kind.is_limit(),
         _ => false,
-    }
-}
-
-/// The number of a part: the hour has 0, its quarters 1 to 4, its halves 5 and 6.
-pub(crate) fn number_of(part: Part) -> u32
-    requires known { contracts.is_known part ≡ true }
-    ensures number { result ≡ contracts.part_number part }
-{
-    match part {
-        Part::Hour => 0,
-        Part::Quarter(number) => number,
-        Part::Half(number) => 4 + number,
     }
 }

@@ -13,6 +13,7 @@ use Rattle.zone_graph.proofs.Again.{or-true}
 use Rattle.zone_graph.proofs.Membership.{IsIn-filter, IsIn-range, from_filter, from_range}
 use Rattle.near_changes.specs.Changes.{AreAmong}
 use Rattle.kept_hour.specs.Changed.{HasTouched}
+use Rattle.contract_book.proofs.BookShapes.{any-no}
 use Rattle.local_view.specs.Nearness.{is_joined, is_near, near_count, zones_touched}
 
 pub holds-zero : (zone : ℕ) → holds 0 zone ≡ false
@@ -53,10 +54,6 @@ none_pass : {X : Type 0} (p : X → Bool) (xs : List X) → ((x : X) → p x ≡
 none_pass p [] none = refl
 none_pass p (x ∷ xs) none = rw (none x) (none_pass p xs none)
 
-any_none : {X : Type 0} (p : X → Bool) (xs : List X) → ((x : X) → p x ≡ false) → list_any p xs ≡ false
-any_none p [] none = refl
-any_none p (x ∷ xs) none = rw (none x) (any_none p xs none)
-
 -- no bit is no zone, and no zone is near
 pub none_touched : (graph : Graph) → zones_touched graph 0 ≡ []
 none_touched graph = none_pass (holds 0) (range_with_len 0 (zone_count graph)) holds-zero
@@ -64,5 +61,5 @@ none_touched graph = none_pass (holds 0) (range_with_len 0 (zone_count graph)) h
 pub none_near : (graph : Graph) (room : Arc → ℕ) (side : Side) → near_count graph room side 0 ≡ 0
 none_near graph room side =
     ap length (none_pass (is_near graph room side 0) (range_with_len 0 (zone_count graph))
-    (λ zone. any_none (λ other. holds 0 other && is_joined graph room side zone other) (range_with_len 0 (zone_count graph))
-    (λ other. ap (λ b. b && is_joined graph room side zone other) (holds-zero other))))
+    (λ zone. any-no (λ other. holds 0 other && is_joined graph room side zone other) (range_with_len 0 (zone_count graph))
+    (λ other i. ap (λ b. b && is_joined graph room side zone other) (holds-zero other))))

@@ -14,6 +14,7 @@ use Rattle.zone_graph.specs.Rooms.{room_of}
 use Rattle.zone_graph.specs.Route.{IsIn, has}
 use Rattle.zone_graph.proofs.Again.{or-true}
 use Rattle.zone_graph.proofs.Membership.{IsIn-has, IsIn-range, has-IsIn}
+use Rattle.contract_book.proofs.BookShapes.{any-some}
 use Rattle.market_model.specs.declared.event.Event.{Event}
 use Rattle.market_model.specs.Room.{room}
 use Rattle.near_changes.specs.Changes.{AreAmong, RoomsDifferWithin}
@@ -53,11 +54,6 @@ pub none-moved : (graph : Graph) (before after : List Event) (contract : Contrac
     → RoomsDifferWithin graph before after contract zones
 none-moved graph before after contract zones same arc known differs = absurd (differs (same arc known))
 
-any-here : {X : Type 0} (p : X → Bool) (xs : List X) (x : X) → IsIn x xs → p x ≡ true → list_any p xs ≡ true
-any-here p [] x i is = absurd i
-any-here p (y ∷ xs) x (inl same) is = ap (λ b. b || list_any p xs) (ap p (sym same) ∙ is)
-any-here p (y ∷ xs) x (inr i) is = ap (λ b. p y || b) (any-here p xs x i is) ∙ or-true (p y)
-
 -- an arc has one of the two directions
 arc-moved : (old new : List (ℕ × ℕ)) (border : ℕ) (forward : Bool) → is_moved old new (record { border = border; forward = forward }) ≡ true → has_moved old new border ≡ true
 arc-moved old new border true is = ap (λ b. b || is_moved old new (record { border = border; forward = false })) is
@@ -87,7 +83,7 @@ module _ (graph : Graph) (is : IsGraph graph) (few : zone_count graph ≤ 64) (b
       touched zone there is_end =
           in_touched graph zones zone there
           (moved zone (omega (arith, there, few))
-          ∙ any-here (moves_in graph old new zone) (range_with_len 0 (border_count graph)) arc.border (IsIn-range arc.border 0 (border_count graph) (omega arith) (omega (arith, known)))
+          ∙ any-some (moves_in graph old new zone) arc.border (range_with_len 0 (border_count graph)) (IsIn-range arc.border 0 (border_count graph) (omega arith) (omega (arith, known)))
           (ap (λ b. b && (((ends_of graph arc.border).0 == zone) || ((ends_of graph arc.border).1 == zone))) here ∙ is_end))
 
       both : IsIn (start_of graph arc) (zones_touched graph zones) × IsIn (end_of graph arc) (zones_touched graph zones)

@@ -13,6 +13,7 @@ use Rattle.market_model.specs.declared.setup.Setup.{Setup}
 use Rattle.market_model.specs.Grid.{graph_of}
 use Rattle.market_model.specs.View.{view}
 use Rattle.kept_hour.specs.State.{HourState, settled_board}
+use Rattle.kept_hour.proofs.PartNumbers.{part-of_number}
 use Rattle.local_view.specs.Kept.{kept_of}
 use Rattle.desk_views.specs.Desk.{DeskState}
 use Rattle.desk_views.specs.Standing.{StandAt}
@@ -20,24 +21,6 @@ use Rattle.plain_market.proofs.Admitting.{view-named}
 use Rattle.hour_desk.specs.Placed.{CanChange}
 use Rattle.hour_desk.proofs.Commands.{one-hour}
 use Rattle.hour_desk.proofs.Planned.{let-in}
-
--- the part of its number is the part
-part-of_number : (p : Part) → is_known p ≡ true → part_at (part_number p) ≡ p
-part-of_number part.Hour known = refl
-part-of_number (part.Quarter zero) known = absurd (cc)
-part-of_number (part.Quarter (suc zero)) known = refl
-part-of_number (part.Quarter (suc (suc zero))) known = refl
-part-of_number (part.Quarter (suc (suc (suc zero)))) known = refl
-part-of_number (part.Quarter (suc (suc (suc (suc zero))))) known = refl
-part-of_number (part.Quarter (suc (suc (suc (suc (suc more)))))) known =
-    absurd (let both = and_parts (nat_le 1 (suc (suc (suc (suc (suc more)))))) (nat_le (suc (suc (suc (suc (suc more))))) 4) known in
-    let most = leb-true (suc (suc (suc (suc (suc more))))) 4 both.1 in let no : ⊥ = omega (arith, most) in no)
-part-of_number (part.Half zero) known = absurd (cc)
-part-of_number (part.Half (suc zero)) known = refl
-part-of_number (part.Half (suc (suc zero))) known = refl
-part-of_number (part.Half (suc (suc (suc more)))) known =
-    absurd (let both = and_parts (nat_le 1 (suc (suc (suc more)))) (nat_le (suc (suc (suc more))) 2) known in
-    let most = leb-true (suc (suc (suc more))) 2 both.1 in let no : ⊥ = omega (arith, most) in no)
 
 contract-of : (hour : ℕ) → Part → Contract
 contract-of hour p = record { hour = hour; part = p }

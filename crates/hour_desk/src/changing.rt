@@ -1,8 +1,7 @@
 //! What a command does in an hour that it touches alone.
 
-ghost use Rattle.std.specs.Prelude.{◌≡◌, ◌≢◌, ◌<◌, ◌-◌, ◌^◌, Ok, None, Some, IfOk, IsSome, OnErr, OnOk, true};
+ghost use Rattle.std.specs.Prelude.{◌≡◌, ◌≢◌, ◌<◌, ◌-◌, ◌^◌, Ok, None, Some, IfOk, IsSome, OnErr, OnOk};
 ghost use Rattle.order_kinds.specs.declared.order.Order.{Order as AnOrder};
-ghost use Rattle.order_kinds.specs.Contract as contracts;
 ghost use Rattle.zone_graph.specs.Grid.{arc_between};
 ghost use Rattle.market_model.specs.declared.command.Command.TheVariants as commands;
 ghost use Rattle.market_model.specs.declared.refusal.Refusal.{Refusal as Reason};
@@ -21,8 +20,8 @@ use desk_changes::{gate, grant, halt, offer, resume};
 use desk_entering::enter_order;
 use desk_refusals::own_of;
 use desk_views::DeskViews;
-use kept_hour::KeptHour;
-use market_model::{Command, OrderName, Part, Refusal, Setup};
+use kept_hour::{KeptHour, number_of};
+use market_model::{Command, OrderName, Refusal, Setup};
 use std::alloc::Global;
 use zone_graph::{Arc, Grid, NoMemory};
 
@@ -211,18 +210,5 @@ fn reduce(
     match own_of(hour, caller, name.number) {
         Some(own) => hour.reduce(own.part(), name.number, own.left() - to),
         None => unreachable!(),
-    }
-}
-
-/// The number of a part: the hour has 0, its quarters 1 to 4, its halves 5 and 6.
-pub(crate) fn number_of(part: Part) -> u32
-    requires known { contracts.is_known part ≡ true }
-    ensures number { result ≡ contracts.part_number part }
-    ensures few { result < 7 }
-{
-    match part {
-        Part::Hour => 0,
-        Part::Quarter(number) => number,
-        Part::Half(number) => 4 + number,
     }
 }

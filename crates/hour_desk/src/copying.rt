@@ -5,12 +5,12 @@ ghost use Rattle.std.specs.Prelude.{◌≡◌, ◌≤◌, IfOk, drop, length};
 use market_model::{Duplicate, Event, Events, NoMemory, Rows, ViewRow};
 use std::alloc::Global;
 
-/// The events from a place on.
+/// The events from a place on, counted from 0.
 ///
 /// # Errors
 ///
 /// [`NoMemory`] where memory runs out.
-pub(crate) fn events_from(alloc: Global, events: &[Event], place: usize) -> Result<Events, NoMemory>
+pub fn events_from(alloc: Global, events: &[Event], place: usize) -> Result<Events, NoMemory>
     requires { place ≤ length events.now }
     ensures { IfOk result (λ made. made ≡ drop place events.now) }
 {

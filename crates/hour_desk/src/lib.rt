@@ -17,6 +17,7 @@ mod planning;
 mod replying;
 mod sharing;
 
+pub use copying::events_from;
 pub use desk::HourDesk;
 pub use part_work::{BlockDeals, BlockEntry, PartWork};
 pub use zone_graph::NoMemory;

@@ -12,11 +12,11 @@ ghost use Rattle.desk_views.specs.Desk.{forgotten};
 ghost use Rattle.desk_views.specs.Standing.{IsNext, StandAt};
 ghost use Rattle.hour_desk.specs.Placed.{CanChange, IsPlaced};
 
-use crate::changing::{change, number_of};
+use crate::changing::change;
 use crate::copying::{events_from, rows_of};
 use desk_refusals::refuse_by_state;
 use desk_views::DeskViews;
-use kept_hour::KeptHour;
+use kept_hour::{KeptHour, number_of};
 use market_model::{Command, Events, Reply, Setup};
 use std::alloc::Global;
 use zone_graph::{Grid, NoMemory};

@@ -11,6 +11,7 @@ mod AskedRanges
 mod LeastRooms
 mod OverPeriods
 mod AskedPeriods
+mod Matched
 mod SameRooms
 mod Entered
 mod OverEntries

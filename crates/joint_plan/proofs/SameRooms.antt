@@ -1,5 +1,5 @@
 -- The deal of a block depends on the rooms of the graph's arcs alone.
-use Rattle.std.proofs.Common.{◌≡◌, ◌∙◌, ℕ, zero, suc, ◌+◌, ◌-◌, ◌==◌, ◌&&◌, false, List, [], ◌∷◌, Option, Some, None, refl, sym, ap, if◌then◌else◌}
+use Rattle.std.proofs.Common.{◌≡◌, ℕ, ◌==◌, ◌&&◌, false, List, Option, ap, if◌then◌else◌}
 use Rattle.std.proofs.Math.Path.{fun_ext}
 use Rattle.std.specs.List.{find}
 use Rattle.std.specs.Option.{option_map}
@@ -7,54 +7,13 @@ use Rattle.order_kinds.specs.Side.{opposite}
 use Rattle.zone_graph.specs.declared.route.Arc.{Arc}
 use Rattle.zone_graph.specs.declared.route.RouteLeg.{RouteLeg}
 use Rattle.zone_graph.specs.Graph.{Graph, HasArc, IsGraph}
-use Rattle.zone_graph.specs.Pour.{lots_if, opposite_arc, pour, pour_leg, room_after, uses}
-use Rattle.zone_graph.specs.Route.{IsIn, best_route, carried}
-use Rattle.zone_graph.proofs.BestRoute.{best_route-is, best_route-rooms}
-use Rattle.cut_proof.proofs.Ways.{way_has_arc}
-use Rattle.route_carrying.proofs.Carrying.{carried-rooms}
 use Rattle.route_choice.specs.Poured.{lots_of}
-use Rattle.route_choice.proofs.Pours.{Poured, pour-run, runs_to_its_end}
 use Rattle.block_book.specs.declared.block.RestingBlock.{RestingBlock}
 use Rattle.block_book.specs.Book.{line_of}
 use Rattle.block_match.specs.declared.deal.BlockDeal.{BlockDeal}
 use Rattle.block_match.specs.Deals.{deal_of_block}
 use Rattle.block_match.specs.Meeting.{is_crossed, legs_between}
-
-module _ (graph : Graph) (is : IsGraph graph) where
-  -- rooms that are the same at the graph's arcs
-  abbrev AreAlike : (one other : Arc → ℕ) → Type 0
-  AreAlike one other = (arc : Arc) → HasArc graph arc → one arc ≡ other arc
-
-  -- the next leg of a pour
-  leg-rooms : (one other : Arc → ℕ) (from to lots : ℕ) → AreAlike one other → pour_leg graph one from to lots ≡ pour_leg graph other from to lots
-  leg-rooms one other from to zero same = refl
-  leg-rooms one other from to (suc more) same =
-      go (best_route graph one from to) refl ∙ ap (option_map (over other)) (best_route-rooms graph one other from to is same)
-    where
-      over : (Arc → ℕ) → List Arc → RouteLeg
-      over its route = record { route = route; lots = carried its (suc more) route }
-
-      arcs : (route : List Arc) → best_route graph one from to ≡ Some route → (arc : Arc) → IsIn arc route → HasArc graph arc
-      arcs route found arc i = way_has_arc graph one from to route arc (best_route-is graph one from to route is found).route.way i
-
-      go : (o : Option (List Arc)) → best_route graph one from to ≡ o → option_map (over one) o ≡ option_map (over other) o
-      go None found = refl
-      go (Some route) found =
-          ap (λ lots. Some (record { route = route; lots = lots })) (carried-rooms graph one other (suc more) route same (arcs route found))
-
-  -- all of its legs
-  poured-rooms : (legs : List RouteLeg) (one other : Arc → ℕ) (from to left : ℕ) → AreAlike one other → Poured graph from to one left legs → Poured graph from to other left legs
-  poured-rooms [] one other from to left same none = sym (leg-rooms one other from to left same) ∙ none
-  poured-rooms (leg ∷ legs) one other from to left same some = (
-    sym (leg-rooms one other from to left same) ∙ some.0,
-    poured-rooms legs (room_after one leg) (room_after other leg) from to (left - leg.lots)
-        (λ arc has. ap (λ n. (n + lots_if (uses leg.route (opposite_arc arc)) leg.lots) - lots_if (uses leg.route arc) leg.lots) (same arc has)) some.1,
-  )
-
-  pour-rooms : (one other : Arc → ℕ) (from to most : ℕ) → AreAlike one other → pour graph one from to most ≡ pour graph other from to most
-  pour-rooms one other from to most same =
-      (runs_to_its_end graph other from to most (pour graph one from to most) is).0
-      (poured-rooms (pour graph one from to most) one other from to most same (pour-run graph from to one most is))
+use Rattle.desk_blocks.proofs.SameRooms.{pour-rooms}
 
 -- the deal of a block, by the legs between two blocks
 abbrev deal_by : (legs : RestingBlock → RestingBlock → List RouteLeg) → (book : List RestingBlock) → (own : RestingBlock) → Option BlockDeal

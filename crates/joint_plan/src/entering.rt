@@ -3,7 +3,6 @@
 ghost use Rattle.std.specs.Prelude.{◌≡◌, ◌<◌, ◌∷◌, ◌++◌, ℕ, IfOk, List, OnErr, OnOk, Some, drop, flat_map, length, map, slice_get};
 ghost use Rattle.std.specs.Option.{option_to_list};
 ghost use Rattle.zone_graph.specs.Route.{IsIn};
-ghost use Rattle.block_lines.specs.BlocksOf.{entered_resting_block};
 ghost use Rattle.market_model.specs.declared.command.Command.TheVariants as commands;
 ghost use Rattle.market_model.specs.declared.event.Event.{Event as AnEvent};
 ghost use Rattle.market_model.specs.History.{events_of};
@@ -20,9 +19,9 @@ use crate::parts::{plan_at, plan_others};
 use crate::period_rooms::period_rooms;
 use crate::refusing::refuse_closed;
 use crate::undoing::refuse;
-use block_book::RestingBlock;
 use block_match::{BlockDeal, match_block};
 use hour_desk::{BlockDeals, BlockEntry, PartWork};
+use kept_hour::entered_block;
 use market_model::{Events, Refusal, Reply, Setup};
 use order_kinds::BlockOrder;
 use std::alloc::Global;
@@ -75,24 +74,8 @@ fn find_deal<D: Desks>(
     let desk = row.desk(0);
     let number = desk.next_number();
     let moment = desk.settled().len() as u64 + 1;
-    let block = entering_block(number, caller, order, moment);
+    let block = entered_block(number, caller, order, moment);
     match_block(alloc, grid, desk.blocks(), rooms, &block)
-}
-
-// The record of a block that enters.
-fn entering_block(number: u32, caller: u32, order: &BlockOrder, moment: u64) -> RestingBlock
-    ensures { (hour : ℕ) → result ≡ entered_resting_block (record { hour = hour; number = number }) caller order.now moment }
-{
-    RestingBlock {
-        number,
-        caller,
-        zone: order.zone,
-        side: order.side,
-        price: order.price,
-        quantity: order.quantity.0,
-        last: order.last,
-        moment,
-    }
 }
 
 // The refusal of a block that finds no deal and has no room on the desk of its first hour.

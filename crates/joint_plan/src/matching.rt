@@ -17,8 +17,8 @@ use crate::parts::{legs_in, plan_others};
 use crate::period_rooms::period_rooms;
 use crate::refusing::refuse_closed;
 use crate::undoing::refuse;
-use hour_desk::{BlockDeals, PartWork};
-use market_model::{Duplicate, Event, Events, Reply, Setup};
+use hour_desk::{BlockDeals, PartWork, events_from};
+use market_model::{Events, Reply, Setup};
 use std::alloc::Global;
 use zone_graph::{Grid, NoMemory, Rooms};
 
@@ -84,16 +84,5 @@ fn planned_at_first<D: Desks>(alloc: Global, row: &D) -> Result<Events, NoMemory
     requires { 0 < length (D.desks row.now) }
     ensures { (desk : DeskState) → slice_get (D.desks row.now) 0 ≡ Some desk → IfOk result (λ events. events ≡ planned_events desk) }
 {
-    copy_of(alloc, row.desk(0).planned())
-}
-
-// The same events.
-fn copy_of(alloc: Global, events: &[Event]) -> Result<Events, NoMemory>
-    ensures { IfOk result (λ made. made ≡ events.now) }
-{
-    let mut made = Events::new(alloc);
-    for event in events {
-        made.push(event.copy()?)?;
-    }
-    Ok(made)
+    events_from(alloc, row.desk(0).planned(), 0)
 }

@@ -5,6 +5,7 @@ ghost use Rattle.market_model.specs.declared.event.Event.{Event as AnEvent};
 ghost use Rattle.market_model.specs.declared.reply.Reply.TheVariants as replies;
 ghost use Rattle.market_model.specs.History.{events_of};
 ghost use Rattle.market_model.specs.Market.{reply_to};
+ghost use Rattle.hour_desk.specs.Kinds.{IsOfBorder, IsOfCapacity};
 ghost use Rattle.joint_plan.specs.Kinds.{IsOverRange};
 ghost use Rattle.joint_plan.specs.Rows.{AreAsked, IsHistoryOf, dropped, planning_all};
 ghost use Rattle.joint_plan.specs.Works as works;
@@ -56,62 +57,72 @@ fn range_work(grid: &Grid, command: &Command) -> Option<PartWork>
     ensures { result ≡ works.range_work grid.now command.now }
 {
     match command {
+        Command::Offer { .. } | Command::Request { .. } => capacity_work(grid, command),
+        Command::Halt { .. } | Command::Resume { .. } => border_work(grid, command),
+        _ => None,
+    }
+}
+
+// The same, of an offer or a request.
+fn capacity_work(grid: &Grid, command: &Command) -> Option<PartWork>
+    requires { IsOfCapacity command.now }
+    ensures { result ≡ works.range_work grid.now command.now }
+{
+    match command {
         Command::Offer {
             from,
             to,
             first,
             last,
             lots,
-        } => match grid.arc(*from, *to) {
-            Some(arc) => Some(PartWork::Offer {
-                arc,
-                first: *first,
-                last: *last,
-                lots: *lots,
-            }),
-            None => None,
-        },
+        } => Some(PartWork::Offer {
+            arc: grid.arc(*from, *to)?,
+            first: *first,
+            last: *last,
+            lots: *lots,
+        }),
         Command::Request {
             from,
             to,
             first,
             last,
             lots,
-        } => match grid.arc(*from, *to) {
-            Some(arc) => Some(PartWork::Grant {
-                arc,
-                first: *first,
-                last: *last,
-                lots: *lots,
-            }),
-            None => None,
-        },
+        } => Some(PartWork::Grant {
+            arc: grid.arc(*from, *to)?,
+            first: *first,
+            last: *last,
+            lots: *lots,
+        }),
+        _ => unreachable!(),
+    }
+}
+
+// The same, of a halt or a resumption.
+fn border_work(grid: &Grid, command: &Command) -> Option<PartWork>
+    requires { IsOfBorder command.now }
+    ensures { result ≡ works.range_work grid.now command.now }
+{
+    match command {
         Command::Halt {
             from,
             to,
             first,
             last,
-        } => match grid.arc(*from, *to) {
-            Some(arc) => Some(PartWork::Halt {
-                border: arc.border,
-                first: *first,
-                last: *last,
-            }),
-            None => None,
-        },
+        } => Some(PartWork::Halt {
+            border: grid.arc(*from, *to)?.border,
+            first: *first,
+            last: *last,
+        }),
         Command::Resume {
             from,
             to,
             first,
             last,
-        } => match grid.arc(*from, *to) {
-            Some(arc) => Some(PartWork::Resume {
-                border: arc.border,
-                first: *first,
-                last: *last,
-            }),
-            None => None,
-        },
-        _ => None,
+        } => Some(PartWork::Resume {
+            border: grid.arc(*from, *to)?.border,
+            first: *first,
+            last: *last,
+        }),
+        _ => unreachable!(),
     }
 }

@@ -19,3 +19,4 @@ pub mod DealCalls
 pub mod DealtEntries
 pub mod DealtEntryCalls
 pub mod ChangedZones
+pub mod PartNumbers

@@ -49,8 +49,8 @@ impl KeptHour {
     }
 }
 
-// The record of a block that enters.
-fn entered_block(number: u32, caller: u32, order: &BlockOrder, moment: u64) -> RestingBlock
+/// The record of a caller's block that enters under a number, at a moment.
+pub fn entered_block(number: u32, caller: u32, order: &BlockOrder, moment: u64) -> RestingBlock
     ensures { (hour : ℕ) → result ≡ entered_resting_block (record { hour = hour; number = number }) caller order.now moment }
 {
     RestingBlock {

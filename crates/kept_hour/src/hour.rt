@@ -85,6 +85,7 @@ impl KeptHour {
     pub fn events(&self) -> &[Event]
         ensures events { result.now ≡ self.now.board.events }
         ensures board { IsBoard self.now.board }
+        ensures parts { self.now.board.parts ≡ 7 }
     {
         self.events.as_slice()
     }

@@ -22,5 +22,7 @@ mod legs;
 mod parts;
 mod showing;
 
+pub use blocks::entered_block;
 pub use hour::KeptHour;
+pub use parts::{number_of, quarters_in_range};
 pub use zone_graph::NoMemory;

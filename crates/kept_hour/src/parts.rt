@@ -1,6 +1,6 @@
 //! The parts of an hour by their numbers.
 
-ghost use Rattle.std.specs.Prelude.{◌≡◌, ◌<◌};
+ghost use Rattle.std.specs.Prelude.{◌≡◌, ◌<◌, true};
 ghost use Rattle.order_kinds.specs.Contract as contracts;
 ghost use Rattle.order_kinds.specs.Period.{quarter_of, range_has};
 ghost use Rattle.flow_lines.specs.FlowLaws.{IsRangeIn};
@@ -25,6 +25,19 @@ pub(crate) fn contract_at(hour: u32, number: u32) -> Contract
     Contract { hour, part }
 }
 
+/// The number of a part: the hour has 0, its quarters 1 to 4, its halves 5 and 6.
+pub fn number_of(part: Part) -> u32
+    requires known { contracts.is_known part ≡ true }
+    ensures number { result ≡ contracts.part_number part }
+    ensures few { result < 7 }
+{
+    match part {
+        Part::Hour => 0,
+        Part::Quarter(number) => number,
+        Part::Half(number) => 4 + number,
+    }
+}
+
 /// The quarters in which the part of a number delivers.
 pub(crate) fn quarters_of(number: u32) -> QuarterSet
     requires number { number < 7 }
@@ -43,7 +56,7 @@ pub(crate) fn quarters_of(number: u32) -> QuarterSet
 }
 
 /// The quarters of an hour that are in a range.
-pub(crate) fn quarters_in_range(hour: u32, first: Quarter, last: Quarter) -> QuarterSet
+pub fn quarters_in_range(hour: u32, first: Quarter, last: Quarter) -> QuarterSet
     ensures { IsRangeIn hour first last (has result) }
 {
     let one = bit_in_range(hour, 1, first, last);

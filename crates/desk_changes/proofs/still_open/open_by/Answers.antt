@@ -4,9 +4,10 @@ use Rattle.desk_changes.proofs.Found.{block-entered, order-entered}
 use Rattle.desk_changes.proofs.still_open.open_by.Goals as goal
 
 pub number_of-requires : goal.number_of-requires
-number_of-requires c =
-    (order-entered c.args.hour.now.board.grid c.args.hour.now.board.hour c.args.hour.now.board.events c.requires.board.stands c.args.event.now
-    c.in-Entered.name c.in-Entered.caller c.in-Entered.order c.in-Entered.is c.requires.among).known
+number_of-requires c = record {
+  known = (order-entered c.args.hour.now.board.grid c.args.hour.now.board.hour c.args.hour.now.board.events c.requires.board.stands c.args.event.now
+      c.in-Entered.name c.in-Entered.caller c.in-Entered.order c.in-Entered.is c.requires.among).known;
+}
 
 pub open_order-requires-clause-hour : goal.open_order-requires-clause-hour
 open_order-requires-clause-hour c =
@@ -30,7 +31,7 @@ open_block-requires-clause-entered c =
 
 pub returns-in-Entered : goal.returns-in-Entered
 returns-in-Entered c =
-    c.open_order.ensures ∙ ap (open_one c.args.hour.now.board.events c.in-Entered.name) c.number_of.ensures
+    c.open_order.ensures ∙ ap (open_one c.args.hour.now.board.events c.in-Entered.name) c.number_of.ensures.number
     ∙ ap (open_by c.args.hour.now.board.events) (sym c.in-Entered.is)
 
 pub returns-in-EnteredBlock : goal.returns-in-EnteredBlock

@@ -14,7 +14,7 @@ use Rattle.joint_plan.proofs.entering.find_deal.Goals as goal
 
 pub match_block-requires-clause-block : goal.match_block-requires-clause-block
 match_block-requires-clause-block g c =
-    subst (HasZone c.args.grid.now) (sym (ap (λ (b : RestingBlock). b.zone) (c.entering_block-block.ensures 0))) (c.requires.can c.desk-desk.result.now c.desk-desk.ensures).zone
+    subst (HasZone c.args.grid.now) (sym (ap (λ (b : RestingBlock). b.zone) (c.entered_block-block.ensures 0))) (c.requires.can c.desk-desk.result.now c.desk-desk.ensures).zone
 
 pub match_block-requires-clause-zones : goal.match_block-requires-clause-zones
 match_block-requires-clause-zones g c = λ block i.
@@ -28,13 +28,13 @@ pub returns : goal.returns
 returns g c = λ desk at.
     let own = c.desk-desk.result.now in
     let same : own ≡ desk = one own desk _ c.desk-desk.ensures at in
-    let block : c.entering_block-block.result ≡ entering_block own c.args.caller c.args.order.now =
-    c.entering_block-block.ensures own.hour
+    let block : c.entered_block-block.result ≡ entering_block own c.args.caller c.args.order.now =
+    c.entered_block-block.ensures own.hour
     ∙ ap (λ n. entered_resting_block (record { hour = own.hour; number = n }) c.args.caller c.args.order.now (length c.settled.result.now + 1)) c.next_number-number.ensures
     ∙ ap (λ (es : List Event). entered_resting_block (next_name own.settled own.hour) c.args.caller c.args.order.now (length es + 1)) c.settled.ensures in
-    let deal : deal_of_block c.args.grid.now (room_of c.args.rooms.now) c.blocks-2.result.now c.entering_block-block.result ≡ deal_within c.args.grid.now c.args.rooms.now c.args.caller c.args.order.now desk =
-    ap (λ (book : List RestingBlock). deal_of_block c.args.grid.now (room_of c.args.rooms.now) book c.entering_block-block.result) c.blocks-2.ensures
+    let deal : deal_of_block c.args.grid.now (room_of c.args.rooms.now) c.blocks-2.result.now c.entered_block-block.result ≡ deal_within c.args.grid.now c.args.rooms.now c.args.caller c.args.order.now desk =
+    ap (λ (book : List RestingBlock). deal_of_block c.args.grid.now (room_of c.args.rooms.now) book c.entered_block-block.result) c.blocks-2.ensures
     ∙ ap (deal_of_block c.args.grid.now (room_of c.args.rooms.now) (blocks_of own.settled own.hour)) block
     ∙ ap (λ (d : DeskState). deal_within c.args.grid.now c.args.rooms.now c.args.caller c.args.order.now d) same in
-    IfOk-weaker c.match_block.result (λ found. found ≡ deal_of_block c.args.grid.now (room_of c.args.rooms.now) c.blocks-2.result.now c.entering_block-block.result)
+    IfOk-weaker c.match_block.result (λ found. found ≡ deal_of_block c.args.grid.now (room_of c.args.rooms.now) c.blocks-2.result.now c.entered_block-block.result)
     (λ found. found ≡ deal_within c.args.grid.now c.args.rooms.now c.args.caller c.args.order.now desk) (λ found told. told ∙ deal) c.match_block.ensures

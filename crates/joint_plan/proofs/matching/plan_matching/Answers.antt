@@ -1,17 +1,15 @@
-use Rattle.std.proofs.Common.{◌≡◌, ◌∙◌, ℕ, ◌<◌, ◌≤◌, List, None, Some, ap, length, refl, subst, sym}
+use Rattle.std.proofs.Common.{◌∙◌, ℕ, ◌<◌, ◌≤◌, List, Some, ap, length, refl, subst, sym}
 use Rattle.block_match.specs.declared.deal.BlockDeal.{BlockDeal}
 use Rattle.market_model.specs.declared.command.Command.TheVariants as command
-use Rattle.market_model.specs.declared.event.Event.{Event}
 use Rattle.hour_desk.specs.Desk.{planning, with_nothing_planned}
-use Rattle.hour_desk.specs.Shared.{part_events, then_swept}
-use Rattle.hour_desk.specs.declared.part_work.PartWork.TheVariants as work
+use Rattle.hour_desk.specs.Shared.{then_swept}
 use Rattle.joint_laws.specs.MatchingBlocks.{legs_of}
-use Rattle.joint_plan.specs.Rows.{IsHistoryOf, dropped}
-use Rattle.joint_plan.specs.Works.{with_part}
+use Rattle.joint_plan.specs.Rows.{dropped}
 use Rattle.joint_plan.proofs.Asked.{asked-hours}
-use Rattle.joint_plan.proofs.AskedPeriods.{closed-alone, period-can, period-can_plan, period-deals, period-events, period-legs, period-planned, period-planned_first, period-reply, period-row, period-some}
+use Rattle.joint_plan.proofs.AskedPeriods.{closed-alone, period-can, period-some}
 use Rattle.joint_plan.proofs.Dropped.{dropped-set}
-use Rattle.joint_plan.proofs.Lists.{get-within, on-err, set-first, set-long}
+use Rattle.joint_plan.proofs.Lists.{get-within, on-err, set-long}
+use Rattle.joint_plan.proofs.Matched.{matched-can, matched-legs, matched-planned, matched-reply}
 use Rattle.joint_plan.proofs.OverRanges.{joint-refused}
 use Rattle.joint_plan.proofs.matching.plan_matching.Goals as goal
 
@@ -59,42 +57,18 @@ returns-in_err-planned-clause-failed g c =
 
 pub legs_in-legs-requires : goal.legs_in-legs-requires
 legs_in-legs-requires g c =
-    let desks = g.D.Desks.desks c.args.row.now in
-    let setup = c.args.setup.now in
-    let grid = c.args.grid.now in
-    let asked = c.requires.asked in
-    let deals = c.in_ok-deals.deals in
-    let row = g.D.Desks.desks c.match_first.new.row in
-    let found = get-within desks 0 (period-some setup grid c.args.caller c.args.first c.args.last desks asked) in
-    let desk = found.0 in
-    let at = found.1 in
-    let done = c.in_ok-deals.ensures.planned desk at in
-    let all = λ (history : List Event) (is : IsHistoryOf setup desks history).
-    period-deals setup grid c.args.caller c.args.first c.args.last desks asked desk at c.in_ok-rooms.rooms c.in_ok-rooms.ensures deals (c.in_ok-deals.ensures.deals desk at) history is in
-    let given = work.Block c.args.first c.args.last None deals in
-    let first_row = period-row setup grid c.args.caller c.args.first c.args.last desks asked desk at c.in_default.ensures deals all row done in
-    let planned : c.in_ok-planned.planned ≡ part_events desk given =
-    c.in_ok-planned.ensures (with_part given desk) (set-first desks row (with_part given desk) desk at first_row)
-    ∙ period-planned_first setup grid c.args.caller c.args.first c.args.last desks asked desk at c.in_default.ensures deals all row done in
-    let few = period-legs setup grid c.args.caller c.args.first c.args.last desks asked desk at c.in_default.ensures deals all row done c.in_ok-planned.planned planned in
+    let few = matched-legs c.args.setup.now c.args.grid.now c.args.caller c.args.first c.args.last (g.D.Desks.desks c.args.row.now) c.requires.asked
+    (g.D.Desks.desks c.match_first.new.row) c.in_ok-deals.deals
+    (record { rooms = c.in_ok-rooms.rooms; are = c.in_ok-rooms.ensures; free = c.in_default.ensures; found = c.in_ok-deals.ensures.deals; done = c.in_ok-deals.ensures.planned })
+    c.in_ok-planned.planned c.in_ok-planned.ensures in
     subst (λ (ds : List BlockDeal). length (legs_of c.args.first c.args.last ds) ≤ c.len.result) (sym c.as_slice.ensures)
-    (subst (λ (n : ℕ). length (legs_of c.args.first c.args.last deals) ≤ n) (sym c.len.ensures) few)
+    (subst (λ (n : ℕ). length (legs_of c.args.first c.args.last c.in_ok-deals.deals) ≤ n) (sym c.len.ensures) few)
 
 pub plan_others-requires-clause-can : goal.plan_others-requires-clause-can
 plan_others-requires-clause-can g c =
-    let desks = g.D.Desks.desks c.args.row.now in
-    let setup = c.args.setup.now in
-    let grid = c.args.grid.now in
-    let asked = c.requires.asked in
-    let deals = c.in_ok-deals.deals in
-    let row = g.D.Desks.desks c.match_first.new.row in
-    let found = get-within desks 0 (period-some setup grid c.args.caller c.args.first c.args.last desks asked) in
-    let desk = found.0 in
-    let at = found.1 in
-    let done = c.in_ok-deals.ensures.planned desk at in
-    let all = λ (history : List Event) (is : IsHistoryOf setup desks history).
-    period-deals setup grid c.args.caller c.args.first c.args.last desks asked desk at c.in_ok-rooms.rooms c.in_ok-rooms.ensures deals (c.in_ok-deals.ensures.deals desk at) history is in
-    period-can_plan setup grid c.args.caller c.args.first c.args.last desks asked desk at c.in_default.ensures deals all row done
+    matched-can c.args.setup.now c.args.grid.now c.args.caller c.args.first c.args.last (g.D.Desks.desks c.args.row.now) c.requires.asked
+    (g.D.Desks.desks c.match_first.new.row) c.in_ok-deals.deals
+    (record { rooms = c.in_ok-rooms.rooms; are = c.in_ok-rooms.ensures; free = c.in_default.ensures; found = c.in_ok-deals.ensures.deals; done = c.in_ok-deals.ensures.planned })
 
 pub returns-in_err-events-clause-failed : goal.returns-in_err-events-clause-failed
 returns-in_err-events-clause-failed g c =
@@ -107,44 +81,15 @@ returns-in_err-events-clause-failed g c =
 
 pub returns-clause-reply : goal.returns-clause-reply
 returns-clause-reply g c =
-    let desks = g.D.Desks.desks c.args.row.now in
-    let setup = c.args.setup.now in
-    let grid = c.args.grid.now in
-    let asked = c.requires.asked in
-    let deals = c.in_ok-deals.deals in
-    let row = g.D.Desks.desks c.match_first.new.row in
-    let found = get-within desks 0 (period-some setup grid c.args.caller c.args.first c.args.last desks asked) in
-    let desk = found.0 in
-    let at = found.1 in
-    let done = c.in_ok-deals.ensures.planned desk at in
-    let all = λ (history : List Event) (is : IsHistoryOf setup desks history).
-    period-deals setup grid c.args.caller c.args.first c.args.last desks asked desk at c.in_ok-rooms.rooms c.in_ok-rooms.ensures deals (c.in_ok-deals.ensures.deals desk at) history is in
-    let given = work.Block c.args.first c.args.last None deals in
-    let first_row = period-row setup grid c.args.caller c.args.first c.args.last desks asked desk at c.in_default.ensures deals all row done in
-    let planned : c.in_ok-planned.planned ≡ part_events desk given =
-    c.in_ok-planned.ensures (with_part given desk) (set-first desks row (with_part given desk) desk at first_row)
-    ∙ period-planned_first setup grid c.args.caller c.args.first c.args.last desks asked desk at c.in_default.ensures deals all row done in
-    let events = period-events setup grid c.args.caller c.args.first c.args.last desks asked desk at c.in_default.ensures deals all row done c.in_ok-planned.planned c.in_ok-events.events planned c.in_ok-events.ensures.events in
-    period-reply setup grid c.args.caller c.args.first c.args.last desks asked desk at c.in_default.ensures deals all row done c.in_ok-events.events events
+    matched-reply c.args.setup.now c.args.grid.now c.args.caller c.args.first c.args.last (g.D.Desks.desks c.args.row.now) c.requires.asked
+    (g.D.Desks.desks c.match_first.new.row) c.in_ok-deals.deals
+    (record { rooms = c.in_ok-rooms.rooms; are = c.in_ok-rooms.ensures; free = c.in_default.ensures; found = c.in_ok-deals.ensures.deals; done = c.in_ok-deals.ensures.planned })
+    c.in_ok-planned.planned c.in_ok-planned.ensures c.in_ok-events.events c.in_ok-events.ensures.events
 
 pub returns-clause-planned : goal.returns-clause-planned
 returns-clause-planned g c =
-    let desks = g.D.Desks.desks c.args.row.now in
-    let setup = c.args.setup.now in
-    let grid = c.args.grid.now in
-    let asked = c.requires.asked in
-    let deals = c.in_ok-deals.deals in
-    let row = g.D.Desks.desks c.match_first.new.row in
-    let found = get-within desks 0 (period-some setup grid c.args.caller c.args.first c.args.last desks asked) in
-    let desk = found.0 in
-    let at = found.1 in
-    let done = c.in_ok-deals.ensures.planned desk at in
-    let all = λ (history : List Event) (is : IsHistoryOf setup desks history).
-    period-deals setup grid c.args.caller c.args.first c.args.last desks asked desk at c.in_ok-rooms.rooms c.in_ok-rooms.ensures deals (c.in_ok-deals.ensures.deals desk at) history is in
-    let given = work.Block c.args.first c.args.last None deals in
-    let first_row = period-row setup grid c.args.caller c.args.first c.args.last desks asked desk at c.in_default.ensures deals all row done in
-    let planned : c.in_ok-planned.planned ≡ part_events desk given =
-    c.in_ok-planned.ensures (with_part given desk) (set-first desks row (with_part given desk) desk at first_row)
-    ∙ period-planned_first setup grid c.args.caller c.args.first c.args.last desks asked desk at c.in_default.ensures deals all row done in
-    let events = period-events setup grid c.args.caller c.args.first c.args.last desks asked desk at c.in_default.ensures deals all row done c.in_ok-planned.planned c.in_ok-events.events planned c.in_ok-events.ensures.events in
-    period-planned setup grid c.args.caller c.args.first c.args.last desks asked desk at c.in_default.ensures deals all row done (g.D.Desks.desks c.plan_others.new.row) c.in_ok-events.events events c.in_ok-events.ensures.planned
+    matched-planned c.args.setup.now c.args.grid.now c.args.caller c.args.first c.args.last (g.D.Desks.desks c.args.row.now) c.requires.asked
+    (g.D.Desks.desks c.match_first.new.row) c.in_ok-deals.deals
+    (record { rooms = c.in_ok-rooms.rooms; are = c.in_ok-rooms.ensures; free = c.in_default.ensures; found = c.in_ok-deals.ensures.deals; done = c.in_ok-deals.ensures.planned })
+    c.in_ok-planned.planned c.in_ok-planned.ensures c.in_ok-events.events c.in_ok-events.ensures.events
+    (g.D.Desks.desks c.plan_others.new.row) c.in_ok-events.ensures.planned
