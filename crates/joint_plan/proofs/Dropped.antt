@@ -27,7 +27,7 @@ module _ (f : DeskState → DeskState) (same : (desk : DeskState) → with_nothi
   dropped-map [] = refl
   dropped-map (desk ∷ desks) = ap (λ (d : DeskState). d ∷ dropped (map f desks)) (same desk) ∙ ap (λ l. with_nothing_planned desk ∷ l) (dropped-map desks)
 
-  dropped-changed : (i : ℕ) (desks : List DeskState) → dropped (changed f i desks) ≡ dropped desks
+  pub dropped-changed : (i : ℕ) (desks : List DeskState) → dropped (changed f i desks) ≡ dropped desks
   dropped-changed zero [] = refl
   dropped-changed zero (desk ∷ desks) = refl
   dropped-changed (suc i) [] = refl

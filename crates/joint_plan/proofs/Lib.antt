@@ -1,10 +1,10 @@
-mod Lists
-mod Dropped
-mod Over
-mod States
-mod Histories
+pub mod Lists
+pub mod Dropped
+pub mod Over
+pub mod States
+pub mod Histories
 mod OverRanges
-mod Asked
+pub mod Asked
 mod OneDesk
 mod Touched
 mod AskedRanges

@@ -209,7 +209,8 @@ module _ {X : Type 0} where
   take-more xs i x at = rw add-one (take-more_suc xs i x at)
 
 module _ {X Y : Type 0} (g : X → List Y) where
-  flat_map-take : (xs : List X) (k : ℕ) (x : X) → slice_get xs k ≡ Some x → flat_map g (take (suc k) xs) ≡ flat_map g (take k xs) ++ g x
+  -- what the items before the next place bring
+  pub flat_map-take : (xs : List X) (k : ℕ) (x : X) → slice_get xs k ≡ Some x → flat_map g (take (suc k) xs) ≡ flat_map g (take k xs) ++ g x
   flat_map-take [] k x at = cc
   flat_map-take (y ∷ xs) zero x at = append-nil (g y) ∙ ap g (cc)
   flat_map-take (y ∷ xs) (suc k) x at = ap (λ l. g y ++ l) (flat_map-take xs k x at) ∙ sym (append_assoc (g y) (flat_map g (take k xs)) (g x))

@@ -71,7 +71,8 @@ module _ (own : ℕ → List Event) (desks : List DeskState) (are : Are own desk
       go None = refl
       go (Some arc) = over arc
 
-  closed-at : (hours : List ℕ) → hours_of desks ≡ hours
+  -- the first closed hour of some that are those of the desks
+  pub closed-at : (hours : List ℕ) → hours_of desks ≡ hours
       → option_map (λ hour. refusal.Closed hour) (find (λ hour. is_closed_phase (phase_of (own hour) hour)) hours) ≡ refusing.closed_refusal desks
   closed-at hours is =
       subst (λ (hs : List ℕ). option_map (λ hour. refusal.Closed hour) (find (λ hour. is_closed_phase (phase_of (own hour) hour)) hs) ≡ refusing.closed_refusal desks) is closed-over

@@ -20,4 +20,5 @@ mod undoing;
 
 pub use desks::Desks;
 pub use joint::plan_joint;
-pub use undoing::{carry_all, undo_all};
+pub use refusing::refuse_closed;
+pub use undoing::{carry_all, refuse, undo_all};

@@ -26,7 +26,7 @@ pub(crate) fn refuse_by_state<D: Desks>(row: &D, grid: &Grid, command: &Command)
 }
 
 /// The refusal by the first hour that is closed. Nothing is planned.
-pub(crate) fn refuse_closed<D: Desks>(row: &D) -> Option<Refusal>
+pub fn refuse_closed<D: Desks>(row: &D) -> Option<Refusal>
     requires { AreUnplanned (D.desks row.now) }
     ensures { result ≡ refusing.closed_refusal (D.desks row.now) }
 {

@@ -40,7 +40,7 @@ fn plan_nothing_at_all<D: Desks>(row: &mut D)
 }
 
 /// The reply that refuses a command, with no event planned on any desk. It takes no memory.
-pub(crate) fn refuse<D: Desks>(row: &mut D, refusal: Refusal) -> Reply
+pub fn refuse<D: Desks>(row: &mut D, refusal: Refusal) -> Reply
     ensures reply { result ≡ replies.Refused refusal }
     ensures desks { D.desks row.new ≡ planning_all (D.desks row.old) (events_of result) }
     ensures rest { D.rest row.new ≡ D.rest row.old }

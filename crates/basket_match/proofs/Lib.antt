@@ -1,0 +1,3 @@
+mod Early
+mod OneOrder
+mod Baskets

@@ -1,0 +1,34 @@
+use Rattle.std.proofs.Common.{◌∙◌, List, ap, subst, sym}
+use Rattle.order_kinds.specs.declared.order.Order.{Order}
+use Rattle.market_model.specs.declared.command.Command.TheVariants as command
+use Rattle.market_model.specs.History.{events_of, journal_events}
+use Rattle.market_model.specs.Market.{reply_to}
+use Rattle.hour_desk.specs.Desk.{DeskState}
+use Rattle.joint_plan.specs.Rows.{AreAsked, IsHistoryOf, dropped, planning_all}
+use Rattle.joint_plan.proofs.Dropped.{asked-dropped, journal-dropped, planning-dropped, twice-dropped}
+use Rattle.joint_plan.proofs.Histories.{journal-history}
+use Rattle.basket_match.proofs.basket.plan_basket.Goals as goal
+
+pub plan_asked-requires-clause-asked : goal.plan_asked-requires-clause-asked
+plan_asked-requires-clause-asked g c =
+    subst (λ (orders : List Order). AreAsked c.args.setup.now c.args.grid.now c.args.caller (command.EnterBasket orders) (g.D.Desks.desks c.undo_all.new.row)) (sym c.as_slice.ensures)
+    (subst (λ (desks : List DeskState). AreAsked c.args.setup.now c.args.grid.now c.args.caller (command.EnterBasket c.args.orders.now) desks) (sym c.undo_all.ensures.desks)
+    (asked-dropped c.args.setup.now c.args.grid.now c.args.caller (command.EnterBasket c.args.orders.now) (g.D.Desks.desks c.args.row.now) c.requires.ready c.requires.early c.requires.hours))
+
+pub returns-in-Ok-clause-reply : goal.returns-in-Ok-clause-reply
+returns-in-Ok-clause-reply g c = λ entries journal.
+    let old = g.D.Desks.desks c.args.row.now in
+    c.in-Ok.ensures.reply (journal_events entries)
+    (subst (λ (desks : List DeskState). IsHistoryOf c.args.setup.now desks (journal_events entries)) (sym c.undo_all.ensures.desks)
+    (journal-history c.args.setup.now (dropped old) entries (journal-dropped c.args.setup.now old entries journal)))
+    ∙ ap (λ (orders : List Order). reply_to c.args.setup.now (journal_events entries) c.args.caller (command.EnterBasket orders)) c.as_slice.ensures
+
+pub returns-in-Ok-clause-planned : goal.returns-in-Ok-clause-planned
+returns-in-Ok-clause-planned g c =
+    let old = g.D.Desks.desks c.args.row.now in
+    c.in-Ok.ensures.planned ∙ ap (λ desks. planning_all desks (events_of c.in-Ok.reply)) c.undo_all.ensures.desks ∙ planning-dropped old (events_of c.in-Ok.reply)
+
+pub returns-in-Err-clause-failed : goal.returns-in-Err-clause-failed
+returns-in-Err-clause-failed g c =
+    let old = g.D.Desks.desks c.args.row.now in
+    c.undo_all-in-Err.ensures.desks ∙ c.in-Err.ensures.failed ∙ ap (λ desks. dropped desks) c.undo_all.ensures.desks ∙ twice-dropped old
