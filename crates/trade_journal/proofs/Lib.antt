@@ -1,2 +1,2 @@
-mod Rooms
+pub mod Rooms
 mod Pushed

@@ -60,6 +60,13 @@ impl Journal {
         self.entries.push_reserved(entry);
     }
 
+    /// The setup whose callers' entries these are.
+    pub fn setup(&self) -> &Setup
+        ensures { result.now ≡ self.now.setup }
+    {
+        &self.setup
+    }
+
     /// Lends the entries.
     pub fn entries(&self) -> &[Entry]
         ensures entries { result.now ≡ self.now.entries }
