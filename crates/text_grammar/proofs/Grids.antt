@@ -39,7 +39,7 @@ pairs_of_images R f xs e apart i j d less within =
 -- ---- the numbers of declared zones
 
 -- the number of a declared zone is one of a zone
-number_within : (zones : List (List ℕ)) (name : List ℕ) → Contains zones name → zone_number zones name < length zones
+pub number_within : (zones : List (List ℕ)) (name : List ℕ) → Contains zones name → zone_number zones name < length zones
 number_within zones name declared =
     let found = place_of_declared zones name declared in
     let within = (name_at_place zones name found.0 found.1).0 in

@@ -12,3 +12,4 @@ pub mod SoundRows
 pub mod Spelled
 pub mod TextLines
 pub mod Texts
+pub mod Sessions

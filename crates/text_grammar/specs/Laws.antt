@@ -7,6 +7,7 @@ use Rattle.market_model.specs.Grid.{graph_of}
 use Rattle.market_text.specs.declared.fault.TextFault.{TextFault}
 use Rattle.market_text.specs.declared.fault.TextFault.TheVariants as fault
 use Rattle.market_text.specs.declared.session.Session.{Session}
+use Rattle.market_text.specs.Session.{IsSession}
 use Rattle.market_text.specs.Text.{session_of_text, IsAnswer}
 use Rattle.text_grammar.specs.Grammar.{IsSessionText, IsFirstBadLine}
 
@@ -36,6 +37,10 @@ IsAnswerByGrammar bytes (Err fault.NoMemory) = Unit {0}
 -- every answer to a text is one by the grammar
 abbrev pub AnswersAreByGrammar : Type 0
 AnswersAreByGrammar = (bytes : List ℕ) (result : Result Session TextFault) → IsAnswer (session_of_text bytes) result → IsAnswerByGrammar bytes result
+
+-- a session that is read keeps all that a session promises
+abbrev pub TextsAreSessions : Type 0
+TextsAreSessions = (bytes : List ℕ) (session : Session) → session_of_text bytes ≡ Ok session → IsSession session
 
 -- the zones and borders of a session that is read make a grid
 abbrev pub SessionsMakeGrids : Type 0

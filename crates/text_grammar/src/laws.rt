@@ -1,7 +1,7 @@
 //! What is read is what the grammar has, and makes a grid.
 
 ghost use Rattle.text_grammar.specs.Laws.{AcceptedIsInGrammar, AnswersAreByGrammar, FirstBadIsReported};
-ghost use Rattle.text_grammar.specs.Laws.{GrammarIsAccepted, ReportedIsFirstBad, SessionsMakeGrids};
+ghost use Rattle.text_grammar.specs.Laws.{GrammarIsAccepted, ReportedIsFirstBad, SessionsMakeGrids, TextsAreSessions};
 
 /// A text of which a session is read is a text of that session, by the grammar.
 pub fn accepted_is_in_grammar()
@@ -28,6 +28,12 @@ pub fn first_bad_is_reported()
 /// line, unless memory is wanting.
 pub fn answers_are_by_grammar()
     ensures { AnswersAreByGrammar }
+{}
+
+/// A session that is read has a day of 23 to 25 hours, names, limits that hold, and of each caller as many commands
+/// as it has turns and room.
+pub fn texts_are_sessions()
+    ensures { TextsAreSessions }
 {}
 
 /// The zones and borders of a session that is read make a grid: each border joins zones of the

@@ -6,5 +6,5 @@ mod laws;
 
 pub use laws::{
     accepted_is_in_grammar, answers_are_by_grammar, first_bad_is_reported, grammar_is_accepted,
-    reported_is_first_bad, sessions_make_grids,
+    reported_is_first_bad, sessions_make_grids, texts_are_sessions,
 };
