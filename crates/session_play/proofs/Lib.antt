@@ -1,3 +1,2 @@
-pub mod Journals
-pub mod Once
-pub mod Turns
+pub mod Rooms
+pub mod Waits

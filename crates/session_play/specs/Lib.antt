@@ -1,3 +1,1 @@
 -- What the contracts of this crate cite.
-pub mod Journal
-pub mod Laws

@@ -1,11 +1,9 @@
-//! A session is played: its callers' commands are given in the order of its lines, on one thread, and each
-//! gets the market's reply. What comes of it is the session's journal.
+//! A session is played: its callers' commands are given in the order of its lines, on one thread, to a market of
+//! desks, which replies to each. What comes of it is the session's journal.
 #![tactic(auto)]
 
-mod counts;
-mod journal;
-mod laws;
+mod playing;
+mod waiting;
 
-pub use journal::journal_of;
-pub use laws::each_command_once;
+pub use playing::{journal_of, market_of};
 pub use zone_graph::NoMemory;

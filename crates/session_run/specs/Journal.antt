@@ -5,7 +5,7 @@ use Rattle.market_text.specs.Text.{session_of_text}
 use Rattle.load_maker.specs.Session.{session_text}
 use Rattle.load_maker.specs.Summary.{summary_text}
 use Rattle.session_io.specs.JournalText.{journal_text}
-use Rattle.session_play.specs.Journal.{journal_of_session}
+use Rattle.session_journal.specs.Journal.{journal_of_session}
 
 -- the text of the journal of a session whose commands are given in the order of its lines
 abbrev pub text_of_session : Session → List ℕ

@@ -44,6 +44,6 @@ fn summary_of(alloc: Global, commands: u32) -> Result<Text, NoMemory>
         Err(TextFault::NoMemory) => return Err(NoMemory),
         Err(TextFault::BadSession { .. }) => unreachable!(),
     };
-    let journal = journal_of(alloc, &session)?;
-    summary(alloc, journal.as_slice())
+    let journal = journal_of(alloc, session)?;
+    summary(alloc, journal.entries())
 }

@@ -107,10 +107,10 @@ fn replay<S: Source, K: Sink>(alloc: Global, source: &mut S, sink: &mut K) -> St
         Err(TextFault::BadSession { line }) => return Status::BadSession { line },
         Err(TextFault::NoMemory) => return Status::NoMemory,
     };
-    let Ok(journal) = journal_of(alloc, &session) else {
+    let Ok(journal) = journal_of(alloc, session) else {
         return Status::NoMemory;
     };
-    match write_journal(alloc, &session.setup, journal.as_slice(), sink) {
+    match write_journal(alloc, journal.setup(), journal.entries(), sink) {
         Ok(()) => Status::Done,
         Err(WriteError::Fault) => Status::WriteFault,
         Err(WriteError::NoMemory) => Status::NoMemory,

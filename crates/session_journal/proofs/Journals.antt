@@ -17,7 +17,7 @@ use Rattle.market_model.specs.Sweep.{all_parts}
 use Rattle.market_model.specs.WellFormed.{IsHistory, IsMarketSetup}
 use Rattle.market_laws.proofs.Journals.{journal_events-more, run-history, run_after-more}
 use Rattle.market_text.specs.Commands.{commands_of}
-use Rattle.session_play.proofs.Turns.{turn_count}
+use Rattle.session_journal.proofs.Turns.{turn_count}
 
 -- the turns of one more caller
 in_turn_after-more : (commands : List (List Command)) (past callers : List ℕ) (caller : ℕ)
@@ -42,7 +42,7 @@ unfolding run_after
 nothing-played setup commands turns = record { journal = refl; happened = refl; callers = refl }
 
 -- how often a caller is among entries
-count-callers : (entries : List Entry) (caller : ℕ) → count_by (λ entry. entry.caller == caller) entries ≡ turn_count (map (λ (entry : Entry). entry.caller) entries) caller
+pub count-callers : (entries : List Entry) (caller : ℕ) → count_by (λ entry. entry.caller == caller) entries ≡ turn_count (map (λ (entry : Entry). entry.caller) entries) caller
 count-callers [] caller = refl
 count-callers (entry ∷ entries) caller =
     sum_by-cons (λ (e : Entry). cond (nat_eq e.caller caller) 1 0) entry entries

@@ -9,12 +9,13 @@ ghost use Rattle.market_model.specs.Naming.{IsEntryIn};
 ghost use Rattle.market_text.specs.Commands.{commands_of};
 ghost use Rattle.market_text.specs.Session.{IsSession};
 
-use crate::counts::Counts;
 use market_model::{Command, Commands, Duplicate, Entries, Entry, Events, Setup};
 use market_text::Session;
 use plain_market::answer;
+use session_journal::grid_of;
 use std::alloc::Global;
-use zone_graph::{Grid, GridFault, NoMemory};
+use trade_journal::Counts;
+use zone_graph::{Grid, NoMemory};
 
 /// The journal of a session whose commands are given one after the other in the order of its
 /// lines: for each command an entry with the market's reply to it after all replies before.
@@ -22,7 +23,7 @@ use zone_graph::{Grid, GridFault, NoMemory};
 /// # Errors
 ///
 /// [`NoMemory`], where there is no memory for the journal or for what it is made from.
-pub fn journal_of(alloc: Global, session: &Session) -> Result<Entries, NoMemory>
+pub fn plain_journal_of(alloc: Global, session: &Session) -> Result<Entries, NoMemory>
     requires session { IsSession session.now }
     requires joined { JoinsZones (graph_of session.now.setup) }
     requires sound { grid_fault (graph_of session.now.setup) ≡ None }
@@ -37,19 +38,6 @@ pub fn journal_of(alloc: Global, session: &Session) -> Result<Entries, NoMemory>
         session.commands.as_slice(),
         session.turns.as_slice(),
     )
-}
-
-// The grid of a setup whose zones and borders make one.
-fn grid_of(alloc: Global, setup: &Setup) -> Result<Grid, NoMemory>
-    requires joined { JoinsZones (graph_of setup.now) }
-    requires sound { grid_fault (graph_of setup.now) ≡ None }
-    ensures { IfOk result (λ grid. grid ≡ graph_of setup.now) }
-{
-    match Grid::new(alloc, &setup.zones, &setup.borders) {
-        Ok(grid) => Ok(grid),
-        Err(GridFault::NoMemory) => Err(NoMemory),
-        Err(_) => unreachable!(),
-    }
 }
 
 // Gives each caller's commands in the order of the turns.

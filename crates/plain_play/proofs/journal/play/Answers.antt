@@ -8,11 +8,11 @@ use Rattle.market_model.specs.declared.event.Event.{Event}
 use Rattle.market_model.specs.History.{enters, entered_count, events_of}
 use Rattle.market_model.specs.Market.{reply_to}
 use Rattle.market_model.specs.Naming.{IsEntryIn, IsReplyIn}
-use Rattle.session_play.proofs.Journals.{IsNextEntry, IsPlayed, nothing-played, played-history, played-more}
+use Rattle.session_journal.proofs.Journals.{IsNextEntry, IsPlayed, nothing-played, played-history, played-more}
 use Rattle.reply_bounds.proofs.Entered.{reply-enters-few}
 use Rattle.reply_bounds.proofs.Named.{reply-names}
-use Rattle.session_play.proofs.Turns.{CountsTurns, CountsTurns-more, CountsTurns-none, turn_left}
-use Rattle.session_play.proofs.journal.play.Goals as goal
+use Rattle.session_journal.proofs.Turns.{CountsTurns, CountsTurns-more, CountsTurns-none, turn_left}
+use Rattle.plain_play.proofs.journal.play.Goals as goal
 
 pub loop-turn-init : goal.loop-turn-init
 loop-turn-init c =

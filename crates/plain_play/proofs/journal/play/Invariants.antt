@@ -1,9 +1,9 @@
 use Rattle.std.proofs.Common.{◌≡◌, ◌*◌, ◌≤◌, All, length}
 use Rattle.market_model.specs.History.{entered_count}
 use Rattle.market_model.specs.Naming.{IsEntryIn}
-use Rattle.session_play.proofs.Journals.{IsPlayed}
-use Rattle.session_play.proofs.Turns.{CountsTurns}
-use Rattle.session_play.proofs.journal.play.Given as goal
+use Rattle.session_journal.proofs.Journals.{IsPlayed}
+use Rattle.session_journal.proofs.Turns.{CountsTurns}
+use Rattle.plain_play.proofs.journal.play.Given as goal
 
 -- each caller has given as many commands as it has had turns, and the journal is that of these
 abbrev pub invariant-loop-turn : goal.invariant-loop-turn

@@ -16,9 +16,9 @@ use Rattle.market_model.specs.Sweep.{all_parts}
 use Rattle.market_text.specs.Commands.{commands_of}
 use Rattle.market_text.specs.Session.{IsSession}
 use Rattle.market_text.specs.declared.session.Session.{Session}
-use Rattle.session_play.specs.Journal.{journal_of_session}
-use Rattle.session_play.specs.Laws.{EachCommandOnce, commands_in}
-use Rattle.session_play.proofs.Turns.{turn_count}
+use Rattle.session_journal.specs.Journal.{journal_of_session}
+use Rattle.session_journal.specs.Laws.{EachCommandOnce, commands_in}
+use Rattle.session_journal.proofs.Turns.{turn_count}
 
 -- ---- the turns of a journal
 
@@ -153,7 +153,7 @@ none-named count caller (turn ∷ turns) known past =
     omega (arith, count-first turn caller turns, none, none-named count caller turns (All-tail (λ t. t < count) turn turns known) past)
 
 -- each caller has as many commands as turns
-as-many : (session : Session) → IsSession session → (caller : ℕ) → length (commands_of session.commands caller) ≡ turn_count session.turns caller
+pub as-many : (session : Session) → IsSession session → (caller : ℕ) → length (commands_of session.commands caller) ≡ turn_count session.turns caller
 as-many session is caller = elim (cases_lt caller (length session.commands)) [
   | inl known ↦ is.counted caller known
   | inr past ↦ ap length (get_or_past session.commands caller [] past)

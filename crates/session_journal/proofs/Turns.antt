@@ -18,16 +18,20 @@ count_by-take p n xs =
     let whole = ap (count_by p) (take-append-drop n xs) in omega (arith, parts, whole)
 
 -- whose turn it is has had fewer turns than it has in all
-pub turn_left : (given turns : List ℕ) (i : ℕ) → CountsTurns given turns i → i < length turns
-    → slice_index given (get_or turns i 0) < turn_count turns (get_or turns i 0)
-turn_left given turns i counted within =
+pub turn_comes : (turns : List ℕ) (i : ℕ) → i < length turns → turn_count (take i turns) (get_or turns i 0) < turn_count turns (get_or turns i 0)
+turn_comes turns i within =
     let caller = get_or turns i 0 in
     let test : ℕ → Bool = λ turn. nat_eq turn caller in
     let one_more : count_by test (take (i + 1) turns) ≡ count_by test (take i turns) + 1 =
     count_by_more_yes test turns i 0 within (eq-eqb caller caller refl) in
     let most : count_by test (take (i + 1) turns) ≤ count_by test turns = count_by-take test (i + 1) turns in
-    let now : slice_index given caller ≡ count_by test (take i turns) = counted.each caller in
-    omega (arith, one_more, most, now)
+    omega (arith, one_more, most)
+
+pub turn_left : (given turns : List ℕ) (i : ℕ) → CountsTurns given turns i → i < length turns
+    → slice_index given (get_or turns i 0) < turn_count turns (get_or turns i 0)
+turn_left given turns i counted within =
+    let now : slice_index given (get_or turns i 0) ≡ turn_count (take i turns) (get_or turns i 0) = counted.each (get_or turns i 0) in
+    omega (arith, now, turn_comes turns i within)
 
 -- one more turn
 pub CountsTurns-more : (given turns : List ℕ) (i : ℕ) → CountsTurns given turns i → i < length turns → get_or turns i 0 < length given

@@ -1,0 +1,5 @@
+pub mod Journals
+pub mod Once
+pub mod Turns
+pub mod Named
+pub mod Graphs

@@ -1,5 +1,0 @@
-use Rattle.session_play.proofs.Once.{each-command-once}
-use Rattle.session_play.proofs.laws.each_command_once.Goals as goal
-
-pub returns : goal.returns
-returns c = each-command-once
