@@ -36,16 +36,16 @@ measure() {
     valgrind --tool=callgrind --callgrind-out-file="$work/out" "$program" replay <"$work/session" >/dev/null 2>"$work/said"
     callgrind_annotate --inclusive=yes --threshold=100 "$work/out" >"$work/table" 2>/dev/null
     all=$(sed -n 's/.*Collected : //p' "$work/said")
-    rows=$(awk '/DeskViews.*refresh|refreshing.*refresh/ { gsub(",", "", $1); print $1; found = 1; exit } END { if (!found) print 0 }' "$work/table")
+    rows=$(awk '/replying::refresh/ { gsub(",", "", $1); print $1; found = 1; exit } END { if (!found) print 0 }' "$work/table")
 }
 
 for kind in none leg; do
     for orders in 10 100 1000; do
-        session "$orders" 100 "$kind" >"$work/session"
+        session "$orders" 20 "$kind" >"$work/session"
         measure
         all_before=$all rows_before=$rows
-        session "$orders" 300 "$kind" >"$work/session"
+        session "$orders" 60 "$kind" >"$work/session"
         measure
-        echo "$orders open orders, $([ $kind = leg ] && echo "with a leg" || echo "without a leg"): $(((all - all_before) / 200)) instructions, of which $(((rows - rows_before) / 200)) for rows"
+        echo "$orders open orders, $([ $kind = leg ] && echo "with a leg" || echo "without a leg"): $(((all - all_before) / 40)) instructions, of which $(((rows - rows_before) / 40)) for rows"
     done
 done

@@ -3,7 +3,7 @@
 
     bench/generated_session.py N > session
 
-It follows the description of the generated session in docs/FORMATS.md.
+It follows the definition of the generated session (docs/DEFINITIONS.md).
 """
 import sys
 

@@ -4,7 +4,7 @@
 #     bench/replay.sh [COMMANDS..]
 #
 # By valgrind's callgrind the instructions that `generate N` takes for one command, for each N (2000 and 20000 if none is
-# named), and how many of them go into reading the session, planning (without rows), rows of views, and the rest. Then the
+# named), and how many of them go into making the text, reading it, playing it, the rows of views in that, and the summary. Then the
 # seconds and the memory of `replay` of the generated session of 100000 commands, of a desk that is full, and of an order that
 # takes from 4096 others.
 set -eu
@@ -25,7 +25,7 @@ for commands in "${@:-2000 20000}"; do
         callgrind_annotate --inclusive=yes --threshold=100 "$work/out" >"$work/table" 2>/dev/null
         all=$(sed -n 's/.*Collected : //p' "$work/said")
         echo "$count commands: $((all / count)) instructions for each"
-        for word in read_session session_text DeskMarket4give refresh summary; do
+        for word in session_text read_session playing::journal_of replying::refresh totals::summary; do
             echo "    $word: $(($(within "$word") / count))"
         done
     done
