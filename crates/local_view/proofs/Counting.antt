@@ -1,6 +1,6 @@
 -- Zones that pass a test, one after the other.
-use Rattle.std.proofs.Common.{◌≡◌, ◌∙◌, ℕ, zero, suc, ◌+◌, ◌<◌, ◌≤◌, ◌||◌, Bool, true, false, cond, List, [], ◌∷◌, ◌++◌, filter, get_or, inl, inr, length, nat_eq, slice_set, refl, sym, ap, arith}
-use Rattle.std.proofs.lemmas.Bool.{eqb-false, eqb-true, true≢false}
+use Rattle.std.proofs.Common.{◌≡◌, ◌∙◌, ◌⊎◌, ℕ, zero, suc, ◌+◌, ◌<◌, ◌≤◌, ◌||◌, Bool, true, false, cond, List, [], ◌∷◌, ◌++◌, filter, get_or, inl, inr, length, slice_set, refl, sym, ap, arith}
+use Rattle.std.proofs.lemmas.Bool.{cases_lt}
 use Rattle.std.proofs.lemmas.Bool.Decides.{eqb_tells}
 use Rattle.std.proofs.lemmas.List.{get_or-set_other, get_or-set_same}
 use Rattle.std.specs.List.{list_any, range_with_len}
@@ -9,45 +9,32 @@ use Rattle.cut_proof.proofs.ArcSums.{range_more}
 range_next : (n : ℕ) → range_with_len 0 (n + 1) ≡ range_with_len 0 n ++ n ∷ []
 range_next n = ap (range_with_len 0) (let next : n + 1 ≡ suc n = omega arith in next) ∙ range_more 0 n ∙ ap (λ k. range_with_len 0 n ++ k ∷ []) (let plain : 0 + n ≡ n = omega arith in plain)
 
-any_last : {X : Type 0} (p : X → Bool) (xs : List X) (x : X) → list_any p xs ≡ false → list_any p (xs ++ x ∷ []) ≡ p x
-any_last p [] x none = by (p x)
+-- the first ones and one more: one of the first passes, or the next one does
+pub any_next : (p : ℕ → Bool) (n : ℕ) → list_any p (range_with_len 0 (n + 1)) ≡ (list_any p (range_with_len 0 n) || p n)
+any_next p n = ap (list_any p) (range_next n) ∙ any_last (range_with_len 0 n)
   where
-    by : (b : Bool) → (b || false) ≡ b
-    by true = refl
-    by false = refl
-any_last p (y ∷ xs) x none = go (p y) (list_any p xs) none (any_last p xs x)
+    one : (b : Bool) → (b || false) ≡ b
+    one true = refl
+    one false = refl
+
+    or_onto : (a b c : Bool) → (a || (b || c)) ≡ ((a || b) || c)
+    or_onto true b c = refl
+    or_onto false b c = refl
+
+    any_last : (xs : List ℕ) → list_any p (xs ++ n ∷ []) ≡ (list_any p xs || p n)
+    any_last [] = one (p n)
+    any_last (x ∷ xs) = ap (λ b. p x || b) (any_last xs) ∙ or_onto (p x) (list_any p xs) (p n)
+
+-- one of the first passes, and so one of more
+pub any_within : (p : ℕ → Bool) (n more : ℕ) → n ≤ more → list_any p (range_with_len 0 n) ≡ true → list_any p (range_with_len 0 more) ≡ true
+any_within p n zero most some = ap (λ k. list_any p (range_with_len 0 k)) (let same : 0 ≡ n = omega (arith, most) in same) ∙ some
+any_within p n (suc more) most some = by (cases_lt more n) (λ below. any_within p n more below some)
   where
-    go : (a b : Bool) → (a || b) ≡ false → (b ≡ false → list_any p (xs ++ x ∷ []) ≡ p x) → (a || list_any p (xs ++ x ∷ [])) ≡ p x
-    go true b e f = absurd (true≢false e)
-    go false b e f = f e
-
--- none passes so far, and the next one does not either
-pub none_more : (p : ℕ → Bool) (n : ℕ) → list_any p (range_with_len 0 n) ≡ false → p n ≡ false → list_any p (range_with_len 0 (n + 1)) ≡ false
-none_more p n none own = ap (list_any p) (range_next n) ∙ any_last p (range_with_len 0 n) n none ∙ own
-
-any_front : {X : Type 0} (p : X → Bool) (xs ys : List X) → list_any p xs ≡ true → list_any p (xs ++ ys) ≡ true
-any_front p [] ys some = absurd (true≢false (sym some))
-any_front p (x ∷ xs) ys some = go (p x) (list_any p xs) some (any_front p xs ys)
-  where
-    go : (a b : Bool) → (a || b) ≡ true → (b ≡ true → list_any p (xs ++ ys) ≡ true) → (a || list_any p (xs ++ ys)) ≡ true
-    go true b e f = refl
-    go false b e f = f e
-
--- one of the first that passes
-pub some_there : (p : ℕ → Bool) (n more : ℕ) → n < more → list_any p (range_with_len 0 n) ≡ false → p n ≡ true → list_any p (range_with_len 0 more) ≡ true
-some_there p n zero less none own = absurd (omega (arith, less))
-some_there p n (suc more) less none own = by (λ below. some_there p n more below none own) (nat_eq n more) refl
-  where
-    last : n ≡ more → list_any p (range_with_len 0 (suc more)) ≡ true
-    last same =
-        ap (λ k. list_any p (range_with_len 0 k)) (let next : suc more ≡ n + 1 = omega (arith, same) in next) ∙ ap (list_any p) (range_next n)
-        ∙ any_last p (range_with_len 0 n) n none ∙ own
-
-    by : (n < more → list_any p (range_with_len 0 more) ≡ true) → (b : Bool) → nat_eq n more ≡ b → list_any p (range_with_len 0 (suc more)) ≡ true
-    by rest true e = last (eqb-true n more e)
-    by rest false e =
-        ap (λ k. list_any p (range_with_len 0 k)) (let next : suc more ≡ more + 1 = omega arith in next) ∙ ap (list_any p) (range_next more)
-        ∙ any_front p (range_with_len 0 more) (more ∷ []) (rest (let apart = eqb-false n more e in omega (arith, less, apart)))
+    by : (more < n) ⊎ (n ≤ more) → (n ≤ more → list_any p (range_with_len 0 more) ≡ true) → list_any p (range_with_len 0 (suc more)) ≡ true
+    by (inr below) first =
+        ap (λ k. list_any p (range_with_len 0 k)) (let next : suc more ≡ more + 1 = omega arith in next) ∙ any_next p more
+        ∙ ap (λ b. b || p more) (first below)
+    by (inl above) first = ap (λ k. list_any p (range_with_len 0 k)) (let same : suc more ≡ n = omega (arith, above, most) in same) ∙ some
 
 -- how many pass
 pub count_more : (p : ℕ → Bool) (n count : ℕ) → count ≡ length (filter p (range_with_len 0 n)) → count + cond (p n) 1 0 ≡ length (filter p (range_with_len 0 (n + 1)))

@@ -1,3 +1,4 @@
+mod Chosen
 mod Counting
 mod Hours
 mod LineMakers
@@ -7,6 +8,7 @@ mod Made
 mod Makers
 mod NearHours
 mod NearViews
+mod Nearing
 mod Parts
 mod Sums
 mod Takers

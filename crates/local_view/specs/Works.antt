@@ -24,16 +24,21 @@ pub record KeepsWork (old new : Work) : Type 0 where
 abbrev pub AllComputed : (zones : ℕ) → List Bool → Type 0
 AllComputed zones computed = (zone : ℕ) → zone < zones → get_or computed zone false ≡ true
 
--- the rows of a zone, where they are computed or copied
+-- the rows of a zone, where they are computed or kept
 abbrev pub row_made : (computed : List Bool) → BoardState → (part : ℕ) → Side → (kept : List (List ViewRow)) → (zone : ℕ) → List ViewRow
 row_made computed board part side kept zone =
     if get_or computed zone false then view_of board part side zone else get_or kept zone []
 
--- lists of rows are computed or copied, zone by zone
+-- the lists of the zones whose rows are computed are the views of the board
+abbrev pub AreComputed : (computed : List Bool) → BoardState → (part : ℕ) → Side → (lists : List (List ViewRow)) → Type 0
+AreComputed computed board part side lists =
+    (zone : ℕ) → zone < length lists → get_or computed zone false ≡ true → get_or lists zone [] ≡ view_of board part side zone
+
+-- lists of rows are computed or kept, zone by zone
 abbrev pub AreMade : (computed : List Bool) → BoardState → (part : ℕ) → Side → (kept made : List (List ViewRow)) → Type 0
 AreMade computed board part side kept made = (zone : ℕ) → zone < length made → get_or made zone [] ≡ row_made computed board part side kept zone
 
--- the next rows of a part and side are computed or copied, zone by zone
+-- the next rows of a part and side are computed or kept, zone by zone
 pub record HasMade (computed : List Bool) (board : BoardState) (part : ℕ) (side : Side) (kept : List (List ViewRow)) (line : LineRows) : Type 0 where
   pub rows : List (List ViewRow)
   pub is : line.next ≡ Some rows

@@ -1,30 +1,28 @@
 //! The lists of rows of one part and side, for each zone.
 
-ghost use Rattle.std.specs.Prelude.{◌≡◌, ◌<◌, None, OnOk, length, get_or, if◌then◌else◌};
+ghost use Rattle.std.specs.Prelude.{◌≡◌, ◌<◌, None, OnOk, length};
 ghost use Rattle.zone_graph.specs.Graph.{HasZone, border_count, zone_count};
 ghost use Rattle.local_view.specs.Boards.{AreRoomsOf, view_of};
-ghost use Rattle.local_view.specs.Works.{AreMade, IsWork, KeepsWork, row_made};
+ghost use Rattle.local_view.specs.Works.{AreComputed, IsWork, KeepsWork};
 
 use crate::listing::{Line, list_rows};
 use crate::work::Work;
-use market_model::{Board, NoMemory, Rows, ViewRow};
+use market_model::{Board, NoMemory, Rows};
 use std::alloc::Global;
 use std::mem;
 use zone_graph::Grid;
 
-/// Makes the list of rows of each zone: those that the work says are computed from the board, and the
-/// others as copies of the kept ones.
+/// Makes the list of rows of each zone that the work says is computed. Of the other lists nothing is said.
 ///
 /// # Errors
 ///
-/// [`NoMemory`], where there is no memory for a route or a row.
+/// [`NoMemory`], where there is no memory for a row.
 pub(crate) fn fill_lists<B: Board>(
     alloc: Global,
     board: &B,
     grid: &Grid,
     work: &mut Work,
     line: Line,
-    kept: &[Rows],
     lists: &mut [Rows],
 ) -> Result<(), NoMemory>
     requires grid { grid.now ≡ (B.state board.now).grid }
@@ -33,8 +31,8 @@ pub(crate) fn fill_lists<B: Board>(
     requires work { IsWork (border_count grid.now) work.old }
     requires rooms { AreRoomsOf (B.state board.now) line.part work.old.of_part }
     requires zones { length lists.old ≡ zone_count grid.now }
-    requires kept { length kept.now ≡ zone_count grid.now }
-    ensures lists { OnOk result (AreMade work.old.computed (B.state board.now) line.part line.side kept.now lists.new) }
+    ensures lists { OnOk result (AreComputed work.old.computed (B.state board.now) line.part line.side lists.new) }
+    ensures size { length lists.new ≡ length lists.old }
     ensures work { KeepsWork work.old work.new }
 {
     let zones = grid.zones();
@@ -42,8 +40,6 @@ pub(crate) fn fill_lists<B: Board>(
         prove!(zone < zones as usize);
         if work.computed[zone] {
             fill_list(alloc, board, grid, work, line, zone as u32, list)?;
-        } else {
-            copy_list(alloc, &kept[zone], list)?;
         }
     }
     Ok(())
@@ -68,20 +64,16 @@ fn fill_list<B: Board>(
     ensures list { OnOk result (list.new ≡ view_of (B.state board.now) line.part line.side zone) }
     ensures work { KeepsWork work.old work.new }
 {
-    work.of_list.copy_from(&work.of_part);
     let mut rows = mem::replace(list, Rows::new(alloc)).into_vec();
-    list_rows(alloc, board, grid, &mut work.of_list, line, zone, &mut rows)?;
-    *list = Rows::from(rows);
-    Ok(())
-}
-
-// Copies the rows of a zone.
-fn copy_list(alloc: Global, kept: &Rows, list: &mut Rows) -> Result<(), NoMemory>
-    ensures { OnOk result (list.new ≡ kept.now) }
-{
-    let mut rows = mem::replace(list, Rows::new(alloc)).into_vec();
-    rows.clear();
-    rows.extend_from_slice(kept.as_slice())?;
+    list_rows(
+        board,
+        grid,
+        &work.of_part,
+        &mut work.of_list,
+        line,
+        zone,
+        &mut rows,
+    )?;
     *list = Rows::from(rows);
     Ok(())
 }

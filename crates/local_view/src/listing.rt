@@ -7,7 +7,6 @@ ghost use Rattle.local_view.specs.Poured.{row_if};
 
 use crate::taker::Taker;
 use market_model::{Board, NoMemory, Price, Side, ViewRow};
-use std::alloc::Global;
 use zone_graph::{Grid, Rooms};
 
 /// The line of a part and a side.
@@ -19,16 +18,16 @@ pub(crate) struct Line {
     pub(crate) side: Side,
 }
 
-/// Writes the rows of the view of a line and a zone, in place of those that were there. The rooms are
-/// those of the part, and are lowered by what the rows take.
+/// Writes the rows of the view of a line and a zone, in place of those that were there. The rooms of the
+/// part stay; the others are what is left of them where the list ends, if an order rests in the line.
 ///
 /// # Errors
 ///
-/// [`NoMemory`], where there is no memory for a route or a row.
+/// [`NoMemory`], where there is no memory for a row.
 pub(crate) fn list_rows<B: Board>(
-    alloc: Global,
     board: &B,
     grid: &Grid,
+    of_part: &Rooms,
     rooms: &mut Rooms,
     line: Line,
     zone: u32,
@@ -38,16 +37,21 @@ pub(crate) fn list_rows<B: Board>(
     requires hand { (B.state board.now).hand ≡ None }
     requires part { line.part < (B.state board.now).parts }
     requires zone { HasZone grid.now zone }
-    requires rooms { AreRoomsOf (B.state board.now) line.part rooms.old }
+    requires of_part { AreRoomsOf (B.state board.now) line.part of_part.now }
+    requires size { length rooms.old ≡ length of_part.now }
     ensures rows { OnOk result (rows.new.items ≡ view_of (B.state board.now) line.part line.side zone) }
     ensures size { length rooms.new ≡ length rooms.old }
 {
     rows.clear();
+    let mut next = board.first(line.part, line.side);
+    if next.is_none() {
+        return Ok(());
+    }
+    rooms.copy_from(of_part);
     let mut taker = Taker::new(grid, rooms, line.side, zone);
     let mut left = u32::MAX;
-    let mut next = board.first(line.part, line.side);
     while let Some(order) = next {
-        let lots = taker.take(alloc, grid, rooms, order.zone, left.min(order.lots))?;
+        let lots = taker.take(grid, rooms, order.zone, left.min(order.lots));
         add_row(rows, order.price, lots)?;
         left -= lots;
         next = board.after(order.number);

@@ -1,13 +1,11 @@
 //! The zones near a change: those that can trade with a touched one.
 
-ghost use Rattle.std.specs.Prelude.{◌≡◌, ◌+◌, ◌^◌, ◌<◌, ◌≤◌, ◌&&◌, ℕ, false, cond, filter, get_or, length};
+ghost use Rattle.std.specs.Prelude.{◌≡◌, ◌+◌, ◌^◌, ◌<◌, ◌≤◌, ◌||◌, ℕ, IsTrue, false, true, cond, filter, get_or, length};
 ghost use Rattle.std.specs.List.{range_with_len};
 ghost use Rattle.cut_proof.specs.ZoneSet.{holds};
 ghost use Rattle.zone_graph.specs.Graph.{HasZone, border_count, zone_count};
-ghost use Rattle.zone_graph.specs.Grid.{IsGrid};
 ghost use Rattle.zone_graph.specs.Rooms.{room_of};
-ghost use Rattle.route_choice.specs.Freshness.{is_known};
-ghost use Rattle.local_view.specs.Nearness.{is_near};
+ghost use Rattle.local_view.specs.Nearness.{is_joined, is_near};
 
 use crate::taker::is_sell;
 use market_model::Side;
@@ -21,36 +19,46 @@ pub(crate) fn near_zones(grid: &Grid, rooms: &Rooms, side: Side, touched: u64) -
 {
     let zones = grid.zones();
     let mut near = [false; MOST_ZONES];
-    for zone in 0..zones {
-        near[zone as usize] = is_near(grid, rooms, side, touched, zone);
+    for other in 0..zones {
+        if is_touched(touched, other) {
+            mark_joined(grid, rooms, side, other, &mut near);
+            if are_all(&near, zones) {
+                return near;
+            }
+        }
     }
     near
 }
 
-// Whether a touched zone can trade with a taker in a zone.
-fn is_near(grid: &Grid, rooms: &Rooms, side: Side, touched: u64, zone: u32) -> bool
+// Marks the zones in which a taker can trade with an order in a zone.
+fn mark_joined(grid: &Grid, rooms: &Rooms, side: Side, other: u32, near: &mut [bool])
     requires size { length rooms.now ≡ border_count grid.now }
-    requires zone { HasZone grid.now zone }
-    ensures near { result ≡ is_near grid.now (room_of rooms.now) side touched zone }
-    ensures grid { IsGrid grid.now }
+    requires other { HasZone grid.now other }
+    requires near { length near.old ≡ 64 }
+    ensures near { (zone : ℕ) → zone < zone_count grid.now → get_or near.new zone false ≡ (get_or near.old zone false || is_joined grid.now (room_of rooms.now) side zone other) }
+    ensures size { length near.new ≡ 64 }
 {
     let zones = grid.zones();
-    prove!(zone < zones);
-    let search = RouteSearch::new(grid, rooms, zone, is_sell(side));
-    for other in 0..zones {
-        if reaches_touched(&search, touched, other) {
-            return true;
+    prove!(other < zones);
+    let search = RouteSearch::new(grid, rooms, other, !is_sell(side));
+    for zone in 0..zones {
+        if search.reaches(zone) {
+            near[zone as usize] = true;
         }
     }
-    false
 }
 
-// Whether a zone is touched, and the search has a route for it.
-fn reaches_touched(search: &RouteSearch, touched: u64, other: u32) -> bool
-    requires { other < 64 }
-    ensures { result ≡ (holds touched other && is_known search.now other) }
+// Whether each of the first flags is set.
+fn are_all(flags: &[bool], first: u32) -> bool
+    requires { first ≤ length flags.now }
+    ensures { IsTrue result → (place : ℕ) → place < first → get_or flags.now place false ≡ true }
 {
-    is_touched(touched, other) && search.reaches(other)
+    for place in 0..first {
+        if !flags[place as usize] {
+            return false;
+        }
+    }
+    true
 }
 
 // Whether the bit of a zone is set.

@@ -1,12 +1,13 @@
 //! The views of one part: for each side the rows of each zone, kept and next.
 
-ghost use Rattle.std.specs.Prelude.{◌≡◌, ◌<◌, ℕ, [], None, IfOk, OnOk, length, get_or, replicate};
+ghost use Rattle.std.specs.Prelude.{◌≡◌, ◌<◌, ℕ, [], false, None, IfOk, OnOk, length, get_or, replicate};
 ghost use Rattle.order_kinds.specs.declared.side.Side.TheVariants.{Buy, Sell};
 ghost use Rattle.order_kinds.specs.Side.{opposite};
 ghost use Rattle.market_model.specs.Board.{IsBoard};
 ghost use Rattle.zone_graph.specs.Graph.{border_count, zone_count};
 ghost use Rattle.local_view.specs.Boards.{AreRoomsOf};
 ghost use Rattle.local_view.specs.Kept.{AreNext, IsSized, adopted, empty_part, empty_rows, forgotten, on_side, part_adopted, part_forgotten};
+ghost use Rattle.local_view.specs.Rows.{chosen};
 ghost use Rattle.local_view.specs.Works.{AllComputed, HasMade, IsWork, KeepsWork};
 
 use crate::filling::fill_lists;
@@ -16,24 +17,25 @@ use market_model::{Board, NoMemory, Rows, Side, ViewRow};
 use std::alloc::Global;
 use std::marker::Model;
 use std::mem;
-use zone_graph::Grid;
+use zone_graph::{Grid, MOST_ZONES};
 
 /// The rows of the views of one part and side: the kept ones of each zone, and the next ones, where
-/// there are such.
+/// there are such. Of the zones whose rows were not computed the next ones are the kept ones.
 #[derive(Drop)]
 pub(crate) struct LineViews {
     kept: Vec<Rows>,
     next: Vec<Rows>,
+    computed: [bool; MOST_ZONES],
     is_next: bool,
 }
 
 impl Model for LineViews {
     ghost use Rattle.std.specs.Prelude.{◌≡◌, length};
-    ghost use Rattle.local_view.specs.Rows.{LineRows, rows_if};
+    ghost use Rattle.local_view.specs.Rows.{LineRows, chosen, rows_if};
 
     ghost Value = { LineRows };
 
-    ghost view = { λ line. record { kept = line.kept.items; next = rows_if line.is_next line.next.items } };
+    ghost view = { λ line. record { kept = line.kept.items; next = rows_if line.is_next (chosen line.computed line.kept.items line.next.items) } };
 
     ghost invariant = { λ line. length line.next.items ≡ length line.kept.items };
 }
@@ -50,6 +52,7 @@ impl LineViews {
         Ok(LineViews {
             kept: empty_lists(alloc, zones)?,
             next: empty_lists(alloc, zones)?,
+            computed: [false; MOST_ZONES],
             is_next: false,
         })
     }
@@ -68,7 +71,11 @@ impl LineViews {
         ensures size { length self.new.kept ≡ length self.old.kept }
     {
         if self.is_next {
-            mem::swap(&mut self.kept, &mut self.next);
+            adopt_lists(
+                self.kept.as_mut_slice(),
+                self.next.as_mut_slice(),
+                &self.computed,
+            );
             self.is_next = false;
         }
     }
@@ -81,11 +88,11 @@ impl LineViews {
     }
 
     /// Makes the next rows of each zone: those that the work says are computed from the board, and the
-    /// others as copies of the kept ones.
+    /// others are the kept ones.
     ///
     /// # Errors
     ///
-    /// [`NoMemory`], where there is no memory for a route or a row.
+    /// [`NoMemory`], where there is no memory for a row.
     pub(crate) fn refresh<B: Board>(
         &mut self,
         alloc: Global,
@@ -105,17 +112,34 @@ impl LineViews {
         ensures work { KeepsWork work.old work.new }
     {
         self.is_next = false;
-        fill_lists(
-            alloc,
-            board,
-            grid,
-            work,
-            line,
-            self.kept.as_slice(),
-            self.next.as_mut_slice(),
-        )?;
+        fill_lists(alloc, board, grid, work, line, self.next.as_mut_slice())?;
+        self.computed = work.computed;
         self.is_next = true;
         Ok(())
+    }
+}
+
+// The lists of the zones that were computed change places with the kept ones.
+fn adopt_lists(kept: &mut [Rows], next: &mut [Rows], computed: &[bool])
+    requires { length next.old ≡ length kept.old }
+    ensures kept { kept.new ≡ chosen computed.now kept.old next.old }
+    ensures size { length kept.new ≡ length kept.old }
+    ensures next { length next.new ≡ length next.old }
+{
+    for (zone, list) in kept.iter_mut().enumerate() {
+        if is_set(computed, zone) {
+            mem::swap(list, &mut next[zone]);
+        }
+    }
+}
+
+// Whether there is a flag at a place, and it is set.
+fn is_set(flags: &[bool], place: usize) -> bool
+    ensures { result ≡ get_or flags.now place false }
+{
+    match flags.get(place) {
+        Some(flag) => *flag,
+        None => false,
     }
 }
 
@@ -185,7 +209,7 @@ impl PartViews {
     ///
     /// # Errors
     ///
-    /// [`NoMemory`], where there is no memory for a route or a row.
+    /// [`NoMemory`], where there is no memory for a row.
     pub(crate) fn refresh<B: Board>(
         &mut self,
         alloc: Global,
@@ -221,11 +245,11 @@ impl PartViews {
     }
 
     /// Makes the next rows of one side: of the zones that the work says from the board, and of the others
-    /// as copies of the kept ones.
+    /// the kept ones.
     ///
     /// # Errors
     ///
-    /// [`NoMemory`], where there is no memory for a route or a row.
+    /// [`NoMemory`], where there is no memory for a row.
     pub(crate) fn refresh_near<B: Board>(
         &mut self,
         alloc: Global,

@@ -1,22 +1,21 @@
 //! A taker of any quantity at any price, which pours what it can from one order after the other.
 
-ghost use Rattle.std.specs.Prelude.{◌≡◌, ◌≤◌, IfOk, length};
+ghost use Rattle.std.specs.Prelude.{◌≡◌, ◌≤◌, length};
 ghost use Rattle.order_kinds.specs.Same.{same_side};
 ghost use Rattle.order_kinds.specs.declared.side.Side.TheVariants.{Sell};
 ghost use Rattle.zone_graph.specs.Graph.{HasZone, border_count};
 ghost use Rattle.zone_graph.specs.Grid.{IsGrid};
 ghost use Rattle.zone_graph.specs.Rooms.{room_of};
 ghost use Rattle.route_carrying.specs.Carrying.{FitTogether};
-ghost use Rattle.route_choice.specs.Freshness.{IsFresh};
 ghost use Rattle.route_choice.specs.Poured.{AreRoomsAfter, lots_of};
+ghost use Rattle.route_tree.specs.Tree.{TellsRoutes};
 ghost use Rattle.local_view.specs.Poured.{CarriesNext, leg_with, legs_with};
 ghost use Rattle.local_view.specs.Takers.{IsTaker};
 
 use order_kinds::Side;
 use route_carrying::{carried, carry};
-use route_choice::RouteSearch;
-use std::alloc::Global;
-use zone_graph::{Grid, NoMemory, Rooms};
+use route_tree::RouteTree;
+use zone_graph::{Arc, Grid, MOST_ZONES, Rooms};
 
 /// A taker in a zone, who takes of the orders of a side.
 #[derive(Drop)]
@@ -24,9 +23,11 @@ pub(crate) struct Taker {
     /// The side of the orders.
     pub(crate) side: Side,
     /// The routes that join the taker's zone with the orders' zones.
-    pub(crate) search: RouteSearch,
-    /// Whether no arc of the search's routes was used up since it was made.
+    pub(crate) tree: RouteTree,
+    /// Whether no arc of these routes was used up since they were searched.
     pub(crate) is_fresh: bool,
+    /// The arcs of the route that was taken last.
+    pub(crate) route: [Arc; MOST_ZONES],
 }
 
 impl Taker {
@@ -36,110 +37,102 @@ impl Taker {
         requires size { length rooms.now ≡ border_count grid.now }
         ensures taker { IsTaker grid.now (room_of rooms.now) result }
         ensures side { result.side ≡ side }
-        ensures zone { result.search.zone ≡ zone }
+        ensures zone { result.tree.zone ≡ zone }
     {
         let zones = grid.zones();
         prove!(zone < zones);
         Taker {
             side,
-            search: RouteSearch::new(grid, rooms, zone, is_sell(side)),
+            tree: RouteTree::new(grid, rooms, zone, is_sell(side)),
             is_fresh: true,
+            route: [NO_ARC; MOST_ZONES],
         }
     }
 
     /// Takes what it can, and no more than so many lots, of an order in another zone, over one best
     /// route after the other, and answers how many lots that is. The rooms are lowered by it.
-    ///
-    /// # Errors
-    ///
-    /// [`NoMemory`], where there is no memory for a route.
-    pub(crate) fn take(
-        &mut self,
-        alloc: Global,
-        grid: &Grid,
-        rooms: &mut Rooms,
-        other: u32,
-        most: u32,
-    ) -> Result<u32, NoMemory>
+    pub(crate) fn take(&mut self, grid: &Grid, rooms: &mut Rooms, other: u32, most: u32) -> u32
         requires taker { IsTaker grid.now (room_of rooms.old) self.old }
         requires other { HasZone grid.now other }
         requires size { length rooms.old ≡ border_count grid.now }
         requires fit { FitTogether grid.now (room_of rooms.old) }
-        ensures lots { IfOk result (λ lots. lots ≡ lots_of (legs_with grid.now (room_of rooms.old) self.old.side self.old.search.zone other most)) }
-        ensures most { IfOk result (λ lots. lots ≤ most) }
-        ensures rooms { IfOk result (λ _. AreRoomsAfter (room_of rooms.old) (room_of rooms.new) (legs_with grid.now (room_of rooms.old) self.old.side self.old.search.zone other most)) }
+        ensures lots { result ≡ lots_of (legs_with grid.now (room_of rooms.old) self.old.side self.old.tree.zone other most) }
+        ensures most { result ≤ most }
+        ensures rooms { AreRoomsAfter (room_of rooms.old) (room_of rooms.new) (legs_with grid.now (room_of rooms.old) self.old.side self.old.tree.zone other most) }
         ensures size { length rooms.new ≡ length rooms.old }
-        ensures fit { IfOk result (λ _. FitTogether grid.now (room_of rooms.new)) }
-        ensures taker { IfOk result (λ _. IsTaker grid.now (room_of rooms.new) self.new) }
+        ensures fit { FitTogether grid.now (room_of rooms.new) }
+        ensures taker { IsTaker grid.now (room_of rooms.new) self.new }
         ensures side { self.new.side ≡ self.old.side }
-        ensures zone { self.new.search.zone ≡ self.old.search.zone }
+        ensures zone { self.new.tree.zone ≡ self.old.tree.zone }
     {
         let zones = grid.zones();
         prove!(other < zones);
-        if !self.search.reaches(other) {
-            return Ok(0);
+        if !self.tree.reaches(other) {
+            return 0;
         }
         let mut left = most;
-        while let Some(lots) = self.take_next(alloc, grid, rooms, other, left)? {
+        while let Some(lots) = self.take_next(grid, rooms, other, left) {
             left -= lots;
         }
-        Ok(most - left)
+        most - left
     }
 
     // Takes over the next best route what it carries of so many lots. `None` exactly where none are
     // left or no route has room.
-    fn take_next(
-        &mut self,
-        alloc: Global,
-        grid: &Grid,
-        rooms: &mut Rooms,
-        other: u32,
-        left: u32,
-    ) -> Result<Option<u32>, NoMemory>
+    fn take_next(&mut self, grid: &Grid, rooms: &mut Rooms, other: u32, left: u32) -> Option<u32>
         requires taker { IsTaker grid.now (room_of rooms.old) self.old }
         requires other { HasZone grid.now other }
         requires size { length rooms.old ≡ border_count grid.now }
         requires fit { FitTogether grid.now (room_of rooms.old) }
-        ensures next { IfOk result (λ lots. CarriesNext (room_of rooms.old) (room_of rooms.new) (leg_with grid.now (room_of rooms.old) self.old.side self.old.search.zone other left) lots) }
+        ensures next { CarriesNext (room_of rooms.old) (room_of rooms.new) (leg_with grid.now (room_of rooms.old) self.old.side self.old.tree.zone other left) result }
         ensures size { length rooms.new ≡ length rooms.old }
-        ensures fit { IfOk result (λ _. FitTogether grid.now (room_of rooms.new)) }
-        ensures taker { IfOk result (λ _. IsTaker grid.now (room_of rooms.new) self.new) }
+        ensures fit { FitTogether grid.now (room_of rooms.new) }
+        ensures taker { IsTaker grid.now (room_of rooms.new) self.new }
         ensures side { self.new.side ≡ self.old.side }
-        ensures zone { self.new.search.zone ≡ self.old.search.zone }
+        ensures zone { self.new.tree.zone ≡ self.old.tree.zone }
         ensures grid { IsGrid grid.now }
     {
         let zones = grid.zones();
         prove!(other < zones);
         if left == 0 {
-            return Ok(None);
+            return None;
         }
         self.freshen(grid, rooms);
-        let Some(route) = self.search.route(alloc, grid, rooms, other)? else {
-            return Ok(None);
-        };
-        let lots = carried(rooms, left, route.as_slice());
-        carry(rooms, route.as_slice(), lots);
-        self.is_fresh = self.search.is_fresh_after(rooms, route.as_slice());
-        Ok(Some(lots))
+        if !self.tree.reaches(other) {
+            return None;
+        }
+        let count = self.tree.route_into(other, &mut self.route);
+        let route = &self.route[..count];
+        let lots = carried(rooms, left, route);
+        carry(rooms, route, lots);
+        self.is_fresh = self.tree.tells_after(rooms, route);
+        Some(lots)
     }
 
-    // Makes the search anew, where an arc of its routes was used up.
+    // Searches the routes anew, where an arc of them was used up.
     fn freshen(&mut self, grid: &Grid, rooms: &Rooms)
         requires taker { IsTaker grid.now (room_of rooms.now) self.old }
         requires size { length rooms.now ≡ border_count grid.now }
         ensures taker { IsTaker grid.now (room_of rooms.now) self.new }
-        ensures fresh { IsFresh grid.now (room_of rooms.now) self.new.search }
+        ensures told { TellsRoutes grid.now (room_of rooms.now) self.new.tree }
         ensures side { self.new.side ≡ self.old.side }
-        ensures zone { self.new.search.zone ≡ self.old.search.zone }
+        ensures zone { self.new.tree.zone ≡ self.old.tree.zone }
     {
         let zones = grid.zones();
-        prove!(self.search.zone < zones);
+        let zone = self.tree.zone();
+        prove!(zone < zones);
         if !self.is_fresh {
-            self.search = RouteSearch::new(grid, rooms, self.search.zone, self.search.towards);
+            self.tree = RouteTree::new(grid, rooms, zone, self.tree.towards());
             self.is_fresh = true;
         }
     }
 }
+
+// What stands in the places of a route that has fewer arcs.
+const NO_ARC: Arc = Arc {
+    border: 0,
+    forward: true,
+};
 
 /// Whether a side is the sellers'.
 pub(crate) fn is_sell(side: Side) -> bool

@@ -15,7 +15,7 @@ pub(crate) struct Work {
     pub(crate) of_part: Rooms,
     /// Those that a list of rows lowers.
     pub(crate) of_list: Rooms,
-    /// Whether the rows of a zone are computed, by zone; the others are copied from the kept ones.
+    /// Whether the rows of a zone are computed, by zone; the others stay as they are kept.
     pub(crate) computed: [bool; MOST_ZONES],
 }
 

@@ -1,10 +1,12 @@
-use Rattle.std.proofs.Common.{◌≡◌, ◌<◌, ℕ, [], get_or}
-use Rattle.local_view.specs.Works.{KeepsWork, row_made}
+use Rattle.std.proofs.Common.{◌≡◌, ◌<◌, ℕ, [], false, get_or, length, true}
+use Rattle.local_view.specs.Boards.{view_of}
+use Rattle.local_view.specs.Works.{KeepsWork}
 use Rattle.local_view.proofs.filling.fill_lists.Given as goal
 
--- the lists so far are made
+-- the lists so far are made, where they are computed
 abbrev pub invariant-loop-zone : goal.invariant-loop-zone
 invariant-loop-zone g l = record {
   work : KeepsWork l.fn.work l.work;
-  before : (k : ℕ) → k < l.zone → get_or l.lists k [] ≡ row_made l.fn.work.computed (g.B.Board.state l.board) l.fn.line.part l.fn.line.side l.kept k;
+  size : length l.lists ≡ length l.fn.lists;
+  before : (k : ℕ) → k < l.zone → get_or l.fn.work.computed k false ≡ true → get_or l.lists k [] ≡ view_of (g.B.Board.state l.board) l.fn.line.part l.fn.line.side k;
 }

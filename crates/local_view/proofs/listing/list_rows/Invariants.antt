@@ -16,8 +16,8 @@ invariant-loop-next g l = record {
   fit : FitTogether l.grid (room_of l.rooms);
   taker : IsTaker l.grid (room_of l.rooms) l.taker;
   side : l.taker.side ≡ l.fn.line.side;
-  zone : l.taker.search.zone ≡ l.zone;
-  listed : IsListed (g.B.Board.state l.board) l.fn.line.part l.fn.line.side l.zone l.fn.rooms l.rooms l.left l.next l.rows.items;
+  zone : l.taker.tree.zone ≡ l.zone;
+  listed : IsListed (g.B.Board.state l.board) l.fn.line.part l.fn.line.side l.zone l.fn.of_part l.rooms l.left l.next l.rows.items;
 }
 
 -- fewer orders are left with each

@@ -13,8 +13,8 @@ invariant-loop-lots l = record {
   fit : FitTogether l.grid (room_of l.rooms);
   taker : IsTaker l.grid (room_of l.rooms) l.self;
   side : l.self.side ≡ l.fn.self.side;
-  zone : l.self.search.zone ≡ l.fn.self.search.zone;
-  taken : IsTaken l.grid (room_of l.fn.rooms) l.fn.self.side l.fn.self.search.zone l.other l.most (room_of l.rooms) l.left;
+  zone : l.self.tree.zone ≡ l.fn.self.tree.zone;
+  taken : IsTaken l.grid (room_of l.fn.rooms) l.fn.self.side l.fn.self.tree.zone l.other l.most (room_of l.rooms) l.left;
 }
 
 abbrev pub decreases-loop-lots : goal.decreases-loop-lots

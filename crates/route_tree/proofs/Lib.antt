@@ -1,0 +1,9 @@
+pub mod AllFound
+pub mod FirstSteps
+pub mod FromSearch
+pub mod Orders
+pub mod ReadRoutes
+pub mod Rising
+pub mod Told
+pub mod Towards
+pub mod TowardsSearch

@@ -1,0 +1,75 @@
+-- The neighbours of a zone are over borders that rise.
+use Rattle.std.proofs.Common.{◌≡◌, ◌∙◌, ◌+◌, ◌<◌, ◌≤◌, ◌==◌, inl, inr, ℕ, zero, suc, Bool, true, false, cond, List, [], ◌∷◌, length, map, filter, flat_map, get_or, refl, sym, ap, subst, arith, eqb-true}
+use Rattle.std.specs.List.{range_with_len}
+use Rattle.zone_graph.specs.declared.route.Arc.{Arc}
+use Rattle.zone_graph.specs.declared.grid.Neighbour.{Neighbour}
+use Rattle.zone_graph.specs.Graph.{Graph, IsGraph, arcs_from, arcs_over, border_count, start_of}
+use Rattle.zone_graph.specs.Grid.{neighbour_over, neighbours_of}
+use Rattle.zone_graph.specs.Route.{IsIn}
+use Rattle.zone_graph.proofs.Membership.{from_filter, from_flat_map, from_map, from_range}
+use Rattle.zone_graph.proofs.Places.{at_place}
+
+-- the keys of a list rise
+abbrev IsRising : {X : Type 0} → (X → ℕ) → List X → Type 0
+IsRising key [] = Unit {0}
+IsRising {X} key (x ∷ xs) = ((y : X) → IsIn y xs → key x < key y) × IsRising key xs
+
+rising-map : {X Y : Type 0} (key : Y → ℕ) (f : X → Y) (xs : List X) → IsRising (λ x. key (f x)) xs → IsRising key (map f xs)
+rising-map key f [] h = tt
+rising-map key f (x ∷ xs) h =
+    (λ y i. let r = from_map f y xs i in subst (λ z. key (f x) < key z) (sym r.2) (h.0 r.0 r.1), rising-map key f xs h.1)
+
+rising_at : {X : Type 0} (key : X → ℕ) (xs : List X) (d : X) (i j : ℕ) → IsRising key xs → i < j → j < length xs → key (get_or xs i d) < key (get_or xs j d)
+rising_at key [] d i j h before within = absurd (omega (arith, within))
+rising_at key (x ∷ xs) d i zero h before within = absurd (omega (arith, before))
+rising_at key (x ∷ xs) d zero (suc j) h before within = h.0 (get_or xs j d) (at_place xs j d (omega (arith, within)))
+rising_at key (x ∷ xs) d (suc i) (suc j) h before within = rising_at key xs d i j h.1 (omega (arith, before)) (omega (arith, within))
+
+border_in : (arc : Arc) (border : ℕ) → IsIn arc (arcs_over border) → arc.border ≡ border
+border_in arc border h = elim h [
+  | inl e ↦ ap (λ (a : Arc). a.border) e
+  | inr i ↦ elim i [ inl e ↦ ap (λ (a : Arc). a.border) e | inr never ↦ absurd never ]
+]
+
+later_border : (arc : Arc) (first count : ℕ) → IsIn arc (flat_map arcs_over (range_with_len first count)) → first ≤ arc.border
+later_border arc first count h =
+    let r = from_flat_map arcs_over arc (range_with_len first count) h in
+    omega (arith, (from_range r.0 first count r.1).0, border_in arc r.0 r.2)
+
+-- of the two arcs of a border one at the most starts in a zone
+rising-arcs : (graph : Graph) (zone first count : ℕ) → IsGraph graph → first + count ≤ border_count graph
+    → IsRising (λ (arc : Arc). arc.border) (filter (λ (arc : Arc). start_of graph arc == zone) (flat_map arcs_over (range_with_len first count)))
+rising-arcs graph zone first zero is within = tt
+rising-arcs graph zone first (suc count) is within =
+    by (start_of graph forward == zone) refl (start_of graph backward == zone) refl (rising-arcs graph zone (first + 1) count is (omega (arith, within)))
+  where
+    forward : Arc
+    forward = record { border = first; forward = true }
+
+    backward : Arc
+    backward = record { border = first; forward = false }
+
+    key : Arc → ℕ
+    key arc = arc.border
+
+    onward : List Arc
+    onward = filter (λ (arc : Arc). start_of graph arc == zone) (flat_map arcs_over (range_with_len (first + 1) count))
+
+    later : (arc : Arc) → IsIn arc onward → first < arc.border
+    later arc i =
+        let r = from_filter (λ (a : Arc). start_of graph a == zone) arc (flat_map arcs_over (range_with_len (first + 1) count)) i in
+        omega (arith, later_border arc (first + 1) count r.0)
+
+    by : (b : Bool) → (start_of graph forward == zone) ≡ b → (c : Bool) → (start_of graph backward == zone) ≡ c → IsRising key onward
+        → IsRising key (cond b (forward ∷ cond c (backward ∷ onward) onward) (cond c (backward ∷ onward) onward))
+    by true s true t rest = absurd (is.apart first (omega (arith, within)) (eqb-true (start_of graph forward) zone s ∙ sym (eqb-true (start_of graph backward) zone t)))
+    by true s false t rest = (later, rest)
+    by false s true t rest = (later, rest)
+    by false s false t rest = rest
+
+pub rising_neighbours : (graph : Graph) (zone : ℕ) (neighbours : List Neighbour) (d : Neighbour) (i j : ℕ) → IsGraph graph → neighbours ≡ neighbours_of graph zone → i < j → j < length neighbours
+    → (get_or neighbours i d).arc.border < (get_or neighbours j d).arc.border
+rising_neighbours graph zone neighbours d i j is all before within =
+    rising_at (λ (n : Neighbour). n.arc.border) neighbours d i j
+    (subst (IsRising (λ (n : Neighbour). n.arc.border)) (sym all)
+    (rising-map (λ (n : Neighbour). n.arc.border) (neighbour_over graph) (arcs_from graph zone) (rising-arcs graph zone 0 (border_count graph) is (omega arith)))) before within
