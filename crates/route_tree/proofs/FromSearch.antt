@@ -13,13 +13,12 @@ use Rattle.zone_graph.proofs.Places.{at_any}
 use Rattle.zone_search.specs.Distance.{AreDistances, arcs_of_distance, directed_room, distance_at}
 use Rattle.zone_search.proofs.Neighbours.{IsNeighbour, neighbour_at}
 use Rattle.zone_search.proofs.Searches.{IsReady, IsVisiting, at_found, at_others, ended, spaces_in, started, visit_begins, visit_ends, visit_goes_on, visit_skips}
-use Rattle.route_tree.specs.declared.search.Search.{Search}
-use Rattle.route_tree.specs.Search.{begun, first_met, found, no_step, step_at}
-use Rattle.route_tree.specs.Tree.{HasPlaces, TellsRoutes, tree_of}
+use Rattle.route_tree.specs.Search.{Search, begun, first_met, found, no_step, step_at}
+use Rattle.route_tree.specs.Tree.{HasPlaces, TellsRoutes}
 use Rattle.route_tree.proofs.AllFound.{all_found}
 use Rattle.route_tree.proofs.FirstSteps.{IsBefore, IsEarlierStep, IsStepFrom, from_tells}
 use Rattle.route_tree.proofs.Rising.{rising_neighbours}
-use Rattle.route_tree.proofs.TowardsSearch.{no_step_at, start_alone}
+use Rattle.route_tree.proofs.TowardsSearch.{branches_tree, no_step_at, start_alone}
 
 -- a zone is one of the first so many that were found
 abbrev pub IsAmong : (zones : List ℕ) → (next zone : ℕ) → Type 0
@@ -359,7 +358,7 @@ from_started graph room from known within =
 -- the best routes
 pub from_done : (graph : Graph) (room : Arc → ℕ) (from : ℕ) (search : Search) (next : ℕ) → IsGrid graph → HasZone graph from
     → IsReadyFrom graph room from search next → (search.count ≤ next) ⊎ (zone_count graph ≤ search.count)
-    → TellsRoutes graph room (tree_of search from false) × HasPlaces (tree_of search from false)
+    → TellsRoutes graph room (branches_tree search from false) × HasPlaces (branches_tree search from false)
 from_done graph room from search next grid there r past = (
   from_tells graph room from search.distances search.steps search.zones search.count grid there (distances past) (record {
     steps_from = r.steps.steps_from;

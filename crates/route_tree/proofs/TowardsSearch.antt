@@ -14,9 +14,10 @@ use Rattle.zone_graph.proofs.Places.{at_any, place_of}
 use Rattle.zone_search.specs.Distance.{AreDistances, arcs_of_distance, distance_at}
 use Rattle.zone_search.proofs.Neighbours.{IsNeighbour, neighbour_at, neighbour_by}
 use Rattle.zone_search.proofs.Searches.{IsReady, IsVisiting, at_found, at_others, ended, started, visit_begins, visit_ends, visit_goes_on, visit_skips}
-use Rattle.route_tree.specs.declared.search.Search.{Search}
-use Rattle.route_tree.specs.Search.{begun, found, met, met_at, no_step, step_at, stepped}
-use Rattle.route_tree.specs.Tree.{HasPlaces, TellsRoutes, tree_of}
+use Rattle.route_tree.specs.declared.search.Branches.{Branches}
+use Rattle.route_tree.specs.declared.search.Queue.{Queue}
+use Rattle.route_tree.specs.Search.{Search, begun, found, met, met_at, no_branches, no_step, search_over, step_at, stepped}
+use Rattle.route_tree.specs.Tree.{HasPlaces, TellsRoutes, Tree, tree_of}
 use Rattle.route_tree.proofs.Towards.{AreLeastSteps, towards_tells}
 
 -- an arc leads to one of the zones that have been visited
@@ -466,10 +467,14 @@ towards_ended graph room to search next r past = (
       ),
 )
 
+-- the tree of a search
+abbrev pub branches_tree : Search → (zone : ℕ) → (towards : Bool) → Tree
+branches_tree search zone towards = tree_of (record { distances = search.distances; steps = search.steps }) zone towards
+
 -- so its tree tells the best routes
 pub towards_done : (graph : Graph) (room : Arc → ℕ) (to : ℕ) (search : Search) (next : ℕ) → IsGraph graph → HasZone graph to
     → IsReadyTowards graph room to search next → search.count ≤ next
-    → TellsRoutes graph room (tree_of search to true) × HasPlaces (tree_of search to true)
+    → TellsRoutes graph room (branches_tree search to true) × HasPlaces (branches_tree search to true)
 towards_done graph room to search next is there r past =
     let done = towards_ended graph room to search next r past in (
       towards_tells graph room to search.distances search.steps is there done.0 done.1,
@@ -482,6 +487,11 @@ towards_done graph room to search next is there r past =
     )
 
 -- ---- its start
+
+pub begun_over : (branches : Branches) (queue : Queue) (zone : ℕ) → branches ≡ no_branches → queue.zones ≡ set (replicate 64 0) 0 zone → queue.count ≡ 1
+    → search_over (record { distances = set branches.distances zone (Some 0); steps = branches.steps }) queue ≡ begun zone
+begun_over branches queue zone none zones count =
+    λ i. record { distances = set (none i).distances zone (Some 0); steps = (none i).steps; zones = zones i; count = count i }
 
 pub no_step_at : (n zone : ℕ) → get_or (replicate n no_step) zone no_step ≡ no_step
 no_step_at zero zone = refl

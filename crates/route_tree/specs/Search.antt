@@ -1,7 +1,8 @@
 -- How a search for the routes of a tree goes on, arc by arc.
-use Rattle.std.specs.Prelude.{ℕ, ◌+◌, Bool, false, ◌==◌, ◌&&◌, List, Option, Some, None, is_none, nat_lt, replicate, slice_index_or, slice_set, if◌then◌else◌}
+use Rattle.std.specs.Prelude.{ℕ, ◌+◌, Bool, true, false, ◌==◌, ◌&&◌, List, Option, Some, None, is_none, nat_lt, replicate, slice_index_or, slice_set, if◌then◌else◌}
 use Rattle.zone_graph.specs.declared.grid.Neighbour.{Neighbour}
-use Rattle.route_tree.specs.declared.search.Search.{Search}
+use Rattle.route_tree.specs.declared.search.Branches.{Branches}
+use Rattle.route_tree.specs.declared.search.Queue.{Queue}
 
 -- a step where there is none
 abbrev pub no_step : Neighbour
@@ -10,6 +11,21 @@ no_step = record { arc = record { border = 0; forward = false }; zone = 0 }
 -- the step of a zone
 abbrev pub step_at : List Neighbour → ℕ → Neighbour
 step_at steps zone = slice_index_or steps zone no_step
+
+-- what a search that has found no zone knows
+abbrev pub no_branches : Branches
+no_branches = record { distances = replicate 64 None; steps = replicate 64 no_step }
+
+-- a search: how far the zones are that it has found, their steps, and these zones in the order in
+-- which they were found
+pub record Search : Type 0 where
+  pub distances : List (Option ℕ)
+  pub steps : List Neighbour
+  pub zones : List ℕ
+  pub count : ℕ
+
+abbrev pub search_over : Branches → Queue → Search
+search_over branches queue = record { distances = branches.distances; steps = branches.steps; zones = queue.zones; count = queue.count }
 
 -- a search that has found its own zone alone
 abbrev pub begun : ℕ → Search

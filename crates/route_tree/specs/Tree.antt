@@ -8,7 +8,7 @@ use Rattle.zone_graph.specs.Graph.{Graph, HasZone, IsGraph, most_zones}
 use Rattle.zone_graph.specs.Pour.{room_after}
 use Rattle.route_choice.specs.declared.route_search.RouteSearch.{RouteSearch}
 use Rattle.route_choice.specs.Freshness.{IsFresh, searched_route}
-use Rattle.route_tree.specs.declared.search.Search.{Search}
+use Rattle.route_tree.specs.declared.search.Branches.{Branches}
 use Rattle.route_tree.specs.Search.{step_at}
 
 -- a zone, how far the others are to it (towards) or from it, and for each of these the last step
@@ -19,9 +19,9 @@ pub record Tree : Type 0 where
   pub distances : List (Option ℕ)
   pub steps : List Neighbour
 
--- the tree that a search has made for a zone
-abbrev pub tree_of : Search → (zone : ℕ) → (towards : Bool) → Tree
-tree_of search zone towards = record { zone = zone; towards = towards; distances = search.distances; steps = search.steps }
+-- the tree of a zone of what a search has found
+abbrev pub tree_of : Branches → (zone : ℕ) → (towards : Bool) → Tree
+tree_of branches zone towards = record { zone = zone; towards = towards; distances = branches.distances; steps = branches.steps }
 
 -- each zone has places in the lists, and each step leads to one; no distance is as great as the
 -- number of places

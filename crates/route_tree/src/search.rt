@@ -1,92 +1,116 @@
 //! The search that a tree of routes is made by.
 
-ghost use Rattle.std.specs.Prelude.{◌≡◌, ◌<◌, None, true, false, length, slice_index_or};
+ghost use Rattle.std.specs.Prelude.{◌≡◌, ◌<◌, ◌+◌, None, true, false, length, replicate, slice_index_or, slice_set};
 ghost use Rattle.zone_graph.specs.Graph.{HasZone, border_count};
 ghost use Rattle.zone_graph.specs.Rooms.{room_of};
 ghost use Rattle.route_choice.specs.Freshness.{has_room};
-ghost use Rattle.route_tree.specs.Search.{begun, first_met, found, met};
+ghost use Rattle.route_tree.specs.Search.{first_met, met, no_branches, search_over};
 ghost use Rattle.route_tree.specs.Tree.{HasPlaces, TellsRoutes, tree_of};
 
 use zone_graph::{Arc, Grid, MOST_ZONES, Neighbour, Rooms};
 use zone_search::Distances;
 
-/// A search that goes out from one zone: how far the zones are that it has found, the step of each,
-/// and these zones in the order in which they were found.
+/// What a search finds: how far each zone is, and its step, by zone.
 #[derive(Drop)]
-pub(crate) struct Search {
+pub(crate) struct Branches {
     pub distances: Distances,
     pub steps: [Neighbour; MOST_ZONES],
+}
+
+// The zones that a search has found, in the order in which they were found.
+#[derive(Drop)]
+struct Queue {
     zones: [u32; MOST_ZONES],
     count: usize,
 }
 
-impl Search {
-    // The search that has found its own zone.
-    fn new(zone: u32) -> Search
-        requires { zone < 64 }
-        ensures { result ≡ begun zone }
+impl Queue {
+    // The queue with one zone in it.
+    fn new(zone: u32) -> Queue
+        ensures zones { result.zones ≡ slice_set (replicate 64 0) 0 zone }
+        ensures count { result.count ≡ 1 }
+    {
+        let mut queue = Queue {
+            zones: [0; MOST_ZONES],
+            count: 1,
+        };
+        queue.zones[0] = zone;
+        queue
+    }
+
+    // Adds a zone.
+    fn add(&mut self, zone: u32)
+        requires { self.old.count < 64 }
+        ensures zones { self.new.zones ≡ slice_set self.old.zones self.old.count zone }
+        ensures count { self.new.count ≡ self.old.count + 1 }
+    {
+        self.zones[self.count] = zone;
+        self.count += 1;
+    }
+}
+
+impl Branches {
+    /// Those of a search that has found no zone.
+    pub fn new() -> Branches
+        ensures { result ≡ no_branches }
     {
         let step = Neighbour {
             arc: Arc::over(0, false),
             zone: 0,
         };
-        let mut search = Search {
+        Branches {
             distances: [None; MOST_ZONES],
             steps: [step; MOST_ZONES],
-            zones: [0; MOST_ZONES],
-            count: 1,
-        };
-        search.distances[zone as usize] = Some(0);
-        search.zones[0] = zone;
-        search
-    }
-
-    // Adds a zone that was not found before.
-    fn add(&mut self, zone: u32, distance: u32, step: Neighbour)
-        requires zone { zone < 64 }
-        requires place { self.old.count < 64 }
-        ensures { self.new ≡ found self.old zone distance step }
-    {
-        self.distances[zone as usize] = Some(distance);
-        self.steps[zone as usize] = step;
-        self.zones[self.count] = zone;
-        self.count += 1;
+        }
     }
 
     // Meets a zone, so many arcs far over a step: adds it if it was not found before, and takes the
     // step if it is over a lesser border than the one over which the zone is as far.
-    fn meet(&mut self, rooms: &Rooms, zone: u32, distance: u32, step: Neighbour)
+    fn meet(&mut self, queue: &mut Queue, rooms: &Rooms, zone: u32, distance: u32, step: Neighbour)
         requires border { step.arc.border < length rooms.now }
         requires zone { zone < 64 }
-        requires place { slice_index_or self.old.distances zone None ≡ None → self.old.count < 64 }
-        ensures { self.new ≡ met (has_room (room_of rooms.now) step.arc) self.old zone distance step }
+        requires place { slice_index_or self.old.distances zone None ≡ None → queue.old.count < 64 }
+        ensures { search_over self.new queue.new ≡ met (has_room (room_of rooms.now) step.arc) (search_over self.old queue.old) zone distance step }
     {
-        match self.distances[zone as usize] {
+        let place = zone as usize;
+        match self.distances[place] {
             None => {
                 if rooms.at(step.arc) > 0 {
-                    self.add(zone, distance, step);
+                    self.distances[place] = Some(distance);
+                    self.steps[place] = step;
+                    queue.add(zone);
                 }
             }
             Some(far) => {
                 if far == distance
-                    && step.arc.border < self.steps[zone as usize].arc.border
+                    && step.arc.border < self.steps[place].arc.border
                     && rooms.at(step.arc) > 0
                 {
-                    self.steps[zone as usize] = step;
+                    self.steps[place] = step;
                 }
             }
         }
     }
 
     // Meets a zone, so many arcs far over a step: adds it if it was not found before.
-    fn meet_first(&mut self, rooms: &Rooms, zone: u32, distance: u32, step: Neighbour)
+    fn meet_first(
+        &mut self,
+        queue: &mut Queue,
+        rooms: &Rooms,
+        zone: u32,
+        distance: u32,
+        step: Neighbour,
+    )
         requires border { step.arc.border < length rooms.now }
         requires zone { zone < 64 }
-        requires place { slice_index_or self.old.distances zone None ≡ None → self.old.count < 64 }
-        ensures { self.new ≡ first_met (has_room (room_of rooms.now) step.arc) self.old zone distance step }
+        requires place { slice_index_or self.old.distances zone None ≡ None → queue.old.count < 64 }
+        ensures { search_over self.new queue.new ≡ first_met (has_room (room_of rooms.now) step.arc) (search_over self.old queue.old) zone distance step }
     {
-        if self.distances[zone as usize].is_none() && rooms.at(step.arc) > 0 {
-            self.add(zone, distance, step);
+        let place = zone as usize;
+        if self.distances[place].is_none() && rooms.at(step.arc) > 0 {
+            self.distances[place] = Some(distance);
+            self.steps[place] = step;
+            queue.add(zone);
         }
     }
 
@@ -99,56 +123,58 @@ impl Search {
     }
 }
 
-/// The search for the best routes to a zone: each zone's step is over the least border of those that
-/// lead to a nearer one.
-pub(crate) fn search_towards(grid: &Grid, rooms: &Rooms, zone: u32) -> Search
+/// Finds the best routes to a zone: each zone's step is over the least border of those that lead to
+/// a nearer one.
+pub(crate) fn search_towards(grid: &Grid, rooms: &Rooms, zone: u32, branches: &mut Branches)
     requires zone { HasZone grid.now zone }
     requires size { length rooms.now ≡ border_count grid.now }
-    ensures tells { TellsRoutes grid.now (room_of rooms.now) (tree_of result zone true) }
-    ensures places { HasPlaces (tree_of result zone true) }
+    requires none { branches.old ≡ no_branches }
+    ensures tells { TellsRoutes grid.now (room_of rooms.now) (tree_of branches.new zone true) }
+    ensures places { HasPlaces (tree_of branches.new zone true) }
 {
     let zones = grid.zones();
     prove!(zone < zones);
-    let mut search = Search::new(zone);
+    let mut queue = Queue::new(zone);
+    branches.distances[zone as usize] = Some(0);
     let mut next = 0;
-    while next < search.count {
-        let visited = search.zones[next];
-        let distance = search.distance(visited).unwrap() + 1;
+    while next < queue.count {
+        let visited = queue.zones[next];
+        let distance = branches.distance(visited).unwrap() + 1;
         for neighbour in grid.neighbours(visited) {
             let step = Neighbour {
                 arc: neighbour.arc.opposite(),
                 zone: visited,
             };
-            search.meet(rooms, neighbour.zone, distance, step);
+            branches.meet(&mut queue, rooms, neighbour.zone, distance, step);
         }
         next += 1;
     }
-    search
 }
 
-/// The search for the best routes from a zone: each zone's step is the one over which it is found
-/// first. It ends when all zones of the grid are found.
-pub(crate) fn search_from(grid: &Grid, rooms: &Rooms, zone: u32) -> Search
+/// Finds the best routes from a zone: each zone's step is the one over which it is found first. It
+/// ends when all zones of the grid are found.
+pub(crate) fn search_from(grid: &Grid, rooms: &Rooms, zone: u32, branches: &mut Branches)
     requires zone { HasZone grid.now zone }
     requires size { length rooms.now ≡ border_count grid.now }
-    ensures tells { TellsRoutes grid.now (room_of rooms.now) (tree_of result zone false) }
-    ensures places { HasPlaces (tree_of result zone false) }
+    requires none { branches.old ≡ no_branches }
+    ensures tells { TellsRoutes grid.now (room_of rooms.now) (tree_of branches.new zone false) }
+    ensures places { HasPlaces (tree_of branches.new zone false) }
 {
     let zones = grid.zones();
     prove!(zone < zones);
-    let mut search = Search::new(zone);
+    let mut queue = Queue::new(zone);
+    branches.distances[zone as usize] = Some(0);
     let mut next = 0;
-    while next < search.count && search.count < zones as usize {
-        let visited = search.zones[next];
-        let distance = search.distance(visited).unwrap() + 1;
+    while next < queue.count && queue.count < zones as usize {
+        let visited = queue.zones[next];
+        let distance = branches.distance(visited).unwrap() + 1;
         for neighbour in grid.neighbours(visited) {
             let step = Neighbour {
                 arc: neighbour.arc,
                 zone: visited,
             };
-            search.meet_first(rooms, neighbour.zone, distance, step);
+            branches.meet_first(&mut queue, rooms, neighbour.zone, distance, step);
         }
         next += 1;
     }
-    search
 }

@@ -10,10 +10,9 @@ ghost use Rattle.route_choice.specs.Freshness.{has_room};
 ghost use Rattle.route_tree.specs.Tree.{StaysTold, TellsRoutes, told_route};
 
 use crate::reading::{read_from, read_towards};
-use crate::search::{search_from, search_towards};
+use crate::search::{Branches, search_from, search_towards};
 use std::marker::Model;
-use zone_graph::{Arc, Grid, MOST_ZONES, Neighbour, Rooms};
-use zone_search::Distances;
+use zone_graph::{Arc, Grid, Rooms};
 
 /// The best routes between one zone of a grid and all others, over a row of rooms: to the zone
 /// (`towards`) or from it. It keeps, for each other zone, the step that its best route takes at that
@@ -26,8 +25,7 @@ use zone_search::Distances;
 pub struct RouteTree {
     zone: u32,
     towards: bool,
-    distances: Distances,
-    steps: [Neighbour; MOST_ZONES],
+    branches: Branches,
 }
 
 impl Model for RouteTree {
@@ -35,9 +33,9 @@ impl Model for RouteTree {
 
     ghost Value = { Tree };
 
-    ghost view = { λ tree. record { zone = tree.zone; towards = tree.towards; distances = tree.distances; steps = tree.steps } };
+    ghost view = { λ tree. record { zone = tree.zone; towards = tree.towards; distances = tree.branches.distances; steps = tree.branches.steps } };
 
-    ghost invariant = { λ tree. HasPlaces (record { zone = tree.zone; towards = tree.towards; distances = tree.distances; steps = tree.steps }) };
+    ghost invariant = { λ tree. HasPlaces (record { zone = tree.zone; towards = tree.towards; distances = tree.branches.distances; steps = tree.branches.steps }) };
 }
 
 impl RouteTree {
@@ -52,19 +50,17 @@ impl RouteTree {
         ensures zone { result.zone ≡ zone }
         ensures towards { result.towards ≡ towards }
     {
-        let search = if towards {
-            search_towards(grid, rooms, zone)
-        } else {
-            search_from(grid, rooms, zone)
-        };
-        let distances = search.distances;
-        let steps = search.steps;
-        RouteTree {
+        let mut tree = RouteTree {
             zone,
             towards,
-            distances,
-            steps,
+            branches: Branches::new(),
+        };
+        if towards {
+            search_towards(grid, rooms, zone, &mut tree.branches);
+        } else {
+            search_from(grid, rooms, zone, &mut tree.branches);
         }
+        tree
     }
 
     /// The zone that the routes lead to or from.
@@ -85,7 +81,7 @@ impl RouteTree {
     pub fn reaches(&self, other: u32) -> bool
         ensures { result ≡ is_some (told_route self.now other) }
     {
-        match self.distances.get(other as usize) {
+        match self.branches.distances.get(other as usize) {
             Some(distance) => distance.is_some(),
             None => false,
         }
@@ -103,12 +99,12 @@ impl RouteTree {
         ensures places { length arcs.new ≡ 64 }
         ensures short { result < 64 }
     {
-        let count = self.distances[other as usize].unwrap() as usize;
+        let count = self.branches.distances[other as usize].unwrap() as usize;
         let (route, _) = arcs.split_at_mut(count);
         if self.towards {
-            read_towards(&self.steps, other, route);
+            read_towards(&self.branches.steps, other, route);
         } else {
-            read_from(&self.steps, other, route);
+            read_from(&self.branches.steps, other, route);
         }
         count
     }

@@ -3,14 +3,15 @@ use Rattle.zone_graph.specs.Rooms.{room_of}
 use Rattle.zone_search.specs.Distance.{arcs_of_distance, directed_room}
 use Rattle.zone_search.proofs.Neighbours.{neighbour_at, neighbour_within}
 use Rattle.zone_search.proofs.Searches.{spaces_in}
-use Rattle.route_tree.specs.declared.search.Search.{Search}
-use Rattle.route_tree.specs.Search.{no_step}
+use Rattle.route_tree.specs.Search.{Search, search_over, no_step}
 use Rattle.route_tree.proofs.FromSearch.{IsReadyFrom, IsVisitingFrom, from_begins, from_done, from_ends, from_meets, from_started}
+use Rattle.route_tree.proofs.TowardsSearch.{begun_over}
 use Rattle.route_tree.proofs.search.search_from.Goals as goal
 
 pub loop-next-init : goal.loop-next-init
 loop-next-init c =
-    subst (λ (s : Search). IsReadyFrom c.args.grid.now (room_of c.args.rooms.now) c.args.zone s 0) (sym c.new-search.ensures)
+    subst (λ (s : Search). IsReadyFrom c.args.grid.now (room_of c.args.rooms.now) c.args.zone s 0)
+    (sym (begun_over c.args.branches.now c.new-queue.result c.args.zone c.requires.none c.new-queue.ensures.zones c.new-queue.ensures.count))
     (from_started c.args.grid.now (room_of c.args.rooms.now) c.args.zone c.requires.zone (omega (arith, c.zones-zones.ensures.grid.few_zones, c.requires.zone)))
 
 pub loop-neighbour-init : goal.loop-neighbour-init
@@ -19,7 +20,7 @@ loop-neighbour-init c = record {
   low =
       let there = c.loop-next.invariant.ready.searching.there c.loop-next.next c.loop-next-test.true in
       omega (arith, there, c.zones-zones.ensures.grid.few_zones);
-  visiting = from_begins c.args.grid.now (room_of c.args.rooms.now) c.args.zone c.loop-next.search c.loop-next.next (get_or c.loop-next.search.zones c.loop-next.next 0)
+  visiting = from_begins c.args.grid.now (room_of c.args.rooms.now) c.args.zone (search_over c.loop-next.branches c.loop-next.queue) c.loop-next.next (get_or c.loop-next.queue.zones c.loop-next.next 0)
       (c.unwrap-distance.result + 1) c.neighbours-neighbour-items.result.now c.loop-next.invariant c.loop-next-test.true refl
       (ap (λ n. n + 1) (ap arcs_of_distance (sym c.distance.ensures ∙ c.unwrap-distance.ensures)));
   neighbours = c.neighbours-neighbour-items.ensures.neighbours;
@@ -38,7 +39,7 @@ meet_first-requires-clause-zone c =
 
 pub meet_first-requires-clause-place : goal.meet_first-requires-clause-place
 meet_first-requires-clause-place c = λ free.
-    spaces_in c.args.grid.now (directed_room (room_of c.args.rooms.now) false) c.args.zone c.loop-neighbour.search.distances c.loop-neighbour.search.zones c.loop-neighbour.search.count _
+    spaces_in c.args.grid.now (directed_room (room_of c.args.rooms.now) false) c.args.zone c.loop-neighbour.branches.distances c.loop-neighbour.queue.zones c.loop-neighbour.queue.count _
     c.loop-neighbour.invariant.visiting.visiting.searching
     (neighbour_within c.args.grid.now _ c.neighbours-neighbour-items.result.now c.loop-neighbour.neighbour-index no_step
     c.zones-zones.ensures.grid c.neighbours-neighbour-items.ensures.neighbours c.loop-neighbour-test.true) free
@@ -48,10 +49,10 @@ loop-neighbour-preserved c = record {
   grid = c.zones-zones.ensures.grid;
   low = c.loop-neighbour.invariant.low;
   visiting =
-      let meets = from_meets c.args.grid.now (room_of c.args.rooms.now) c.args.zone c.loop-neighbour.search c.loop-next.next (get_or c.loop-next.search.zones c.loop-next.next 0)
+      let meets = from_meets c.args.grid.now (room_of c.args.rooms.now) c.args.zone (search_over c.loop-neighbour.branches c.loop-neighbour.queue) c.loop-next.next (get_or c.loop-next.queue.zones c.loop-next.next 0)
       (c.unwrap-distance.result + 1) c.neighbours-neighbour-items.result.now c.loop-neighbour.neighbour-index c.zones-zones.ensures.grid c.neighbours-neighbour-items.ensures.neighbours
       c.loop-neighbour-test.true c.loop-neighbour.invariant.low c.loop-neighbour.invariant.visiting in
-      subst (λ (s : Search). IsVisitingFrom c.args.grid.now (room_of c.args.rooms.now) c.args.zone s c.loop-next.next (get_or c.loop-next.search.zones c.loop-next.next 0)
+      subst (λ (s : Search). IsVisitingFrom c.args.grid.now (room_of c.args.rooms.now) c.args.zone s c.loop-next.next (get_or c.loop-next.queue.zones c.loop-next.next 0)
       (c.unwrap-distance.result + 1) c.neighbours-neighbour-items.result.now (c.loop-neighbour.neighbour-index + 1))
       (sym c.meet_first.ensures) meets;
   neighbours = c.neighbours-neighbour-items.ensures.neighbours;
@@ -59,16 +60,16 @@ loop-neighbour-preserved c = record {
 
 pub loop-next-preserved : goal.loop-next-preserved
 loop-next-preserved c =
-    from_ends c.args.grid.now (room_of c.args.rooms.now) c.args.zone c.loop-neighbour.search c.loop-next.next (get_or c.loop-next.search.zones c.loop-next.next 0)
+    from_ends c.args.grid.now (room_of c.args.rooms.now) c.args.zone (search_over c.loop-neighbour.branches c.loop-neighbour.queue) c.loop-next.next (get_or c.loop-next.queue.zones c.loop-next.next 0)
     (c.unwrap-distance.result + 1) c.neighbours-neighbour-items.result.now c.loop-neighbour.neighbour-index c.neighbours-neighbour-items.ensures.neighbours
     c.loop-neighbour-test.false c.loop-neighbour.invariant.visiting
 
-pub returns-else-search-zones-clause-tells : goal.returns-else-search-zones-clause-tells
-returns-else-search-zones-clause-tells c =
-    (from_done c.args.grid.now (room_of c.args.rooms.now) c.args.zone c.loop-next.search c.loop-next.next c.zones-zones.ensures.grid c.requires.zone
-    c.loop-next.invariant (inr (omega (arith, c.if-search-zones.false, c.zones-zones.ensures.count)))).0
+pub returns-else-queue-zones-clause-tells : goal.returns-else-queue-zones-clause-tells
+returns-else-queue-zones-clause-tells c =
+    (from_done c.args.grid.now (room_of c.args.rooms.now) c.args.zone (search_over c.loop-next.branches c.loop-next.queue) c.loop-next.next c.zones-zones.ensures.grid c.requires.zone
+    c.loop-next.invariant (inr (omega (arith, c.if-queue-zones.false, c.zones-zones.ensures.count)))).0
 
 pub returns-after-loop-next-clause-tells : goal.returns-after-loop-next-clause-tells
 returns-after-loop-next-clause-tells c =
-    (from_done c.args.grid.now (room_of c.args.rooms.now) c.args.zone c.loop-next.search c.loop-next.next c.zones-zones.ensures.grid c.requires.zone
+    (from_done c.args.grid.now (room_of c.args.rooms.now) c.args.zone (search_over c.loop-next.branches c.loop-next.queue) c.loop-next.next c.zones-zones.ensures.grid c.requires.zone
     c.loop-next.invariant (inl c.loop-next-test.false)).0

@@ -5,14 +5,14 @@ use Rattle.zone_search.specs.Distance.{arcs_of_distance}
 use Rattle.zone_search.proofs.Neighbours.{neighbour_at, neighbour_within}
 use Rattle.zone_search.proofs.Searches.{spaces_in}
 use Rattle.route_choice.specs.Freshness.{has_room}
-use Rattle.route_tree.specs.declared.search.Search.{Search}
-use Rattle.route_tree.specs.Search.{met, no_step}
-use Rattle.route_tree.proofs.TowardsSearch.{IsReadyTowards, IsVisitingTowards, towards_begins, towards_done, towards_ends, towards_meets, towards_started}
+use Rattle.route_tree.specs.Search.{Search, search_over, met, no_step}
+use Rattle.route_tree.proofs.TowardsSearch.{begun_over, IsReadyTowards, IsVisitingTowards, towards_begins, towards_done, towards_ends, towards_meets, towards_started}
 use Rattle.route_tree.proofs.search.search_towards.Goals as goal
 
 pub loop-next-init : goal.loop-next-init
 loop-next-init c =
-    subst (λ (s : Search). IsReadyTowards c.args.grid.now (room_of c.args.rooms.now) c.args.zone s 0) (sym c.new-search.ensures)
+    subst (λ (s : Search). IsReadyTowards c.args.grid.now (room_of c.args.rooms.now) c.args.zone s 0)
+    (sym (begun_over c.args.branches.now c.new-queue.result c.args.zone c.requires.none c.new-queue.ensures.zones c.new-queue.ensures.count))
     (towards_started c.args.grid.now (room_of c.args.rooms.now) c.args.zone c.requires.zone (omega (arith, c.zones-zones.ensures.grid.few_zones, c.requires.zone)))
 
 pub loop-neighbour-init : goal.loop-neighbour-init
@@ -21,7 +21,7 @@ loop-neighbour-init c = record {
   low =
       let there = c.loop-next.invariant.ready.searching.there c.loop-next.next c.loop-next-test.true in
       omega (arith, there, c.zones-zones.ensures.grid.few_zones);
-  visiting = towards_begins c.args.grid.now (room_of c.args.rooms.now) c.args.zone c.loop-next.search c.loop-next.next (get_or c.loop-next.search.zones c.loop-next.next 0)
+  visiting = towards_begins c.args.grid.now (room_of c.args.rooms.now) c.args.zone (search_over c.loop-next.branches c.loop-next.queue) c.loop-next.next (get_or c.loop-next.queue.zones c.loop-next.next 0)
       (c.unwrap-distance.result + 1) c.neighbours-neighbour-items.result.now c.loop-next.invariant c.loop-next-test.true refl
       (ap (λ n. n + 1) (ap arcs_of_distance (sym c.distance.ensures ∙ c.unwrap-distance.ensures)));
   neighbours = c.neighbours-neighbour-items.ensures.neighbours;
@@ -41,7 +41,7 @@ meet-requires-clause-zone c =
 
 pub meet-requires-clause-place : goal.meet-requires-clause-place
 meet-requires-clause-place c = λ free.
-    spaces_in c.args.grid.now (room_of c.args.rooms.now) c.args.zone c.loop-neighbour.search.distances c.loop-neighbour.search.zones c.loop-neighbour.search.count _
+    spaces_in c.args.grid.now (room_of c.args.rooms.now) c.args.zone c.loop-neighbour.branches.distances c.loop-neighbour.queue.zones c.loop-neighbour.queue.count _
     c.loop-neighbour.invariant.visiting.visiting.searching
     (neighbour_within c.args.grid.now _ c.neighbours-neighbour-items.result.now c.loop-neighbour.neighbour-index no_step
     c.zones-zones.ensures.grid c.neighbours-neighbour-items.ensures.neighbours c.loop-neighbour-test.true) free
@@ -51,29 +51,29 @@ loop-neighbour-preserved c = record {
   grid = c.zones-zones.ensures.grid;
   low = c.loop-neighbour.invariant.low;
   visiting =
-      let meets = towards_meets c.args.grid.now (room_of c.args.rooms.now) c.args.zone c.loop-neighbour.search c.loop-next.next (get_or c.loop-next.search.zones c.loop-next.next 0)
+      let meets = towards_meets c.args.grid.now (room_of c.args.rooms.now) c.args.zone (search_over c.loop-neighbour.branches c.loop-neighbour.queue) c.loop-next.next (get_or c.loop-next.queue.zones c.loop-next.next 0)
       (c.unwrap-distance.result + 1) c.neighbours-neighbour-items.result.now c.loop-neighbour.neighbour-index c.zones-zones.ensures.grid c.neighbours-neighbour-items.ensures.neighbours
       c.loop-neighbour-test.true c.loop-neighbour.invariant.low c.loop-neighbour.invariant.visiting in
-      subst (λ (s : Search). IsVisitingTowards c.args.grid.now (room_of c.args.rooms.now) c.args.zone s c.loop-next.next (get_or c.loop-next.search.zones c.loop-next.next 0)
+      subst (λ (s : Search). IsVisitingTowards c.args.grid.now (room_of c.args.rooms.now) c.args.zone s c.loop-next.next (get_or c.loop-next.queue.zones c.loop-next.next 0)
       (c.unwrap-distance.result + 1) c.neighbours-neighbour-items.result.now (c.loop-neighbour.neighbour-index + 1))
       (sym (c.meet.ensures
-      ∙ ap (λ a. met (has_room (room_of c.args.rooms.now) a) c.loop-neighbour.search (get_or c.neighbours-neighbour-items.result.now c.loop-neighbour.neighbour-index no_step).zone (c.unwrap-distance.result + 1)
-      (record { arc = a; zone = get_or c.loop-next.search.zones c.loop-next.next 0 })) c.opposite.ensures)) meets;
+      ∙ ap (λ a. met (has_room (room_of c.args.rooms.now) a) (search_over c.loop-neighbour.branches c.loop-neighbour.queue) (get_or c.neighbours-neighbour-items.result.now c.loop-neighbour.neighbour-index no_step).zone (c.unwrap-distance.result + 1)
+      (record { arc = a; zone = get_or c.loop-next.queue.zones c.loop-next.next 0 })) c.opposite.ensures)) meets;
   neighbours = c.neighbours-neighbour-items.ensures.neighbours;
 }
 
 pub loop-next-preserved : goal.loop-next-preserved
 loop-next-preserved c =
-    towards_ends c.args.grid.now (room_of c.args.rooms.now) c.args.zone c.loop-neighbour.search c.loop-next.next (get_or c.loop-next.search.zones c.loop-next.next 0)
+    towards_ends c.args.grid.now (room_of c.args.rooms.now) c.args.zone (search_over c.loop-neighbour.branches c.loop-neighbour.queue) c.loop-next.next (get_or c.loop-next.queue.zones c.loop-next.next 0)
     (c.unwrap-distance.result + 1) c.neighbours-neighbour-items.result.now c.loop-neighbour.neighbour-index c.neighbours-neighbour-items.ensures.neighbours
     c.loop-neighbour-test.false c.loop-neighbour.invariant.visiting
 
 pub returns-clause-tells : goal.returns-clause-tells
 returns-clause-tells c =
-    (towards_done c.args.grid.now (room_of c.args.rooms.now) c.args.zone c.loop-next.search c.loop-next.next c.zones-zones.ensures.grid.is_graph c.requires.zone
+    (towards_done c.args.grid.now (room_of c.args.rooms.now) c.args.zone (search_over c.loop-next.branches c.loop-next.queue) c.loop-next.next c.zones-zones.ensures.grid.is_graph c.requires.zone
     c.loop-next.invariant c.loop-next-test.false).0
 
 pub returns-clause-places : goal.returns-clause-places
 returns-clause-places c =
-    (towards_done c.args.grid.now (room_of c.args.rooms.now) c.args.zone c.loop-next.search c.loop-next.next c.zones-zones.ensures.grid.is_graph c.requires.zone
+    (towards_done c.args.grid.now (room_of c.args.rooms.now) c.args.zone (search_over c.loop-next.branches c.loop-next.queue) c.loop-next.next c.zones-zones.ensures.grid.is_graph c.requires.zone
     c.loop-next.invariant c.loop-next-test.false).1
