@@ -1,12 +1,15 @@
 -- The lines and views of an hour, from its events alone.
-use Rattle.std.proofs.Common.{◌≡◌, ◌∙◌, inl, ℕ, List, [], ◌∷◌, map, refl, sym, ap, subst}
+use Rattle.std.proofs.Common.{◌≡◌, ◌∙◌, ◌+◌, ◌<◌, inl, ℕ, Bool, true, false, List, [], ◌∷◌, map, refl, sym, ap, subst, arith}
+use Rattle.std.proofs.lemmas.List.{get_or-map}
+use Rattle.std.proofs.lemmas.List.FromFn.{get_or-range_with_len, length-range_with_len}
+use Rattle.std.specs.List.{range_with_len}
 use Rattle.order_kinds.specs.declared.contract.Contract.{Contract}
 use Rattle.order_kinds.specs.declared.side.Side.{Side}
 use Rattle.order_kinds.specs.Contract.{contract_at}
 use Rattle.order_kinds.specs.Period.{contract_quarters}
 use Rattle.zone_graph.specs.declared.route.Arc.{Arc}
-use Rattle.zone_graph.specs.Graph.{Graph, HasArc, IsGraph}
-use Rattle.zone_graph.specs.Rooms.{room_of}
+use Rattle.zone_graph.specs.Graph.{Graph, HasArc, IsGraph, border_count}
+use Rattle.zone_graph.specs.Rooms.{part_of, room_of}
 use Rattle.zone_graph.specs.Route.{IsIn}
 use Rattle.market_model.specs.declared.event.Event.{Event}
 use Rattle.market_model.specs.Board.{IsHourOf}
@@ -27,6 +30,23 @@ use Rattle.local_view.proofs.LineMakers.{makers-cross, makers-once}
 use Rattle.local_view.proofs.Makers.{AllCross, AreOnce}
 use Rattle.plain_view.proofs.Views.{makers-in_zones, view-is}
 use Rattle.local_view.proofs.Walking.{walked, walked-trades}
+
+-- a room of each arc, as a row of rooms
+rooms_like : (borders : ℕ) → (Arc → ℕ) → List (ℕ × ℕ)
+rooms_like borders own = map (λ border. (own (record { border = border; forward = true }), own (record { border = border; forward = false }))) (range_with_len 0 borders)
+
+room-like : (borders : ℕ) (own : Arc → ℕ) (arc : Arc) → arc.border < borders → room_of (rooms_like borders own) arc ≡ own arc
+unfolding rooms_like
+room-like borders own arc there =
+    let pair : ℕ → ℕ × ℕ = λ border. (own (record { border = border; forward = true }), own (record { border = border; forward = false })) in
+    ap (part_of arc.forward)
+    (get_or-map pair (range_with_len 0 borders) arc.border 0 (0, 0) (let size = length-range_with_len 0 borders in omega (arith, there, size))
+    ∙ ap pair (get_or-range_with_len 0 borders arc.border 0 there ∙ (let plain : 0 + arc.border ≡ arc.border = omega arith in plain)))
+    ∙ by arc.forward refl
+  where
+    by : (b : Bool) → arc.forward ≡ b → part_of arc.forward (own (record { border = arc.border; forward = true }), own (record { border = arc.border; forward = false })) ≡ own arc
+    by true e = ap (λ d. part_of d (own (record { border = arc.border; forward = true }), own (record { border = arc.border; forward = false }))) e ∙ ap (λ d. own (record { border = arc.border; forward = d })) (sym e)
+    by false e = ap (λ d. part_of d (own (record { border = arc.border; forward = true }), own (record { border = arc.border; forward = false }))) e ∙ ap (λ d. own (record { border = arc.border; forward = d })) (sym e)
 
 module _ (graph : Graph) (hour : ℕ) (events : List Event) (of : IsHourOf graph hour events) where
   pub agree : Agree (hour ∷ []) events of.history
@@ -86,3 +106,11 @@ module _ (graph : Graph) (hour : ℕ) (events : List Event) (of : IsHourOf graph
           ∙ sym trades.rows
           ∙ view-is graph hour-graph of.history legal contract side zone rooms are-there (rows_with trades.fills) (record { fills = trades.fills; run = trades.run; are = refl })
           ∙ sym (view-of zone)
+
+    -- a line without orders shows nothing
+    pub view-empty : (zone : ℕ) → line events (contract_at hour part) side ≡ [] → view graph events (contract_at hour part) side zone ≡ []
+    unfolding walked
+    view-empty zone none =
+        let rooms = rooms_like (border_count graph) (room events (contract_quarters (contract_at hour part))) in
+        sym (view-walked zone rooms (λ arc known. room-like (border_count graph) (room events (contract_quarters (contract_at hour part))) arc known))
+        ∙ ap (λ orders. walked graph side zone (room_of rooms) 4294967295 (map maker_of orders)) none

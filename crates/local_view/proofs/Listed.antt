@@ -20,7 +20,7 @@ use Rattle.route_choice.specs.Poured.{AreRoomsAfter, lots_of, rooms_after as all
 use Rattle.plain_view.specs.Depth.{maker_of}
 use Rattle.local_view.specs.Boards.{AreRoomsOf, view_of}
 use Rattle.local_view.specs.Poured.{legs_with, row_if}
-use Rattle.local_view.proofs.Hours.{line-known, view-walked}
+use Rattle.local_view.proofs.Hours.{line-known, view-empty, view-walked}
 use Rattle.local_view.proofs.Lines.{StandsAt, from_shown, resting-differ, rests-all, stands-at, walk-begins}
 use Rattle.local_view.proofs.Walking.{walked}
 
@@ -40,6 +40,10 @@ pub record IsListed (board : BoardState) (part : ℕ) (side : Side) (zone : ℕ)
   pub onward : rows ++ walked board.grid side zone (room_of rooms) left (map maker_of (from_shown (resting_line board part side) next))
       ≡ walked board.grid side zone (room_of start) 4294967295 (map maker_of (resting_line board part side))
 
+none-first : (orders : List Standing) → first_shown orders ≡ None → orders ≡ []
+none-first [] none = refl
+none-first (order ∷ orders) none = absurd (cc)
+
 module _ (board : BoardState) (is : IsBoard board) (none : board.hand ≡ None) (part : ℕ) (known : part < board.parts) (side : Side) (zone : ℕ) where
   abbrev orders : List Standing
   orders = resting_line board part side
@@ -54,6 +58,11 @@ module _ (board : BoardState) (is : IsBoard board) (none : board.hand ≡ None) 
             ap (λ rs. rs ++ walked board.grid side zone (room_of start) 4294967295 (map maker_of (from_shown orders next))) empty
             ∙ ap (λ os. walked board.grid side zone (room_of start) 4294967295 (map maker_of os)) all;
       }
+
+  -- where no order rests there are no rows
+  pub nothing-shown : first_shown (resting_line board part side) ≡ None → view_of board part side zone ≡ []
+  nothing-shown empty =
+      view-empty board.grid board.hour board.events is.stands part side zone (sym (rests-all board part side none) ∙ none-first (resting_line board part side) empty)
 
   pub at-order : (next : Option Shown) (shown : Shown) → next ≡ first_shown (from_shown (resting_line board part side) next) → next ≡ Some shown
       → StandsAt (resting_line board part side) shown

@@ -1,7 +1,8 @@
 //! The lists of rows of one part and side, for each zone.
 
-ghost use Rattle.std.specs.Prelude.{◌≡◌, ◌<◌, None, OnOk, length};
+ghost use Rattle.std.specs.Prelude.{◌≡◌, ◌<◌, ℕ, [], None, OnOk, get_or, length};
 ghost use Rattle.zone_graph.specs.Graph.{HasZone, border_count, zone_count};
+ghost use Rattle.market_model.specs.Board.{IsBoard};
 ghost use Rattle.local_view.specs.Boards.{AreRoomsOf, view_of};
 ghost use Rattle.local_view.specs.Works.{AreComputed, IsWork, KeepsWork};
 
@@ -13,11 +14,61 @@ use std::mem;
 use zone_graph::Grid;
 
 /// Makes the list of rows of each zone that the work says is computed. Of the other lists nothing is said.
+/// The rooms of the part are asked for once, where an order rests in the line.
 ///
 /// # Errors
 ///
 /// [`NoMemory`], where there is no memory for a row.
 pub(crate) fn fill_lists<B: Board>(
+    alloc: Global,
+    board: &B,
+    grid: &Grid,
+    work: &mut Work,
+    line: Line,
+    lists: &mut [Rows],
+) -> Result<(), NoMemory>
+    requires grid { grid.now ≡ (B.state board.now).grid }
+    requires hand { (B.state board.now).hand ≡ None }
+    requires part { line.part < (B.state board.now).parts }
+    requires work { IsWork (border_count grid.now) work.old }
+    requires zones { length lists.old ≡ zone_count grid.now }
+    ensures lists { OnOk result (AreComputed work.old.computed (B.state board.now) line.part line.side lists.new) }
+    ensures size { length lists.new ≡ length lists.old }
+    ensures work { IsWork (border_count grid.now) work.new }
+    ensures computed { work.new.computed ≡ work.old.computed }
+    ensures board { IsBoard (B.state board.now) }
+{
+    if board.first(line.part, line.side).is_none() {
+        clear_lists(alloc, lists);
+        return Ok(());
+    }
+    board.rooms(line.part, &mut work.of_part);
+    list_zones(alloc, board, grid, work, line, lists)
+}
+
+// Clears all lists. The memory that they have stays.
+fn clear_lists(alloc: Global, lists: &mut [Rows])
+    ensures lists { (zone : ℕ) → zone < length lists.new → get_or lists.new zone [] ≡ [] }
+    ensures size { length lists.new ≡ length lists.old }
+{
+    for list in lists.iter_mut() {
+        clear(alloc, list);
+    }
+}
+
+// Clears a list.
+fn clear(alloc: Global, list: &mut Rows)
+    ensures { list.new ≡ [] }
+{
+    if !list.is_empty() {
+        let mut rows = mem::replace(list, Rows::new(alloc)).into_vec();
+        rows.clear();
+        *list = Rows::from(rows);
+    }
+}
+
+// Makes the list of rows of each zone that the work says is computed, over the rooms of the part.
+fn list_zones<B: Board>(
     alloc: Global,
     board: &B,
     grid: &Grid,

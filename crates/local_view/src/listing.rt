@@ -19,7 +19,7 @@ pub(crate) struct Line {
 }
 
 /// Writes the rows of the view of a line and a zone, in place of those that were there. The rooms of the
-/// part stay; the others are what is left of them where the list ends, if an order rests in the line.
+/// part stay; the others are then what is left of them.
 ///
 /// # Errors
 ///
@@ -43,13 +43,10 @@ pub(crate) fn list_rows<B: Board>(
     ensures size { length rooms.new ≡ length rooms.old }
 {
     rows.clear();
-    let mut next = board.first(line.part, line.side);
-    if next.is_none() {
-        return Ok(());
-    }
     rooms.copy_from(of_part);
     let mut taker = Taker::new(grid, rooms, line.side, zone);
     let mut left = u32::MAX;
+    let mut next = board.first(line.part, line.side);
     while let Some(order) = next {
         let lots = taker.take(grid, rooms, order.zone, left.min(order.lots));
         add_row(rows, order.price, lots)?;

@@ -5,10 +5,9 @@ ghost use Rattle.order_kinds.specs.declared.side.Side.TheVariants.{Buy, Sell};
 ghost use Rattle.order_kinds.specs.Side.{opposite};
 ghost use Rattle.market_model.specs.Board.{IsBoard};
 ghost use Rattle.zone_graph.specs.Graph.{border_count, zone_count};
-ghost use Rattle.local_view.specs.Boards.{AreRoomsOf};
 ghost use Rattle.local_view.specs.Kept.{AreNext, IsSized, adopted, empty_part, empty_rows, forgotten, on_side, part_adopted, part_forgotten};
 ghost use Rattle.local_view.specs.Rows.{chosen};
-ghost use Rattle.local_view.specs.Works.{AllComputed, HasMade, IsWork, KeepsWork};
+ghost use Rattle.local_view.specs.Works.{AllComputed, HasMade, IsWork};
 
 use crate::filling::fill_lists;
 use crate::listing::Line;
@@ -105,11 +104,12 @@ impl LineViews {
         requires hand { (B.state board.now).hand ≡ None }
         requires part { line.part < (B.state board.now).parts }
         requires work { IsWork (border_count grid.now) work.old }
-        requires rooms { AreRoomsOf (B.state board.now) line.part work.old.of_part }
         requires zones { length self.old.kept ≡ zone_count grid.now }
         ensures next { OnOk result (HasMade work.old.computed (B.state board.now) line.part line.side self.old.kept self.new) }
         ensures kept { forgotten self.new ≡ forgotten self.old }
-        ensures work { KeepsWork work.old work.new }
+        ensures work { IsWork (border_count grid.now) work.new }
+        ensures computed { work.new.computed ≡ work.old.computed }
+        ensures board { IsBoard (B.state board.now) }
     {
         self.is_next = false;
         fill_lists(alloc, board, grid, work, line, self.next.as_mut_slice())?;
@@ -205,7 +205,7 @@ impl PartViews {
         self.sells.forget();
     }
 
-    /// Makes the next rows of each side and zone from the board. The rooms of the part are asked once.
+    /// Makes the next rows of each side and zone from the board.
     ///
     /// # Errors
     ///
@@ -231,7 +231,6 @@ impl PartViews {
         ensures work { IsWork (border_count grid.now) work.new }
         ensures all { AllComputed (zone_count grid.now) work.new.computed }
     {
-        board.rooms(part, &mut work.of_part);
         let buys = Line {
             part,
             side: Side::Buy,
@@ -269,7 +268,6 @@ impl PartViews {
         ensures work { IsWork (border_count grid.now) work.new }
         ensures board { IsBoard (B.state board.now) }
     {
-        board.rooms(line.part, &mut work.of_part);
         match line.side {
             Side::Buy => self.buys.refresh(alloc, board, grid, work, line),
             Side::Sell => self.sells.refresh(alloc, board, grid, work, line),

@@ -4,11 +4,12 @@ use Rattle.std.proofs.lemmas.Bool.{cases_lt}
 use Rattle.std.proofs.lemmas.List.{length-set}
 use Rattle.zone_graph.specs.declared.route.Arc.{Arc}
 use Rattle.zone_graph.specs.Graph.{Graph, HasArc, HasZone, IsGraph, end_of, start_of, zone_count}
+use Rattle.zone_graph.specs.Grid.{IsGrid}
 use Rattle.zone_graph.specs.Pour.{opposite_arc}
 use Rattle.zone_graph.proofs.Arcs.{opposite-end}
 use Rattle.zone_graph.proofs.Routes.{end_within}
 use Rattle.zone_search.specs.Distance.{AreDistances, arcs_of_distance, distance_at}
-use Rattle.zone_search.proofs.Searches.{IsReady, IsSearching, free_places, free_places-found}
+use Rattle.zone_search.proofs.Searches.{IsReady, IsSearching, ended, free_places, free_places-found}
 
 -- places without a distance are free
 many_free : (many first : ℕ) (distances : List (Option ℕ)) → first + many ≤ length distances
@@ -48,7 +49,7 @@ module _ (graph : Graph) (room : Arc → ℕ) (to : ℕ) (distances : List (Opti
           absurd (omega (arith, one, rest, s.free, all, few))
 
 -- so the distances of all zones are known
-pub all_found : (graph : Graph) (room : Arc → ℕ) (to : ℕ) (distances : List (Option ℕ)) (zones : List ℕ) (count next : ℕ) → IsGraph graph → zone_count graph ≤ 64
+all_found : (graph : Graph) (room : Arc → ℕ) (to : ℕ) (distances : List (Option ℕ)) (zones : List ℕ) (count next : ℕ) → IsGraph graph → zone_count graph ≤ 64
     → IsReady graph room to distances zones count next → zone_count graph ≤ count → AreDistances graph room to distances
 all_found graph room to distances zones count next is few r all = record {
   places = r.searching.places;
@@ -73,3 +74,9 @@ all_found graph room to distances zones count next is few r all = record {
         let close = r.close (omega (arith, within, least)) j within_too in
         let sorted = r.searching.sorted next i least within in
         omega (arith, close, sorted, ap (distance_at distances) end, ap (distance_at distances) start)
+
+-- a search has the distances once it has visited all zones that it has found, or has found all zones
+pub search_done : (graph : Graph) (room : Arc → ℕ) (to : ℕ) (distances : List (Option ℕ)) (zones : List ℕ) (count next : ℕ) → IsGrid graph
+    → IsReady graph room to distances zones count next → (count ≤ next) ⊎ (zone_count graph ≤ count) → AreDistances graph room to distances
+search_done graph room to distances zones count next grid r (inl past) = ended graph room to distances zones count next r past
+search_done graph room to distances zones count next grid r (inr all) = all_found graph room to distances zones count next grid.is_graph grid.few_zones r all

@@ -15,7 +15,7 @@ use Rattle.zone_search.proofs.Neighbours.{IsNeighbour, neighbour_at}
 use Rattle.zone_search.proofs.Searches.{IsReady, IsVisiting, at_found, at_others, ended, spaces_in, started, visit_begins, visit_ends, visit_goes_on, visit_skips}
 use Rattle.route_tree.specs.Search.{Search, begun, first_met, found, no_step, step_at}
 use Rattle.route_tree.specs.Tree.{HasPlaces, TellsRoutes}
-use Rattle.route_tree.proofs.AllFound.{all_found}
+use Rattle.route_tree.proofs.AllFound.{search_done}
 use Rattle.route_tree.proofs.FirstSteps.{IsBefore, IsEarlierStep, IsStepFrom, from_tells}
 use Rattle.route_tree.proofs.Rising.{rising_neighbours}
 use Rattle.route_tree.proofs.TowardsSearch.{branches_tree, no_step_at, start_alone}
@@ -360,15 +360,16 @@ pub from_done : (graph : Graph) (room : Arc → ℕ) (from : ℕ) (search : Sear
     → IsReadyFrom graph room from search next → (search.count ≤ next) ⊎ (zone_count graph ≤ search.count)
     → TellsRoutes graph room (branches_tree search from false) × HasPlaces (branches_tree search from false)
 from_done graph room from search next grid there r past = (
-  from_tells graph room from search.distances search.steps search.zones search.count grid there (distances past) (record {
-    steps_from = r.steps.steps_from;
-    origin = origin;
-    later = r.steps.later;
-    ordered = r.steps.ordered;
-    first = λ arc known some near rise.
-        let at = r.ready.searching.listed (start_of graph arc) (omega (arith, near, rise)) in
-        first arc known some near rise at.0 at.1 at.2 (cases_lt at.0 next);
-  }),
+  from_tells graph room from search.distances search.steps search.zones search.count grid there
+      (search_done graph (directed_room room false) from search.distances search.zones search.count next grid r.ready past) (record {
+        steps_from = r.steps.steps_from;
+        origin = origin;
+        later = r.steps.later;
+        ordered = r.steps.ordered;
+        first = λ arc known some near rise.
+            let at = r.ready.searching.listed (start_of graph arc) (omega (arith, near, rise)) in
+            first arc known some near rise at.0 at.1 at.2 (cases_lt at.0 next);
+      }),
   record {
     distance_places = r.ready.searching.places;
     step_places = r.steps.step_places;
@@ -377,10 +378,6 @@ from_done graph room from search next grid there r past = (
   },
 )
   where
-    distances : (search.count ≤ next) ⊎ (zone_count graph ≤ search.count) → AreDistances graph (directed_room room false) from search.distances
-    distances (inl all) = ended graph (directed_room room false) from search.distances search.zones search.count next r.ready all
-    distances (inr all) = all_found graph (directed_room room false) from search.distances search.zones search.count next grid.is_graph grid.few_zones r.ready all
-
     origin : distance_at search.distances (get_or search.zones 0 0) ≡ 0
     origin =
         let home = r.ready.searching.home in

@@ -1,5 +1,5 @@
 -- The neighbours of a zone are over borders that rise.
-use Rattle.std.proofs.Common.{◌≡◌, ◌∙◌, ◌+◌, ◌<◌, ◌≤◌, ◌==◌, inl, inr, ℕ, zero, suc, Bool, true, false, cond, List, [], ◌∷◌, length, map, filter, flat_map, get_or, refl, sym, ap, subst, arith, eqb-true}
+use Rattle.std.proofs.Common.{◌≡◌, ◌∙◌, ◌+◌, ◌<◌, ◌≤◌, ◌==◌, inl, inr, ℕ, zero, suc, Bool, true, false, cond, List, [], ◌∷◌, length, map, filter, find, flat_map, get_or, Option, Some, refl, sym, ap, subst, arith, eqb-true, true≢false}
 use Rattle.std.specs.List.{range_with_len}
 use Rattle.zone_graph.specs.declared.route.Arc.{Arc}
 use Rattle.zone_graph.specs.declared.grid.Neighbour.{Neighbour}
@@ -67,9 +67,27 @@ rising-arcs graph zone first (suc count) is within =
     by false s true t rest = (later, rest)
     by false s false t rest = rest
 
+rising : (graph : Graph) (zone : ℕ) → IsGraph graph → IsRising (λ (n : Neighbour). n.arc.border) (neighbours_of graph zone)
+rising graph zone is =
+    rising-map (λ (n : Neighbour). n.arc.border) (neighbour_over graph) (arcs_from graph zone) (rising-arcs graph zone 0 (border_count graph) is (omega arith))
+
+-- the first that passes has a lesser key than all others that do
+first_least : {X : Type 0} (key : X → ℕ) (p : X → Bool) (xs : List X) (x : X) → IsRising key xs → find p xs ≡ Some x → (y : X) → IsIn y xs → p y ≡ true → key x ≤ key y
+first_least key p [] x h e y i q = absurd i
+first_least {X} key p (z ∷ xs) x h e y i q = by (p z) refl e (λ f j. first_least key p xs x h.1 f y j q)
+  where
+    by : (b : Bool) → p z ≡ b → cond b (Some z) (find p xs) ≡ Some x → (find p xs ≡ Some x → IsIn y xs → key x ≤ key y) → key x ≤ key y
+    by true t f rest =
+        let same : z ≡ x = cc in
+        elim i [ inl s ↦ omega (arith, ap key s, ap key same) | inr j ↦ let less = h.0 y j in omega (arith, less, ap key same) ]
+    by false t f rest = elim i [ inl s ↦ absurd (true≢false (sym q ∙ ap p s ∙ t)) | inr j ↦ rest f j ]
+
+pub first_neighbour_least : (graph : Graph) (zone : ℕ) (p : Neighbour → Bool) (neighbour : Neighbour) → IsGraph graph → find p (neighbours_of graph zone) ≡ Some neighbour
+    → (other : Neighbour) → IsIn other (neighbours_of graph zone) → p other ≡ true → neighbour.arc.border ≤ other.arc.border
+first_neighbour_least graph zone p neighbour is e = first_least (λ (n : Neighbour). n.arc.border) p (neighbours_of graph zone) neighbour (rising graph zone is) e
+
 pub rising_neighbours : (graph : Graph) (zone : ℕ) (neighbours : List Neighbour) (d : Neighbour) (i j : ℕ) → IsGraph graph → neighbours ≡ neighbours_of graph zone → i < j → j < length neighbours
     → (get_or neighbours i d).arc.border < (get_or neighbours j d).arc.border
 rising_neighbours graph zone neighbours d i j is all before within =
     rising_at (λ (n : Neighbour). n.arc.border) neighbours d i j
-    (subst (IsRising (λ (n : Neighbour). n.arc.border)) (sym all)
-    (rising-map (λ (n : Neighbour). n.arc.border) (neighbour_over graph) (arcs_from graph zone) (rising-arcs graph zone 0 (border_count graph) is (omega arith)))) before within
+    (subst (IsRising (λ (n : Neighbour). n.arc.border)) (sym all) (rising graph zone is)) before within

@@ -1,490 +1,269 @@
--- The search for the routes to a zone: what its steps are at each time, and that they are those of
--- the least borders at the end.
-use Rattle.std.proofs.Common.{◌≡◌, ◌≢◌, ◌∙◌, ◌+◌, ◌<◌, ◌≤◌, ◌==◌, ◌&&◌, ◌⊎◌, inl, inr, ℕ, zero, suc, Bool, true, false, List, length, get_or, set, replicate, Option, Some, None, is_some, nat_lt, if◌then◌else◌, refl, sym, ap, subst, arith, get_or-set_same, get_or-set_other, eqb-true, eq-eqb, ltb-true, ltb-false, lt-ltb, true≢false}
-use Rattle.std.proofs.lemmas.Bool.{and_from, and_parts, cases_eq, cases_lt}
+-- The search for the routes to a zone: each of its steps is the one over the least border, as far as
+-- zones are found, at each time.
+use Rattle.std.proofs.Common.{◌≡◌, ◌≢◌, ◌∙◌, ◌+◌, ◌<◌, ◌≤◌, ◌==◌, ◌&&◌, ◌⊎◌, inl, inr, ℕ, zero, suc, Bool, true, false, List, length, find, get_or, set, replicate, Option, Some, None, is_none, is_some, nat_lt, unwrap_or, if◌then◌else◌, refl, sym, ap, subst, arith, get_or-set_same, get_or-set_other, eqb-true, eq-eqb, ltb-true, ltb-false, lt-ltb}
+use Rattle.std.proofs.lemmas.Bool.{and_from, and_parts, cases_eq}
 use Rattle.std.proofs.lemmas.List.{length-replicate, length-set}
 use Rattle.zone_graph.specs.declared.route.Arc.{Arc}
 use Rattle.zone_graph.specs.declared.grid.Neighbour.{Neighbour}
-use Rattle.zone_graph.specs.Graph.{Graph, HasArc, HasZone, IsGraph, end_of, start_of}
+use Rattle.zone_graph.specs.Graph.{Graph, HasZone, end_of, zone_count}
 use Rattle.zone_graph.specs.Grid.{IsGrid, neighbour_over, neighbours_of}
 use Rattle.zone_graph.specs.Pour.{opposite_arc}
 use Rattle.zone_graph.specs.Route.{IsIn}
-use Rattle.zone_graph.proofs.Arcs.{opposite-end, opposite-start, opposite-twice}
-use Rattle.zone_graph.proofs.Places.{at_any, place_of}
-use Rattle.zone_search.specs.Distance.{AreDistances, arcs_of_distance, distance_at}
-use Rattle.zone_search.proofs.Neighbours.{IsNeighbour, neighbour_at, neighbour_by}
-use Rattle.zone_search.proofs.Searches.{IsReady, IsVisiting, at_found, at_others, ended, started, visit_begins, visit_ends, visit_goes_on, visit_skips}
+use Rattle.zone_graph.proofs.Arcs.{opposite-end, opposite-start}
+use Rattle.zone_graph.proofs.Finding.{find-IsIn, from_find}
+use Rattle.zone_graph.proofs.Places.{at_any}
+use Rattle.zone_search.specs.Distance.{IsLeastStep, arcs_of_distance, distance_at}
+use Rattle.zone_search.proofs.Neighbours.{IsNeighbour, neighbour_at, neighbour_by, neighbour_in}
+use Rattle.zone_search.proofs.Searches.{IsReady, IsVisiting, at_found, at_others, spaces_in, started, visit_begins, visit_ends, visit_goes_on, visit_skips}
 use Rattle.route_tree.specs.declared.search.Branches.{Branches}
 use Rattle.route_tree.specs.declared.search.Queue.{Queue}
-use Rattle.route_tree.specs.Search.{Search, begun, found, met, met_at, no_branches, no_step, search_over, step_at, stepped}
+use Rattle.route_tree.specs.Search.{Search, begun, first_met, found, leads_at, least_step, no_branches, no_step, search_over, step_at}
 use Rattle.route_tree.specs.Tree.{HasPlaces, TellsRoutes, Tree, tree_of}
+use Rattle.route_tree.proofs.AllFound.{search_done}
+use Rattle.route_tree.proofs.Rising.{first_neighbour_least}
 use Rattle.route_tree.proofs.Towards.{AreLeastSteps, towards_tells}
-
--- an arc leads to one of the zones that have been visited
-abbrev pub IsVisited : Graph → (zones : List ℕ) → (next : ℕ) → Arc → Type 0
-IsVisited graph zones next arc = (i : ℕ) × (i < next) × (end_of graph arc ≡ get_or zones i 0)
-
--- or it leads to the one that is being visited, from one of the neighbours that it has met
-abbrev pub IsSeen : Graph → (zones : List ℕ) → (next : ℕ) → List Neighbour → (index : ℕ) → Arc → Type 0
-IsSeen graph zones next neighbours index arc =
-    IsVisited graph zones next arc ⊎ ((i : ℕ) × (i < index) × (arc ≡ opposite_arc (get_or neighbours i no_step).arc))
-
--- a step of a zone leads to a nearer one, and of the arcs that have been seen none that does so has
--- a lesser border
-pub record IsLeastSeen (graph : Graph) (room : Arc → ℕ) (distances : List (Option ℕ)) (Seen : Arc → Type 0) (zone : ℕ) (step : Neighbour) : Type 0 where
-  pub known : HasArc graph step.arc
-  pub start : start_of graph step.arc ≡ zone
-  pub end : end_of graph step.arc ≡ step.zone
-  pub has_room : 0 < room step.arc
-  pub falls : distance_at distances zone ≡ distance_at distances step.zone + 1
-  pub least : (other : Arc) → Seen other → HasArc graph other → start_of graph other ≡ zone → 0 < room other
-      → distance_at distances zone ≡ distance_at distances (end_of graph other) + 1 → step.arc.border ≤ other.border
-
-abbrev pub AreLeastSeen : Graph → (Arc → ℕ) → List (Option ℕ) → List Neighbour → (Arc → Type 0) → Type 0
-AreLeastSeen graph room distances steps Seen =
-    (zone : ℕ) → 0 < distance_at distances zone → distance_at distances zone < 128 → IsLeastSeen graph room distances Seen zone (step_at steps zone)
-
--- fewer arcs
-fewer_seen : (graph : Graph) (room : Arc → ℕ) (distances : List (Option ℕ)) (steps : List Neighbour) (Seen Fewer : Arc → Type 0)
-    → ((arc : Arc) → 0 < room arc → HasArc graph arc → Fewer arc → Seen arc) → AreLeastSeen graph room distances steps Seen → AreLeastSeen graph room distances steps Fewer
-fewer_seen graph room distances steps Seen Fewer fewer all zone some near =
-    let s = all zone some near in
-    record {
-      known = s.known;
-      start = s.start;
-      end = s.end;
-      has_room = s.has_room;
-      falls = s.falls;
-      least = λ other seen known start some falls. s.least other (fewer other some known seen) known start some falls;
-    }
 
 -- a search towards a zone before it visits another one
 pub record IsReadyTowards (graph : Graph) (room : Arc → ℕ) (to : ℕ) (search : Search) (next : ℕ) : Type 0 where
   pub ready : IsReady graph room to search.distances search.zones search.count next
   pub step_places : length search.steps ≡ 64
   pub within : (zone : ℕ) → (step_at search.steps zone).zone < 64
-  pub least : AreLeastSeen graph room search.distances search.steps (IsVisited graph search.zones next)
+  pub least : AreLeastSteps graph room search.distances search.steps
 
 -- and while it visits one
-pub record IsVisitingTowards (graph : Graph) (room : Arc → ℕ) (to : ℕ) (search : Search) (next zone distance : ℕ) (neighbours : List Neighbour) (index : ℕ) : Type 0 where
-  pub visiting : IsVisiting graph room to search.distances search.zones search.count next zone distance neighbours index
+pub record IsVisitingTowards (graph : Graph) (room : Arc → ℕ) (to : ℕ) (search : Search) (next zone arcs : ℕ) (neighbours : List Neighbour) (index : ℕ) : Type 0 where
+  pub visiting : IsVisiting graph room to search.distances search.zones search.count next zone (arcs + 1) neighbours index
   pub step_places : length search.steps ≡ 64
   pub within : (zone : ℕ) → (step_at search.steps zone).zone < 64
-  pub least : AreLeastSeen graph room search.distances search.steps (IsSeen graph search.zones next neighbours index)
+  pub least : AreLeastSteps graph room search.distances search.steps
 
 -- a visit begins
-pub towards_begins : (graph : Graph) (room : Arc → ℕ) (to : ℕ) (search : Search) (next zone distance : ℕ) (neighbours : List Neighbour)
-    → IsReadyTowards graph room to search next → next < search.count → get_or search.zones next 0 ≡ zone → distance_at search.distances zone + 1 ≡ distance
-    → IsVisitingTowards graph room to search next zone distance neighbours 0
-towards_begins graph room to search next zone distance neighbours r behind head farther = record {
-  visiting = visit_begins graph room to search.distances search.zones search.count next zone distance neighbours r.ready behind head farther;
+pub towards_begins : (graph : Graph) (room : Arc → ℕ) (to : ℕ) (search : Search) (next zone arcs : ℕ) (neighbours : List Neighbour)
+    → IsReadyTowards graph room to search next → next < search.count → get_or search.zones next 0 ≡ zone → distance_at search.distances zone ≡ arcs
+    → IsVisitingTowards graph room to search next zone arcs neighbours 0
+towards_begins graph room to search next zone arcs neighbours r behind head far = record {
+  visiting = visit_begins graph room to search.distances search.zones search.count next zone (arcs + 1) neighbours r.ready behind head (ap (λ n. n + 1) far);
   step_places = r.step_places;
   within = r.within;
-  least = fewer_seen graph room search.distances search.steps (IsVisited graph search.zones next) (IsSeen graph search.zones next neighbours 0)
-      (λ arc some known seen. elim seen [ inl visited ↦ visited | inr met ↦ absurd (omega (arith, met.1)) ]) r.least;
+  least = r.least;
 }
 
 -- and ends
-pub towards_ends : (graph : Graph) (room : Arc → ℕ) (to : ℕ) (search : Search) (next zone distance : ℕ) (neighbours : List Neighbour) (index : ℕ)
+pub towards_ends : (graph : Graph) (room : Arc → ℕ) (to : ℕ) (search : Search) (next zone arcs : ℕ) (neighbours : List Neighbour) (index : ℕ)
     → neighbours ≡ neighbours_of graph zone → length neighbours ≤ index
-    → IsVisitingTowards graph room to search next zone distance neighbours index → IsReadyTowards graph room to search (next + 1)
-towards_ends graph room to search next zone distance neighbours index all past v = record {
-  ready = visit_ends graph room to search.distances search.zones search.count next zone distance neighbours index all past v.visiting;
+    → IsVisitingTowards graph room to search next zone arcs neighbours index → IsReadyTowards graph room to search (next + 1)
+towards_ends graph room to search next zone arcs neighbours index all past v = record {
+  ready = visit_ends graph room to search.distances search.zones search.count next zone (arcs + 1) neighbours index all past v.visiting;
   step_places = v.step_places;
   within = v.within;
-  least = fewer_seen graph room search.distances search.steps (IsSeen graph search.zones next neighbours index) (IsVisited graph search.zones (next + 1)) seen v.least;
+  least = v.least;
 }
-  where
-    seen : (arc : Arc) → 0 < room arc → HasArc graph arc → IsVisited graph search.zones (next + 1) arc → IsSeen graph search.zones next neighbours index arc
-    seen arc some known visited = by (cases_lt visited.0 next)
-      where
-        by : (visited.0 < next) ⊎ (next ≤ visited.0) → IsSeen graph search.zones next neighbours index arc
-        by (inl less) = inl (visited.0, less, visited.2)
-        by (inr least) =
-            let place : visited.0 ≡ next = omega (arith, least, visited.1) in
-            let end : end_of graph arc ≡ zone = visited.2 ∙ ap (λ k. get_or search.zones k 0) place ∙ v.visiting.head in
-            let back : Arc = opposite_arc arc in
-            let listed = neighbour_by graph zone back known (opposite-start graph arc ∙ end) in
-            let at = place_of (neighbour_over graph back) neighbours no_step (subst (IsIn (neighbour_over graph back)) (sym all) listed) in
-            inr (at.0, omega (arith, at.1, past), sym (opposite-twice arc) ∙ ap (λ (n : Neighbour). opposite_arc n.arc) (sym at.2))
 
--- ---- a neighbour is met
-
--- nothing changes, where the arc has no room, or no lesser border
-towards_skips : (graph : Graph) (room : Arc → ℕ) (to : ℕ) (search : Search) (next zone distance : ℕ) (neighbours : List Neighbour) (index : ℕ)
-    → IsGrid graph → neighbours ≡ neighbours_of graph zone → index < length neighbours
-    → IsVisitingTowards graph room to search next zone distance neighbours index
+-- a neighbour is passed over
+towards_skips : (graph : Graph) (room : Arc → ℕ) (to : ℕ) (search : Search) (next zone arcs : ℕ) (neighbours : List Neighbour) (index : ℕ) → index < length neighbours
+    → IsVisitingTowards graph room to search next zone arcs neighbours index
     → (room (opposite_arc (get_or neighbours index no_step).arc) ≤ 0) ⊎ (is_some (get_or search.distances (get_or neighbours index no_step).zone None) ≡ true)
-    → (0 < room (opposite_arc (get_or neighbours index no_step).arc) → distance_at search.distances (get_or neighbours index no_step).zone ≡ distance
-    → (step_at search.steps (get_or neighbours index no_step).zone).arc.border ≤ (get_or neighbours index no_step).arc.border)
-    → IsVisitingTowards graph room to search next zone distance neighbours (index + 1)
-towards_skips graph room to search next zone distance neighbours index grid all within v none greater = record {
-  visiting = visit_skips graph room to search.distances search.zones search.count next zone distance neighbours index (get_or neighbours index no_step)
+    → IsVisitingTowards graph room to search next zone arcs neighbours (index + 1)
+towards_skips graph room to search next zone arcs neighbours index within v none = record {
+  visiting = visit_skips graph room to search.distances search.zones search.count next zone (arcs + 1) neighbours index (get_or neighbours index no_step)
       (λ d. at_any neighbours index d no_step within) v.visiting none;
   step_places = v.step_places;
   within = v.within;
-  least = λ z some near.
-      let s = v.least z some near in
-      record {
-        known = s.known;
-        start = s.start;
-        end = s.end;
-        has_room = s.has_room;
-        falls = s.falls;
-        least = λ other seen known start has_room falls. in_least z some near other known start has_room falls seen;
-      };
+  least = v.least;
 }
-  where
-    neighbour : Neighbour
-    neighbour = get_or neighbours index no_step
 
-    is_neighbour : IsNeighbour graph zone neighbour
-    is_neighbour = neighbour_at graph zone neighbours index no_step grid.is_graph all within
-
-    in_least : (z : ℕ) → 0 < distance_at search.distances z → distance_at search.distances z < 128 → (other : Arc) → HasArc graph other → start_of graph other ≡ z → 0 < room other
-        → distance_at search.distances z ≡ distance_at search.distances (end_of graph other) + 1 → IsSeen graph search.zones next neighbours (index + 1) other
-        → (step_at search.steps z).arc.border ≤ other.border
-    in_least z some near other known start has_room falls (inl visited) = (v.least z some near).least other (inl visited) known start has_room falls
-    in_least z some near other known start has_room falls (inr met) = by (cases_lt met.0 index)
-      where
-        by : (met.0 < index) ⊎ (index ≤ met.0) → (step_at search.steps z).arc.border ≤ other.border
-        by (inl less) = (v.least z some near).least other (inr (met.0, less, met.2)) known start has_room falls
-        by (inr least) =
-            let place : met.0 ≡ index = omega (arith, least, met.1) in
-            let same : other ≡ opposite_arc neighbour.arc = met.2 ∙ ap (λ k. opposite_arc (get_or neighbours k no_step).arc) place in
-            let from : neighbour.zone ≡ z = sym is_neighbour.end ∙ sym (opposite-start graph neighbour.arc) ∙ ap (start_of graph) (sym same) ∙ start in
-            let end : end_of graph other ≡ zone = ap (end_of graph) same ∙ opposite-end graph neighbour.arc ∙ is_neighbour.start in
-            let far : distance_at search.distances neighbour.zone ≡ distance =
-            ap (distance_at search.distances) from ∙ falls ∙ ap (λ e. distance_at search.distances e + 1) end ∙ v.visiting.farther in
-            let border = greater (subst (λ a. 0 < room a) same has_room) far in
-            omega (arith, border, ap (λ k. (step_at search.steps k).arc.border) from, ap (λ (a : Arc). a.border) same)
-
--- the step over an arc of a lesser border is taken
-towards_steps : (graph : Graph) (room : Arc → ℕ) (to : ℕ) (search : Search) (next zone distance : ℕ) (neighbours : List Neighbour) (index : ℕ)
-    → IsGrid graph → neighbours ≡ neighbours_of graph zone → index < length neighbours → zone < 64
-    → IsVisitingTowards graph room to search next zone distance neighbours index
-    → 0 < room (opposite_arc (get_or neighbours index no_step).arc) → get_or search.distances (get_or neighbours index no_step).zone None ≡ Some distance
-    → (get_or neighbours index no_step).arc.border < (step_at search.steps (get_or neighbours index no_step).zone).arc.border
-    → IsVisitingTowards graph room to (stepped search (get_or neighbours index no_step).zone (record { arc = opposite_arc (get_or neighbours index no_step).arc; zone = zone })) next zone distance neighbours (index + 1)
-towards_steps graph room to search next zone distance neighbours index grid all within low v some known lesser = record {
-  visiting = visit_skips graph room to search.distances search.zones search.count next zone distance neighbours index neighbour
-      (λ d. at_any neighbours index d no_step within) v.visiting (inr (ap is_some known));
-  step_places = length-set search.steps neighbour.zone step ∙ v.step_places;
-  within = λ z. in_within z (cases_eq z neighbour.zone);
-  least = λ z some near. in_step z some near (cases_eq z neighbour.zone);
-}
-  where
-    neighbour : Neighbour
-    neighbour = get_or neighbours index no_step
-
-    is_neighbour : IsNeighbour graph zone neighbour
-    is_neighbour = neighbour_at graph zone neighbours index no_step grid.is_graph all within
-
-    step : Neighbour
-    step = record { arc = opposite_arc neighbour.arc; zone = zone }
-
-    steps' : List Neighbour
-    steps' = set search.steps neighbour.zone step
-
-    far : distance_at search.distances neighbour.zone ≡ distance
-    far = ap arcs_of_distance known
-
-    place : neighbour.zone < length search.steps
-    place = omega (arith, is_neighbour.there, grid.few_zones, v.step_places)
-
-    here : step_at steps' neighbour.zone ≡ step
-    here = get_or-set_same search.steps neighbour.zone step no_step place
-
-    others : (z : ℕ) → z ≢ neighbour.zone → step_at steps' z ≡ step_at search.steps z
-    others z apart = get_or-set_other search.steps neighbour.zone z step no_step apart
-
-    in_within : (z : ℕ) → (z ≡ neighbour.zone) ⊎ (z ≢ neighbour.zone) → (step_at steps' z).zone < 64
-    in_within z (inl e) = subst (λ (n : Neighbour). n.zone < 64) (sym (ap (step_at steps') e ∙ here)) low
-    in_within z (inr apart) = subst (λ (n : Neighbour). n.zone < 64) (sym (others z apart)) (v.within z)
-
-    -- what was seen before, or the arc that is met
-    in_seen : (other : Arc) → IsSeen graph search.zones next neighbours (index + 1) other → IsSeen graph search.zones next neighbours index other ⊎ (other ≡ opposite_arc neighbour.arc)
-    in_seen other (inl visited) = inl (inl visited)
-    in_seen other (inr met) = by (cases_lt met.0 index)
-      where
-        by : (met.0 < index) ⊎ (index ≤ met.0) → IsSeen graph search.zones next neighbours index other ⊎ (other ≡ opposite_arc neighbour.arc)
-        by (inl less) = inl (inr (met.0, less, met.2))
-        by (inr least) =
-            let same : met.0 ≡ index = omega (arith, least, met.1) in
-            inr (met.2 ∙ ap (λ k. opposite_arc (get_or neighbours k no_step).arc) same)
-
-    new : (z : ℕ) → z ≡ neighbour.zone → 0 < distance_at search.distances z → distance_at search.distances z < 128 → IsLeastSeen graph room search.distances (IsSeen graph search.zones next neighbours (index + 1)) z step
-    new z e positive near =
-        let old = v.least neighbour.zone (subst (λ k. 0 < distance_at search.distances k) e positive) (subst (λ k. distance_at search.distances k < 128) e near) in
-        record {
-          known = is_neighbour.known;
-          start = opposite-start graph neighbour.arc ∙ is_neighbour.end ∙ sym e;
-          end = opposite-end graph neighbour.arc ∙ is_neighbour.start;
-          has_room = some;
-          falls = ap (distance_at search.distances) e ∙ far ∙ sym v.visiting.farther;
-          least = λ other seen known start has_room falls. elim (in_seen other seen) [
-            | inl before ↦
-                let least = old.least other before known (start ∙ e) has_room (ap (distance_at search.distances) (sym e) ∙ falls) in
-                omega (arith, least, lesser)
-            | inr same ↦ omega (arith, ap (λ (a : Arc). a.border) same)
-          ];
-        }
-
-    in_step : (z : ℕ) → 0 < distance_at search.distances z → distance_at search.distances z < 128 → (z ≡ neighbour.zone) ⊎ (z ≢ neighbour.zone)
-        → IsLeastSeen graph room search.distances (IsSeen graph search.zones next neighbours (index + 1)) z (step_at steps' z)
-    in_step z positive near (inl e) =
-        subst (IsLeastSeen graph room search.distances (IsSeen graph search.zones next neighbours (index + 1)) z) (sym (ap (step_at steps') e ∙ here)) (new z e positive near)
-    in_step z positive near (inr apart) =
-        let s = v.least z positive near in
-        subst (IsLeastSeen graph room search.distances (IsSeen graph search.zones next neighbours (index + 1)) z) (sym (others z apart)) (record {
-          known = s.known;
-          start = s.start;
-          end = s.end;
-          has_room = s.has_room;
-          falls = s.falls;
-          least = λ other seen known start has_room falls. elim (in_seen other seen) [
-            | inl before ↦ s.least other before known start has_room falls
-            | inr same ↦ absurd (apart (sym start ∙ ap (start_of graph) same ∙ opposite-start graph neighbour.arc ∙ is_neighbour.end))
-          ];
-        })
-
--- the zone is found
-towards_finds : (graph : Graph) (room : Arc → ℕ) (to : ℕ) (search : Search) (next zone distance : ℕ) (neighbours : List Neighbour) (index : ℕ)
-    → IsGrid graph → neighbours ≡ neighbours_of graph zone → index < length neighbours → zone < 64
-    → IsVisitingTowards graph room to search next zone distance neighbours index
+-- a neighbour is found, and its step is the first one to a zone as far as the one that is visited
+towards_finds : (graph : Graph) (room : Arc → ℕ) (to : ℕ) (search : Search) (next zone arcs : ℕ) (neighbours : List Neighbour) (index : ℕ) (step : Neighbour)
+    → IsGrid graph → neighbours ≡ neighbours_of graph zone → index < length neighbours
+    → IsVisitingTowards graph room to search next zone arcs neighbours index
     → 0 < room (opposite_arc (get_or neighbours index no_step).arc) → get_or search.distances (get_or neighbours index no_step).zone None ≡ None
-    → IsVisitingTowards graph room to (found search (get_or neighbours index no_step).zone distance (record { arc = opposite_arc (get_or neighbours index no_step).arc; zone = zone })) next zone distance neighbours (index + 1)
-towards_finds graph room to search next zone distance neighbours index grid all within low v some free = record {
-  visiting = visit_goes_on graph room to search.distances (set search.distances neighbour.zone (Some distance)) search.zones (set search.zones search.count neighbour.zone)
-      search.count (search.count + 1) next zone distance neighbours index no_step grid all within v.visiting some free refl refl refl;
-  step_places = length-set search.steps neighbour.zone step ∙ v.step_places;
-  within = λ z. in_within z (cases_eq z neighbour.zone);
-  least = λ z positive near. in_step z positive near (cases_eq z neighbour.zone);
+    → find (leads_at room search.distances arcs) (neighbours_of graph (get_or neighbours index no_step).zone) ≡ Some step
+    → IsVisitingTowards graph room to (found search (get_or neighbours index no_step).zone (arcs + 1) step) next zone arcs neighbours (index + 1)
+towards_finds graph room to search next zone arcs neighbours index step grid all within v some free first = record {
+  visiting = visit_goes_on graph room to search.distances distances' search.zones (set search.zones search.count found_zone)
+      search.count (search.count + 1) next zone (arcs + 1) neighbours index no_step grid all within v.visiting some free refl refl refl;
+  step_places = length-set search.steps found_zone step ∙ v.step_places;
+  within = λ z. in_within z (cases_eq z found_zone);
+  least = λ z positive near. in_least z positive near (cases_eq z found_zone);
 }
   where
-    neighbour : Neighbour
-    neighbour = get_or neighbours index no_step
+    found_zone : ℕ
+    found_zone = (get_or neighbours index no_step).zone
 
-    is_neighbour : IsNeighbour graph zone neighbour
+    is_neighbour : IsNeighbour graph zone (get_or neighbours index no_step)
     is_neighbour = neighbour_at graph zone neighbours index no_step grid.is_graph all within
 
-    step : Neighbour
-    step = record { arc = opposite_arc neighbour.arc; zone = zone }
+    passes : IsIn step (neighbours_of graph found_zone) × (leads_at room search.distances arcs step ≡ true)
+    passes = from_find (leads_at room search.distances arcs) step (neighbours_of graph found_zone) first
+
+    both : ((distance_at search.distances step.zone == arcs) ≡ true) × (nat_lt 0 (room step.arc) ≡ true)
+    both = and_parts (distance_at search.distances step.zone == arcs) (nat_lt 0 (room step.arc)) passes.1
+
+    as_far : distance_at search.distances step.zone ≡ arcs
+    as_far = eqb-true (distance_at search.distances step.zone) arcs both.0
+
+    is_step : IsNeighbour graph found_zone step
+    is_step = neighbour_in graph found_zone step grid.is_graph passes.0
 
     steps' : List Neighbour
-    steps' = set search.steps neighbour.zone step
-
-    zones' : List ℕ
-    zones' = set search.zones search.count neighbour.zone
+    steps' = set search.steps found_zone step
 
     distances' : List (Option ℕ)
-    distances' = set search.distances neighbour.zone (Some distance)
+    distances' = set search.distances found_zone (Some (arcs + 1))
 
-    there : neighbour.zone < 64
+    there : found_zone < 64
     there = omega (arith, is_neighbour.there, grid.few_zones)
 
-    far : distance_at search.distances neighbour.zone ≡ 128
+    far : distance_at search.distances found_zone ≡ 128
     far = ap arcs_of_distance free
 
-    now : distance_at distances' neighbour.zone ≡ distance
-    now = at_found search.distances neighbour.zone distance (let places = v.visiting.searching.places in omega (arith, there, places))
+    now : distance_at distances' found_zone ≡ arcs + 1
+    now = at_found search.distances found_zone (arcs + 1) (let places = v.visiting.searching.places in omega (arith, there, places))
 
-    still : (z : ℕ) → distance_at search.distances z < 128 → distance_at distances' z ≡ distance_at search.distances z
-    still z near = at_others search.distances neighbour.zone z distance (λ e. omega (arith, near, far, ap (distance_at search.distances) e))
-
-    early : (i : ℕ) → i < search.count → distance_at search.distances (get_or search.zones i 0) < 128
-    early i less = let near = v.visiting.searching.early i less in let room = v.visiting.searching.free in omega (arith, near, less, room)
-
-    head_near : distance_at search.distances zone < 128
-    head_near = subst (λ z. distance_at search.distances z < 128) v.visiting.head (early next v.visiting.behind)
-
-    kept : (i : ℕ) → i < next → get_or zones' i 0 ≡ get_or search.zones i 0
-    kept i less = get_or-set_other search.zones search.count i neighbour.zone 0 (λ e. let behind = v.visiting.behind in omega (arith, less, behind, e))
-
-    here : step_at steps' neighbour.zone ≡ step
-    here = get_or-set_same search.steps neighbour.zone step no_step (let places = v.step_places in omega (arith, there, places))
-
-    others : (z : ℕ) → z ≢ neighbour.zone → step_at steps' z ≡ step_at search.steps z
-    others z apart = get_or-set_other search.steps neighbour.zone z step no_step apart
-
-    in_within : (z : ℕ) → (z ≡ neighbour.zone) ⊎ (z ≢ neighbour.zone) → (step_at steps' z).zone < 64
-    in_within z (inl e) = subst (λ (n : Neighbour). n.zone < 64) (sym (ap (step_at steps') e ∙ here)) low
-    in_within z (inr apart) = subst (λ (n : Neighbour). n.zone < 64) (sym (others z apart)) (v.within z)
-
-    -- what was seen before, or the arc that is met
-    in_seen : (other : Arc) → IsSeen graph zones' next neighbours (index + 1) other → IsSeen graph search.zones next neighbours index other ⊎ (other ≡ opposite_arc neighbour.arc)
-    in_seen other (inl visited) = inl (inl (visited.0, visited.1, visited.2 ∙ kept visited.0 visited.1))
-    in_seen other (inr met) = by (cases_lt met.0 index)
-      where
-        by : (met.0 < index) ⊎ (index ≤ met.0) → IsSeen graph search.zones next neighbours index other ⊎ (other ≡ opposite_arc neighbour.arc)
-        by (inl less) = inl (inr (met.0, less, met.2))
-        by (inr least) =
-            let same : met.0 ≡ index = omega (arith, least, met.1) in
-            inr (met.2 ∙ ap (λ k. opposite_arc (get_or neighbours k no_step).arc) same)
-
-    -- an arc that was seen before leads to a zone that was found, and from one where it has room
-    seen_end : (other : Arc) → IsSeen graph search.zones next neighbours index other → distance_at search.distances (end_of graph other) < 128
-    seen_end other (inl visited) =
-        subst (λ z. distance_at search.distances z < 128) (sym visited.2) (early visited.0 (let behind = v.visiting.behind in omega (arith, visited.1, behind)))
-    seen_end other (inr met) =
-        let n = neighbour_at graph zone neighbours met.0 no_step grid.is_graph all (omega (arith, met.1, within)) in
-        subst (λ z. distance_at search.distances z < 128) (sym (ap (end_of graph) met.2 ∙ opposite-end graph (get_or neighbours met.0 no_step).arc ∙ n.start)) head_near
-
-    seen_start : (other : Arc) → HasArc graph other → 0 < room other → IsSeen graph search.zones next neighbours index other → distance_at search.distances (start_of graph other) < 128
-    seen_start other known has_room (inl visited) =
-        let before : visited.0 < search.count = let behind = v.visiting.behind in omega (arith, visited.1, behind) in
-        let passed = v.visiting.passed visited.0 visited.1 other known has_room visited.2 in
-        let near = v.visiting.searching.early visited.0 before in
-        let spaces = v.visiting.searching.free in
-        omega (arith, passed, near, before, spaces)
-    seen_start other known has_room (inr met) =
-        let n = neighbour_at graph zone neighbours met.0 no_step grid.is_graph all (omega (arith, met.1, within)) in
-        let seen = v.visiting.seen no_step met.0 met.1 (subst (λ a. 0 < room a) met.2 has_room) in
-        let start : start_of graph other ≡ (get_or neighbours met.0 no_step).zone =
-        ap (start_of graph) met.2 ∙ opposite-start graph (get_or neighbours met.0 no_step).arc ∙ n.end in
+    near_arcs : arcs < 64
+    near_arcs =
         let head = ap (distance_at search.distances) v.visiting.head in
-        let near = v.visiting.searching.early next v.visiting.behind in
+        let early = v.visiting.searching.early next v.visiting.behind in
         let behind = v.visiting.behind in
         let spaces = v.visiting.searching.free in
         let farther = v.visiting.farther in
-        omega (arith, seen, ap (distance_at search.distances) start, head, near, behind, spaces, farther)
+        let place = spaces_in graph room to search.distances search.zones search.count found_zone v.visiting.searching there free in
+        omega (arith, head, early, behind, farther, place)
 
-    new : (z : ℕ) → z ≡ neighbour.zone → IsLeastSeen graph room distances' (IsSeen graph zones' next neighbours (index + 1)) z step
-    new z e = record {
-      known = is_neighbour.known;
-      start = opposite-start graph neighbour.arc ∙ is_neighbour.end ∙ sym e;
-      end = opposite-end graph neighbour.arc ∙ is_neighbour.start;
-      has_room = some;
-      falls = ap (distance_at distances') e ∙ now ∙ sym v.visiting.farther ∙ ap (λ n. n + 1) (sym (still zone head_near));
-      least = λ other seen known start has_room falls. elim (in_seen other seen) [
-        | inl before ↦
-            let near = seen_start other known has_room before in
-            absurd (omega (arith, near, far, ap (distance_at search.distances) (start ∙ e)))
-        | inr same ↦ omega (arith, ap (λ (a : Arc). a.border) same)
-      ];
-    }
+    others : (z : ℕ) → z ≢ found_zone → distance_at distances' z ≡ distance_at search.distances z
+    others z apart = at_others search.distances found_zone z (arcs + 1) apart
 
-    in_step : (z : ℕ) → 0 < distance_at distances' z → distance_at distances' z < 128 → (z ≡ neighbour.zone) ⊎ (z ≢ neighbour.zone)
-        → IsLeastSeen graph room distances' (IsSeen graph zones' next neighbours (index + 1)) z (step_at steps' z)
-    in_step z positive near (inl e) =
-        subst (IsLeastSeen graph room distances' (IsSeen graph zones' next neighbours (index + 1)) z) (sym (ap (step_at steps') e ∙ here)) (new z e)
-    in_step z positive near (inr apart) =
-        let same : distance_at distances' z ≡ distance_at search.distances z = at_others search.distances neighbour.zone z distance apart in
+    apart_by : (z : ℕ) → distance_at search.distances z < 128 → z ≢ found_zone
+    apart_by z near e = omega (arith, near, far, ap (distance_at search.distances) e)
+
+    here : step_at steps' found_zone ≡ step
+    here = get_or-set_same search.steps found_zone step no_step (let places = v.step_places in omega (arith, there, places))
+
+    kept : (z : ℕ) → z ≢ found_zone → step_at steps' z ≡ step_at search.steps z
+    kept z apart = get_or-set_other search.steps found_zone z step no_step apart
+
+    in_within : (z : ℕ) → (z ≡ found_zone) ⊎ (z ≢ found_zone) → (step_at steps' z).zone < 64
+    in_within z (inl e) = subst (λ (n : Neighbour). n.zone < 64) (sym (ap (step_at steps') e ∙ here)) (omega (arith, is_step.there, grid.few_zones))
+    in_within z (inr apart) = subst (λ (n : Neighbour). n.zone < 64) (sym (kept z apart)) (v.within z)
+
+    Least : ℕ → Neighbour → Type 0
+    Least z s = IsLeastStep graph room distances' z s.arc × (end_of graph s.arc ≡ s.zone)
+
+    new : Least found_zone step
+    new = (
+      record {
+        known = is_step.known;
+        start = is_step.start;
+        has_room = ltb-true 0 (room step.arc) both.1;
+        falls =
+            let end = ap (distance_at distances') is_step.end in
+            let same = others step.zone (apart_by step.zone (omega (arith, as_far, near_arcs))) in
+            omega (arith, now, end, same, as_far);
+        least = λ other known start has_room falls.
+            let end : distance_at distances' (end_of graph other) ≡ arcs = omega (arith, now, falls) in
+            let same = others (end_of graph other) (λ e. omega (arith, end, now, ap (distance_at distances') e)) in
+            first_neighbour_least graph found_zone (leads_at room search.distances arcs) step grid.is_graph first (neighbour_over graph other)
+            (neighbour_by graph found_zone other known start)
+            (and_from (distance_at search.distances (end_of graph other) == arcs) (nat_lt 0 (room other)) (eq-eqb (distance_at search.distances (end_of graph other)) arcs (sym same ∙ end))
+            (lt-ltb 0 (room other) has_room));
+      },
+      is_step.end,
+    )
+
+    old : (z : ℕ) → z ≢ found_zone → 0 < distance_at distances' z → distance_at distances' z < 128 → Least z (step_at search.steps z)
+    old z apart positive near =
+        let same = others z apart in
         let s = v.least z (omega (arith, positive, same)) (omega (arith, near, same)) in
-        subst (IsLeastSeen graph room distances' (IsSeen graph zones' next neighbours (index + 1)) z) (sym (others z apart)) (record {
-          known = s.known;
-          start = s.start;
-          end = s.end;
-          has_room = s.has_room;
-          falls = same ∙ s.falls ∙ ap (λ n. n + 1) (sym (still (step_at search.steps z).zone (omega (arith, s.falls, near, same))));
-          least = λ other seen known start has_room falls. elim (in_seen other seen) [
-            | inl before ↦
-                let end = still (end_of graph other) (seen_end other before) in
-                s.least other before known start has_room (omega (arith, falls, same, end))
-            | inr met ↦ absurd (apart (sym start ∙ ap (start_of graph) met ∙ opposite-start graph neighbour.arc ∙ is_neighbour.end))
-          ];
-        })
+        let at = v.visiting.searching.listed z (omega (arith, near, same)) in
+        let capped = v.visiting.capped at.0 at.1 in
+        let most = ap (distance_at search.distances) at.2 in (
+          record {
+            known = s.0.known;
+            start = s.0.start;
+            has_room = s.0.has_room;
+            falls =
+                let end = others (end_of graph (step_at search.steps z).arc) (apart_by (end_of graph (step_at search.steps z).arc) (omega (arith, s.0.falls, near, same))) in
+                omega (arith, same, s.0.falls, end);
+            least = λ other known start has_room falls.
+                let end = others (end_of graph other) (λ e. omega (arith, falls, same, capped, most, now, ap (distance_at distances') e)) in
+                s.0.least other known start has_room (omega (arith, falls, same, end));
+          },
+          s.1,
+        )
 
--- ---- a neighbour is met, in each case
+    in_least : (z : ℕ) → 0 < distance_at distances' z → distance_at distances' z < 128 → (z ≡ found_zone) ⊎ (z ≢ found_zone) → Least z (step_at steps' z)
+    in_least z positive near (inl e) = subst (λ k. Least k (step_at steps' k)) (sym e) (subst (Least found_zone) (sym here) new)
+    in_least z positive near (inr apart) = subst (Least z) (sym (kept z apart)) (old z apart positive near)
 
-abbrev pub step_back : Neighbour → (zone : ℕ) → Neighbour
-step_back neighbour zone = record { arc = opposite_arc neighbour.arc; zone = zone }
-
-pub towards_meets : (graph : Graph) (room : Arc → ℕ) (to : ℕ) (search : Search) (next zone distance : ℕ) (neighbours : List Neighbour) (index : ℕ)
-    → IsGrid graph → neighbours ≡ neighbours_of graph zone → index < length neighbours → zone < 64
-    → IsVisitingTowards graph room to search next zone distance neighbours index
-    → IsVisitingTowards graph room to (met (nat_lt 0 (room (opposite_arc (get_or neighbours index no_step).arc))) search (get_or neighbours index no_step).zone distance (step_back (get_or neighbours index no_step) zone))
-    next zone distance neighbours (index + 1)
-towards_meets graph room to search next zone distance neighbours index grid all within low v =
-    by (get_or search.distances neighbour.zone None) refl (nat_lt 0 (room (opposite_arc neighbour.arc))) refl
+-- a neighbour is met, in each case
+pub towards_meets : (graph : Graph) (room : Arc → ℕ) (to : ℕ) (search : Search) (next zone arcs : ℕ) (neighbours : List Neighbour) (index : ℕ) (step : Neighbour)
+    → IsGrid graph → neighbours ≡ neighbours_of graph zone → index < length neighbours
+    → IsVisitingTowards graph room to search next zone arcs neighbours index
+    → IsVisitingTowards graph room to (first_met (nat_lt 0 (room (opposite_arc (get_or neighbours index no_step).arc))) search (get_or neighbours index no_step).zone (arcs + 1)
+    (least_step graph room search.distances arcs (get_or neighbours index no_step).zone step)) next zone arcs neighbours (index + 1)
+towards_meets graph room to search next zone arcs neighbours index step grid all within v =
+    by (get_or search.distances neighbour.zone None) refl (nat_lt 0 (room back)) refl
   where
     neighbour : Neighbour
     neighbour = get_or neighbours index no_step
 
-    step : Neighbour
-    step = step_back neighbour zone
+    back : Arc
+    back = opposite_arc neighbour.arc
 
     After : Search → Type 0
-    After later = IsVisitingTowards graph room to later next zone distance neighbours (index + 1)
+    After later = IsVisitingTowards graph room to later next zone arcs neighbours (index + 1)
 
-    no_room : nat_lt 0 (room (opposite_arc neighbour.arc)) ≡ false → room (opposite_arc neighbour.arc) ≤ 0
-    no_room e = ltb-false 0 (room (opposite_arc neighbour.arc)) e
+    one_of : Bool → Search
+    one_of b = if b then found search neighbour.zone (arcs + 1) (least_step graph room search.distances arcs neighbour.zone step) else search
 
-    replaced : (far : ℕ) → get_or search.distances neighbour.zone None ≡ Some far
-        → (b : Bool) → ((far == distance) && nat_lt neighbour.arc.border (step_at search.steps neighbour.zone).arc.border && nat_lt 0 (room (opposite_arc neighbour.arc))) ≡ b
-        → After (if b then stepped search neighbour.zone step else search)
-    replaced far known true test =
-        let last = and_parts ((far == distance) && nat_lt neighbour.arc.border (step_at search.steps neighbour.zone).arc.border) (nat_lt 0 (room (opposite_arc neighbour.arc))) test in
-        let first = and_parts (far == distance) (nat_lt neighbour.arc.border (step_at search.steps neighbour.zone).arc.border) last.0 in
-        towards_steps graph room to search next zone distance neighbours index grid all within low v (ltb-true 0 (room (opposite_arc neighbour.arc)) last.1)
-        (known ∙ ap Some (eqb-true far distance first.0)) (ltb-true neighbour.arc.border (step_at search.steps neighbour.zone).arc.border first.1)
-    replaced far known false test =
-        towards_skips graph room to search next zone distance neighbours index grid all within v (inr (ap is_some known)) (λ some as_far.
-        greater (cases_lt neighbour.arc.border (step_at search.steps neighbour.zone).arc.border) some (sym (ap arcs_of_distance known) ∙ as_far))
-      where
-        greater : (neighbour.arc.border < (step_at search.steps neighbour.zone).arc.border) ⊎ ((step_at search.steps neighbour.zone).arc.border ≤ neighbour.arc.border)
-            → 0 < room (opposite_arc neighbour.arc) → far ≡ distance → (step_at search.steps neighbour.zone).arc.border ≤ neighbour.arc.border
-        greater (inr least) some same = least
-        greater (inl less) some same =
-            absurd (true≢false (sym (and_from ((far == distance) && nat_lt neighbour.arc.border (step_at search.steps neighbour.zone).arc.border) (nat_lt 0 (room (opposite_arc neighbour.arc)))
-            (and_from (far == distance) (nat_lt neighbour.arc.border (step_at search.steps neighbour.zone).arc.border) (eq-eqb far distance same)
-            (lt-ltb neighbour.arc.border (step_at search.steps neighbour.zone).arc.border less))
-            (lt-ltb 0 (room (opposite_arc neighbour.arc)) some)) ∙ test))
+    -- the step back to the zone that is visited is one of those that are looked at
+    has_first : 0 < room back → (first : Neighbour) × (find (leads_at room search.distances arcs) (neighbours_of graph neighbour.zone) ≡ Some first)
+    has_first some =
+        let n = neighbour_at graph zone neighbours index no_step grid.is_graph all within in
+        let end : end_of graph back ≡ zone = opposite-end graph neighbour.arc ∙ n.start in
+        let farther = v.visiting.farther in
+        let far : distance_at search.distances (end_of graph back) ≡ arcs = ap (distance_at search.distances) end ∙ (let same : distance_at search.distances zone ≡ arcs = omega (arith, farther) in same) in
+        find-IsIn (leads_at room search.distances arcs) (neighbours_of graph neighbour.zone) (neighbour_over graph back)
+        (neighbour_by graph neighbour.zone back n.known (opposite-start graph neighbour.arc ∙ n.end))
+        (and_from (distance_at search.distances (end_of graph back) == arcs) (nat_lt 0 (room back)) (eq-eqb (distance_at search.distances (end_of graph back)) arcs far) (lt-ltb 0 (room back) some))
 
-    by : (o : Option ℕ) → get_or search.distances neighbour.zone None ≡ o → (b : Bool) → nat_lt 0 (room (opposite_arc neighbour.arc)) ≡ b
-        → After (met_at (get_or search.distances neighbour.zone None) (nat_lt 0 (room (opposite_arc neighbour.arc))) search neighbour.zone distance step)
-    by None e true test =
-        subst After (ap (λ b. if b then found search neighbour.zone distance step else search) (sym test)
-        ∙ ap (λ o. met_at o (nat_lt 0 (room (opposite_arc neighbour.arc))) search neighbour.zone distance step) (sym e))
-        (towards_finds graph room to search next zone distance neighbours index grid all within low v (ltb-true 0 (room (opposite_arc neighbour.arc)) test) e)
+    finds : 0 < room back → get_or search.distances neighbour.zone None ≡ None → After (one_of true)
+    finds some free =
+        let first = has_first some in
+        subst (λ s. After (found search neighbour.zone (arcs + 1) s)) (sym (ap (λ o. unwrap_or o step) first.1))
+        (towards_finds graph room to search next zone arcs neighbours index first.0 grid all within v some free first.1)
+
+    by : (o : Option ℕ) → get_or search.distances neighbour.zone None ≡ o → (b : Bool) → nat_lt 0 (room back) ≡ b
+        → After (one_of (is_none (get_or search.distances neighbour.zone None) && nat_lt 0 (room back)))
+    by None e true test = subst (λ b. After (one_of b)) (sym (ap (λ o. is_none o && nat_lt 0 (room back)) e ∙ test)) (finds (ltb-true 0 (room back) test) e)
     by None e false test =
-        subst After (ap (λ b. if b then found search neighbour.zone distance step else search) (sym test)
-        ∙ ap (λ o. met_at o (nat_lt 0 (room (opposite_arc neighbour.arc))) search neighbour.zone distance step) (sym e))
-        (towards_skips graph room to search next zone distance neighbours index grid all within v (inl (no_room test)) (λ some as_far. absurd (omega (arith, no_room test, some))))
+        subst (λ b. After (one_of b)) (sym (ap (λ o. is_none o && nat_lt 0 (room back)) e ∙ test))
+        (towards_skips graph room to search next zone arcs neighbours index within v (inl (ltb-false 0 (room back) test)))
     by (Some far) e b test =
-        subst After (ap (λ o. met_at o (nat_lt 0 (room (opposite_arc neighbour.arc))) search neighbour.zone distance step) (sym e))
-        (replaced far e ((far == distance) && nat_lt neighbour.arc.border (step_at search.steps neighbour.zone).arc.border && nat_lt 0 (room (opposite_arc neighbour.arc))) refl)
+        subst (λ b. After (one_of b)) (sym (ap (λ o. is_none o && nat_lt 0 (room back)) e))
+        (towards_skips graph room to search next zone arcs neighbours index within v (inr (ap is_some e)))
 
 -- ---- its end
-
--- the steps of a search that has visited all zones that it has found are those of the least borders
-pub towards_ended : (graph : Graph) (room : Arc → ℕ) (to : ℕ) (search : Search) (next : ℕ) → IsReadyTowards graph room to search next → search.count ≤ next
-    → AreDistances graph room to search.distances × AreLeastSteps graph room search.distances search.steps
-towards_ended graph room to search next r past = (
-  ended graph room to search.distances search.zones search.count next r.ready past,
-  λ zone positive near.
-      let s = r.least zone positive near in (
-        record {
-          known = s.known;
-          start = s.start;
-          has_room = s.has_room;
-          falls = s.falls ∙ ap (λ z. distance_at search.distances z + 1) (sym s.end);
-          least = λ other known start has_room falls.
-              let at = r.ready.searching.listed (end_of graph other) (omega (arith, near, falls)) in
-              s.least other (at.0, omega (arith, at.1, past), sym at.2) known start has_room falls;
-        },
-        s.end,
-      ),
-)
 
 -- the tree of a search
 abbrev pub branches_tree : Search → (zone : ℕ) → (towards : Bool) → Tree
 branches_tree search zone towards = tree_of (record { distances = search.distances; steps = search.steps }) zone towards
 
--- so its tree tells the best routes
-pub towards_done : (graph : Graph) (room : Arc → ℕ) (to : ℕ) (search : Search) (next : ℕ) → IsGraph graph → HasZone graph to
-    → IsReadyTowards graph room to search next → search.count ≤ next
+-- the tree of a search that has visited all zones that it has found, or has found all zones, tells
+-- the best routes
+pub towards_done : (graph : Graph) (room : Arc → ℕ) (to : ℕ) (search : Search) (next : ℕ) → IsGrid graph → HasZone graph to
+    → IsReadyTowards graph room to search next → (search.count ≤ next) ⊎ (zone_count graph ≤ search.count)
     → TellsRoutes graph room (branches_tree search to true) × HasPlaces (branches_tree search to true)
-towards_done graph room to search next is there r past =
-    let done = towards_ended graph room to search next r past in (
-      towards_tells graph room to search.distances search.steps is there done.0 done.1,
-      record {
-        distance_places = r.ready.searching.places;
-        step_places = r.step_places;
-        short = r.ready.searching.few;
-        within = r.within;
-      },
-    )
+towards_done graph room to search next grid there r past = (
+  towards_tells graph room to search.distances search.steps grid.is_graph there
+      (search_done graph room to search.distances search.zones search.count next grid r.ready past) r.least,
+  record {
+    distance_places = r.ready.searching.places;
+    step_places = r.step_places;
+    short = r.ready.searching.few;
+    within = r.within;
+  },
+)
 
 -- ---- its start
 

@@ -1,6 +1,10 @@
 -- How a search for the routes of a tree goes on, arc by arc.
-use Rattle.std.specs.Prelude.{ℕ, ◌+◌, Bool, true, false, ◌==◌, ◌&&◌, List, Option, Some, None, is_none, nat_lt, replicate, slice_index_or, slice_set, if◌then◌else◌}
+use Rattle.std.specs.Prelude.{ℕ, ◌+◌, Bool, false, ◌==◌, ◌&&◌, List, Option, Some, None, find, is_none, nat_lt, replicate, slice_index_or, slice_set, unwrap_or, if◌then◌else◌}
+use Rattle.zone_graph.specs.declared.route.Arc.{Arc}
 use Rattle.zone_graph.specs.declared.grid.Neighbour.{Neighbour}
+use Rattle.zone_graph.specs.Graph.{Graph}
+use Rattle.zone_graph.specs.Grid.{neighbours_of}
+use Rattle.zone_search.specs.Distance.{distance_at}
 use Rattle.route_tree.specs.declared.search.Branches.{Branches}
 use Rattle.route_tree.specs.declared.search.Queue.{Queue}
 
@@ -45,26 +49,16 @@ found search zone distance step = record {
   count = search.count + 1;
 }
 
--- a search with another step of a zone
-abbrev pub stepped : Search → (zone : ℕ) → Neighbour → Search
-stepped search zone step = record {
-  distances = search.distances;
-  steps = slice_set search.steps zone step;
-  zones = search.zones;
-  count = search.count;
-}
-
--- a search that has met a zone, so many arcs far over a step: the zone is found now, or it was found
--- as far over a greater border, or nothing changes
-abbrev pub met_at : Option ℕ → (has_room : Bool) → Search → (zone distance : ℕ) → Neighbour → Search
-met_at None has_room search zone distance step = if has_room then found search zone distance step else search
-met_at (Some far) has_room search zone distance step =
-    if (far == distance) && nat_lt step.arc.border (step_at search.steps zone).arc.border && has_room then stepped search zone step else search
-
-abbrev pub met : (has_room : Bool) → Search → (zone distance : ℕ) → Neighbour → Search
-met has_room search zone distance step = met_at (slice_index_or search.distances zone None) has_room search zone distance step
-
 -- one that has met a zone and finds it if it was not found before
 abbrev pub first_met : (has_room : Bool) → Search → (zone distance : ℕ) → Neighbour → Search
 first_met has_room search zone distance step =
     if is_none (slice_index_or search.distances zone None) && has_room then found search zone distance step else search
+
+-- a neighbour is so many arcs far and can be gone to
+abbrev pub leads_at : (Arc → ℕ) → List (Option ℕ) → (arcs : ℕ) → Neighbour → Bool
+leads_at room distances arcs neighbour = (distance_at distances neighbour.zone == arcs) && nat_lt 0 (room neighbour.arc)
+
+-- of the steps from a zone to those so many arcs far the one over the least border; another one
+-- where there is none
+abbrev pub least_step : Graph → (Arc → ℕ) → List (Option ℕ) → (arcs zone : ℕ) → Neighbour → Neighbour
+least_step graph room distances arcs zone step = unwrap_or (find (leads_at room distances arcs) (neighbours_of graph zone)) step

@@ -1,10 +1,12 @@
 //! The search that a tree of routes is made by.
 
-ghost use Rattle.std.specs.Prelude.{◌≡◌, ◌<◌, ◌+◌, None, true, false, length, replicate, slice_index_or, slice_set};
+ghost use Rattle.std.specs.Prelude.{◌≡◌, ◌<◌, ◌+◌, ◌==◌, None, true, false, find, length, replicate, slice_index_or, slice_set};
 ghost use Rattle.zone_graph.specs.Graph.{HasZone, border_count};
 ghost use Rattle.zone_graph.specs.Rooms.{room_of};
+ghost use Rattle.zone_search.specs.Distance.{arcs_of_distance};
 ghost use Rattle.route_choice.specs.Freshness.{has_room};
-ghost use Rattle.route_tree.specs.Search.{first_met, met, no_branches, search_over};
+ghost use Rattle.route_choice.specs.Neighbours.{AreKnown};
+ghost use Rattle.route_tree.specs.Search.{first_met, leads_at, least_step, no_branches, search_over};
 ghost use Rattle.route_tree.specs.Tree.{HasPlaces, TellsRoutes, tree_of};
 
 use zone_graph::{Arc, Grid, MOST_ZONES, Neighbour, Rooms};
@@ -64,34 +66,6 @@ impl Branches {
         }
     }
 
-    // Meets a zone, so many arcs far over a step: adds it if it was not found before, and takes the
-    // step if it is over a lesser border than the one over which the zone is as far.
-    fn meet(&mut self, queue: &mut Queue, rooms: &Rooms, zone: u32, distance: u32, step: Neighbour)
-        requires border { step.arc.border < length rooms.now }
-        requires zone { zone < 64 }
-        requires place { slice_index_or self.old.distances zone None ≡ None → queue.old.count < 64 }
-        ensures { search_over self.new queue.new ≡ met (has_room (room_of rooms.now) step.arc) (search_over self.old queue.old) zone distance step }
-    {
-        let place = zone as usize;
-        match self.distances[place] {
-            None => {
-                if rooms.at(step.arc) > 0 {
-                    self.distances[place] = Some(distance);
-                    self.steps[place] = step;
-                    queue.add(zone);
-                }
-            }
-            Some(far) => {
-                if far == distance
-                    && step.arc.border < self.steps[place].arc.border
-                    && rooms.at(step.arc) > 0
-                {
-                    self.steps[place] = step;
-                }
-            }
-        }
-    }
-
     // Meets a zone, so many arcs far over a step: adds it if it was not found before.
     fn meet_first(
         &mut self,
@@ -114,6 +88,37 @@ impl Branches {
         }
     }
 
+    // Meets a zone over a step to one that is so many arcs far: adds it if it was not found before,
+    // with the step over the least border of those to zones as far.
+    fn meet_least(
+        &mut self,
+        queue: &mut Queue,
+        grid: &Grid,
+        rooms: &Rooms,
+        zone: u32,
+        arcs: u32,
+        step: Neighbour,
+    )
+        requires border { step.arc.border < length rooms.now }
+        requires zone { HasZone grid.now zone }
+        requires size { length rooms.now ≡ border_count grid.now }
+        requires short { arcs < 64 }
+        requires place { slice_index_or self.old.distances zone None ≡ None → queue.old.count < 64 }
+        ensures { search_over self.new queue.new ≡ first_met (has_room (room_of rooms.now) step.arc) (search_over self.old queue.old) zone (arcs + 1) (least_step grid.now (room_of rooms.now) self.old.distances arcs zone step) }
+    {
+        let zones = grid.zones();
+        prove!(zone < zones);
+        let place = zone as usize;
+        if self.distances[place].is_none() && rooms.at(step.arc) > 0 {
+            let least = first_at(grid.neighbours(zone), rooms, &self.distances, arcs).unwrap_or(
+                step,
+            );
+            self.distances[place] = Some(arcs + 1);
+            self.steps[place] = least;
+            queue.add(zone);
+        }
+    }
+
     // How far a zone is, if it has been found.
     fn distance(&self, zone: u32) -> Option<u32>
         requires { zone < 64 }
@@ -123,8 +128,38 @@ impl Branches {
     }
 }
 
+// The first of neighbours that is so many arcs far and can be gone to.
+fn first_at(
+    neighbours: &[Neighbour],
+    rooms: &Rooms,
+    distances: &[Option<u32>],
+    arcs: u32,
+) -> Option<Neighbour>
+    requires known { AreKnown rooms.now distances.now neighbours.now }
+    requires short { arcs < 64 }
+    ensures { result ≡ find (leads_at (room_of rooms.now) distances.now arcs) neighbours.now }
+{
+    for neighbour in neighbours {
+        if is_at(distances[neighbour.zone as usize], arcs) && rooms.at(neighbour.arc) > 0 {
+            return Some(*neighbour);
+        }
+    }
+    None
+}
+
+// Whether a zone is so many arcs far.
+fn is_at(found: Option<u32>, arcs: u32) -> bool
+    requires { arcs < 64 }
+    ensures { result ≡ (arcs_of_distance found == arcs) }
+{
+    match found {
+        Some(far) => far == arcs,
+        None => false,
+    }
+}
+
 /// Finds the best routes to a zone: each zone's step is over the least border of those that lead to
-/// a nearer one.
+/// a nearer one. It ends when all zones of the grid are found.
 pub(crate) fn search_towards(grid: &Grid, rooms: &Rooms, zone: u32, branches: &mut Branches)
     requires zone { HasZone grid.now zone }
     requires size { length rooms.now ≡ border_count grid.now }
@@ -137,15 +172,15 @@ pub(crate) fn search_towards(grid: &Grid, rooms: &Rooms, zone: u32, branches: &m
     let mut queue = Queue::new(zone);
     branches.distances[zone as usize] = Some(0);
     let mut next = 0;
-    while next < queue.count {
+    while next < queue.count && queue.count < zones as usize {
         let visited = queue.zones[next];
-        let distance = branches.distance(visited).unwrap() + 1;
+        let arcs = branches.distance(visited).unwrap();
         for neighbour in grid.neighbours(visited) {
             let step = Neighbour {
                 arc: neighbour.arc.opposite(),
                 zone: visited,
             };
-            branches.meet(&mut queue, rooms, neighbour.zone, distance, step);
+            branches.meet_least(&mut queue, grid, rooms, neighbour.zone, arcs, step);
         }
         next += 1;
     }

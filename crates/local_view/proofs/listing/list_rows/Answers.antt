@@ -1,18 +1,11 @@
 use Rattle.std.proofs.Common.{◌≡◌, ◌∙◌, ℕ, List, length, min, sym, ap, subst}
 use Rattle.zone_graph.specs.Graph.{Graph, HasZone, border_count}
 use Rattle.zone_graph.specs.Rooms.{room_of}
-use Rattle.zone_graph.proofs.Finding.{none_from}
 use Rattle.route_carrying.specs.Carrying.{FitTogether}
 use Rattle.route_choice.specs.Poured.{AreRoomsAfter, lots_of}
 use Rattle.local_view.specs.Poured.{legs_with}
 use Rattle.local_view.proofs.Listed.{IsListed, all-listed, at-order, begins, fewer, one-order, rests, rests-in, rooms-fit, zone-known}
 use Rattle.local_view.proofs.listing.list_rows.Goals as goal
-
-pub returns-then-is_none-clause-rows : goal.returns-then-is_none-clause-rows
-returns-then-is_none-clause-rows g c =
-    all-listed (g.B.Board.state c.args.board.now) c.first-next.ensures.board c.requires.hand c.args.line.part c.requires.part c.args.line.side c.args.zone c.args.of_part.now c.args.of_part.now 4294967295 c.first-next.result c.clear.new.self.items c.requires.of_part
-    (begins (g.B.Board.state c.args.board.now) c.first-next.ensures.board c.requires.hand c.args.line.part c.requires.part c.args.line.side c.args.zone c.args.of_part.now c.first-next.result c.clear.new.self.items c.first-next.ensures.first c.clear.ensures.items)
-    (none_from c.first-next.result c.if-is_none.ensures)
 
 pub loop-next-init : goal.loop-next-init
 loop-next-init g c = record {

@@ -1,12 +1,15 @@
-use Rattle.std.proofs.Common.{◌∙◌, ◌+◌, get_or, sym, ap, subst, refl, arith}
+use Rattle.std.proofs.Common.{◌≡◌, ◌∙◌, ◌+◌, ◌<◌, inl, inr, get_or, sym, ap, subst, refl, arith}
+use Rattle.zone_graph.specs.declared.route.Arc.{Arc}
+use Rattle.zone_graph.specs.declared.grid.Neighbour.{Neighbour}
+use Rattle.zone_graph.specs.Pour.{opposite_arc}
 use Rattle.zone_graph.specs.Rooms.{room_of}
 use Rattle.zone_graph.proofs.Arcs.{opposite-border}
 use Rattle.zone_search.specs.Distance.{arcs_of_distance}
 use Rattle.zone_search.proofs.Neighbours.{neighbour_at, neighbour_within}
 use Rattle.zone_search.proofs.Searches.{spaces_in}
 use Rattle.route_choice.specs.Freshness.{has_room}
-use Rattle.route_tree.specs.Search.{Search, search_over, met, no_step}
-use Rattle.route_tree.proofs.TowardsSearch.{begun_over, IsReadyTowards, IsVisitingTowards, towards_begins, towards_done, towards_ends, towards_meets, towards_started}
+use Rattle.route_tree.specs.Search.{Search, first_met, least_step, no_step, search_over}
+use Rattle.route_tree.proofs.TowardsSearch.{IsReadyTowards, IsVisitingTowards, begun_over, towards_begins, towards_done, towards_ends, towards_meets, towards_started}
 use Rattle.route_tree.proofs.search.search_towards.Goals as goal
 
 pub loop-next-init : goal.loop-next-init
@@ -18,29 +21,33 @@ loop-next-init c =
 pub loop-neighbour-init : goal.loop-neighbour-init
 loop-neighbour-init c = record {
   grid = c.zones-zones.ensures.grid;
-  low =
-      let there = c.loop-next.invariant.ready.searching.there c.loop-next.next c.loop-next-test.true in
-      omega (arith, there, c.zones-zones.ensures.grid.few_zones);
   visiting = towards_begins c.args.grid.now (room_of c.args.rooms.now) c.args.zone (search_over c.loop-next.branches c.loop-next.queue) c.loop-next.next (get_or c.loop-next.queue.zones c.loop-next.next 0)
-      (c.unwrap-distance.result + 1) c.neighbours-neighbour-items.result.now c.loop-next.invariant c.loop-next-test.true refl
-      (ap (λ n. n + 1) (ap arcs_of_distance (sym c.distance.ensures ∙ c.unwrap-distance.ensures)));
+      c.unwrap-arcs.result c.neighbours-neighbour-items.result.now c.loop-next.invariant c.loop-next-test.true refl
+      (ap arcs_of_distance (sym c.distance.ensures ∙ c.unwrap-arcs.ensures));
   neighbours = c.neighbours-neighbour-items.ensures.neighbours;
 }
 
-pub meet-requires-clause-border : goal.meet-requires-clause-border
-meet-requires-clause-border c =
+pub meet_least-requires-clause-border : goal.meet_least-requires-clause-border
+meet_least-requires-clause-border c =
     let known = (neighbour_at c.args.grid.now _ c.neighbours-neighbour-items.result.now c.loop-neighbour.neighbour-index no_step
     c.zones-zones.ensures.grid.is_graph c.neighbours-neighbour-items.ensures.neighbours c.loop-neighbour-test.true).known in
     let border = opposite-border c.opposite.result (get_or c.neighbours-neighbour-items.result.now c.loop-neighbour.neighbour-index no_step).arc c.opposite.ensures in
     omega (arith, known, border, c.requires.size)
 
-pub meet-requires-clause-zone : goal.meet-requires-clause-zone
-meet-requires-clause-zone c =
-    neighbour_within c.args.grid.now _ c.neighbours-neighbour-items.result.now c.loop-neighbour.neighbour-index no_step
-    c.zones-zones.ensures.grid c.neighbours-neighbour-items.ensures.neighbours c.loop-neighbour-test.true
+pub meet_least-requires-clause-zone : goal.meet_least-requires-clause-zone
+meet_least-requires-clause-zone c =
+    (neighbour_at c.args.grid.now _ c.neighbours-neighbour-items.result.now c.loop-neighbour.neighbour-index no_step
+    c.zones-zones.ensures.grid.is_graph c.neighbours-neighbour-items.ensures.neighbours c.loop-neighbour-test.true).there
 
-pub meet-requires-clause-place : goal.meet-requires-clause-place
-meet-requires-clause-place c = λ free.
+pub meet_least-requires-clause-short : goal.meet_least-requires-clause-short
+meet_least-requires-clause-short c =
+    let e = ap arcs_of_distance (sym c.distance.ensures ∙ c.unwrap-arcs.ensures) in
+    let early = c.loop-next.invariant.ready.searching.early c.loop-next.next c.loop-next-test.true in
+    let free = c.loop-next.invariant.ready.searching.free in
+    omega (arith, e, early, free, c.loop-next-test.true)
+
+pub meet_least-requires-clause-place : goal.meet_least-requires-clause-place
+meet_least-requires-clause-place c = λ free.
     spaces_in c.args.grid.now (room_of c.args.rooms.now) c.args.zone c.loop-neighbour.branches.distances c.loop-neighbour.queue.zones c.loop-neighbour.queue.count _
     c.loop-neighbour.invariant.visiting.visiting.searching
     (neighbour_within c.args.grid.now _ c.neighbours-neighbour-items.result.now c.loop-neighbour.neighbour-index no_step
@@ -49,31 +56,31 @@ meet-requires-clause-place c = λ free.
 pub loop-neighbour-preserved : goal.loop-neighbour-preserved
 loop-neighbour-preserved c = record {
   grid = c.zones-zones.ensures.grid;
-  low = c.loop-neighbour.invariant.low;
   visiting =
+      let neighbour : Neighbour = get_or c.neighbours-neighbour-items.result.now c.loop-neighbour.neighbour-index no_step in
       let meets = towards_meets c.args.grid.now (room_of c.args.rooms.now) c.args.zone (search_over c.loop-neighbour.branches c.loop-neighbour.queue) c.loop-next.next (get_or c.loop-next.queue.zones c.loop-next.next 0)
-      (c.unwrap-distance.result + 1) c.neighbours-neighbour-items.result.now c.loop-neighbour.neighbour-index c.zones-zones.ensures.grid c.neighbours-neighbour-items.ensures.neighbours
-      c.loop-neighbour-test.true c.loop-neighbour.invariant.low c.loop-neighbour.invariant.visiting in
+      c.unwrap-arcs.result c.neighbours-neighbour-items.result.now c.loop-neighbour.neighbour-index (record { arc = opposite_arc neighbour.arc; zone = get_or c.loop-next.queue.zones c.loop-next.next 0 })
+      c.zones-zones.ensures.grid c.neighbours-neighbour-items.ensures.neighbours c.loop-neighbour-test.true c.loop-neighbour.invariant.visiting in
       subst (λ (s : Search). IsVisitingTowards c.args.grid.now (room_of c.args.rooms.now) c.args.zone s c.loop-next.next (get_or c.loop-next.queue.zones c.loop-next.next 0)
-      (c.unwrap-distance.result + 1) c.neighbours-neighbour-items.result.now (c.loop-neighbour.neighbour-index + 1))
-      (sym (c.meet.ensures
-      ∙ ap (λ a. met (has_room (room_of c.args.rooms.now) a) (search_over c.loop-neighbour.branches c.loop-neighbour.queue) (get_or c.neighbours-neighbour-items.result.now c.loop-neighbour.neighbour-index no_step).zone (c.unwrap-distance.result + 1)
-      (record { arc = a; zone = get_or c.loop-next.queue.zones c.loop-next.next 0 })) c.opposite.ensures)) meets;
+      c.unwrap-arcs.result c.neighbours-neighbour-items.result.now (c.loop-neighbour.neighbour-index + 1))
+      (sym (c.meet_least.ensures
+      ∙ ap (λ (a : Arc). first_met (has_room (room_of c.args.rooms.now) a) (search_over c.loop-neighbour.branches c.loop-neighbour.queue) neighbour.zone (c.unwrap-arcs.result + 1)
+      (least_step c.args.grid.now (room_of c.args.rooms.now) c.loop-neighbour.branches.distances c.unwrap-arcs.result neighbour.zone (record { arc = a; zone = get_or c.loop-next.queue.zones c.loop-next.next 0 }))) c.opposite.ensures)) meets;
   neighbours = c.neighbours-neighbour-items.ensures.neighbours;
 }
 
 pub loop-next-preserved : goal.loop-next-preserved
 loop-next-preserved c =
     towards_ends c.args.grid.now (room_of c.args.rooms.now) c.args.zone (search_over c.loop-neighbour.branches c.loop-neighbour.queue) c.loop-next.next (get_or c.loop-next.queue.zones c.loop-next.next 0)
-    (c.unwrap-distance.result + 1) c.neighbours-neighbour-items.result.now c.loop-neighbour.neighbour-index c.neighbours-neighbour-items.ensures.neighbours
+    c.unwrap-arcs.result c.neighbours-neighbour-items.result.now c.loop-neighbour.neighbour-index c.neighbours-neighbour-items.ensures.neighbours
     c.loop-neighbour-test.false c.loop-neighbour.invariant.visiting
 
-pub returns-clause-tells : goal.returns-clause-tells
-returns-clause-tells c =
-    (towards_done c.args.grid.now (room_of c.args.rooms.now) c.args.zone (search_over c.loop-next.branches c.loop-next.queue) c.loop-next.next c.zones-zones.ensures.grid.is_graph c.requires.zone
-    c.loop-next.invariant c.loop-next-test.false).0
+pub returns-else-queue-zones-clause-tells : goal.returns-else-queue-zones-clause-tells
+returns-else-queue-zones-clause-tells c =
+    (towards_done c.args.grid.now (room_of c.args.rooms.now) c.args.zone (search_over c.loop-next.branches c.loop-next.queue) c.loop-next.next c.zones-zones.ensures.grid c.requires.zone
+    c.loop-next.invariant (inr (omega (arith, c.if-queue-zones.false, c.zones-zones.ensures.count)))).0
 
-pub returns-clause-places : goal.returns-clause-places
-returns-clause-places c =
-    (towards_done c.args.grid.now (room_of c.args.rooms.now) c.args.zone (search_over c.loop-next.branches c.loop-next.queue) c.loop-next.next c.zones-zones.ensures.grid.is_graph c.requires.zone
-    c.loop-next.invariant c.loop-next-test.false).1
+pub returns-after-loop-next-clause-tells : goal.returns-after-loop-next-clause-tells
+returns-after-loop-next-clause-tells c =
+    (towards_done c.args.grid.now (room_of c.args.rooms.now) c.args.zone (search_over c.loop-next.branches c.loop-next.queue) c.loop-next.next c.zones-zones.ensures.grid c.requires.zone
+    c.loop-next.invariant (inl c.loop-next-test.false)).0

@@ -9,8 +9,7 @@ use Rattle.route_tree.proofs.search.search_towards.Given as goal
 abbrev pub invariant-loop-neighbour : goal.invariant-loop-neighbour
 invariant-loop-neighbour l = record {
   grid : IsGrid l.grid;
-  low : l.visited < 64;
-  visiting : IsVisitingTowards l.grid (room_of l.rooms) l.fn.zone (search_over l.branches l.queue) l.next l.visited l.distance l.neighbour-items l.neighbour-index;
+  visiting : IsVisitingTowards l.grid (room_of l.rooms) l.fn.zone (search_over l.branches l.queue) l.next l.visited l.arcs l.neighbour-items l.neighbour-index;
   neighbours : l.neighbour-items ≡ neighbours_of l.grid l.visited;
 }
 

@@ -15,5 +15,5 @@ pub returns-clause-sells : goal.returns-clause-sells
 returns-clause-sells g c =
     on_ok_map c.refresh-2.result
     (all_next (g.B.Board.state c.args.board.now) c.args.part Sell (zone_count c.args.grid.now) c.refresh.new.work.computed c.args.self.now.sells.kept c.refresh-2.new.self
-    c.requires.zones.1 (subst (AllComputed (zone_count c.args.grid.now)) (sym c.refresh.ensures.work.computed) c.requires.all))
+    c.requires.zones.1 (subst (AllComputed (zone_count c.args.grid.now)) (sym c.refresh.ensures.computed) c.requires.all))
     c.refresh-2.ensures.next

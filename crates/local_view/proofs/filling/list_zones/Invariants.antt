@@ -1,7 +1,7 @@
 use Rattle.std.proofs.Common.{◌≡◌, ◌<◌, ℕ, [], false, get_or, length, true}
 use Rattle.local_view.specs.Boards.{view_of}
 use Rattle.local_view.specs.Works.{KeepsWork}
-use Rattle.local_view.proofs.filling.fill_lists.Given as goal
+use Rattle.local_view.proofs.filling.list_zones.Given as goal
 
 -- the lists so far are made, where they are computed
 abbrev pub invariant-loop-zone : goal.invariant-loop-zone
