@@ -2,6 +2,7 @@ mod Chosen
 mod Counting
 mod Hours
 mod LineMakers
+mod LineTrees
 mod Lines
 mod Listed
 mod Made

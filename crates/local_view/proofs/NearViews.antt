@@ -103,6 +103,17 @@ near_back result board is part side touched rooms old items lent new rest len zo
     told
     (subst (λ ps. HasMade computed board part side (on_side (get_or ps part no_part) side).kept (on_side (get_or new part no_part) side)) (of_items ∙ of_old) m))) made
 
+-- so the next rows of all are
+pub all_back : {E : Type 0} (result : Result (Unit {0}) E) (board : BoardState) (lent new rest : List PartViews) (len zones zones_now : ℕ) → length lent ≡ len → length new ≡ length lent
+    → zones_now ≡ zones
+    → OnOk result ((part : ℕ) (side : Side) → part < length new → AreNext board part side zones_now (on_side (get_or new part no_part) side))
+    → OnOk result ((part : ℕ) (side : Side) → part < length (take len (new ++ rest)) → AreNext board part side zones (on_side (get_or (take len (new ++ rest)) part no_part) side))
+all_back result board lent new rest len zones zones_now size many same next =
+    on_ok_map result (λ each part side less.
+    let back = written_back lent new rest len size many in
+    subst (λ ps. AreNext board part side zones (on_side (get_or ps part no_part) side)) (sym back)
+    (subst (λ z. AreNext board part side z (on_side (get_or new part no_part) side)) same (each part side (subst (λ ps. part < length ps) back less)))) next
+
 pub others_back : {E : Type 0} (result : Result (Unit {0}) E) (part : ℕ) (side : Side) (old : Views) (items lent new rest : List PartViews) (len : ℕ)
     → items ≡ old.lines → lent ≡ items → length lent ≡ len → length new ≡ length lent
     → ((other : ℕ) (otherwise : Side) → AreOthers part side other otherwise → on_side (get_or new other no_part) otherwise ≡ on_side (get_or lent other no_part) otherwise)

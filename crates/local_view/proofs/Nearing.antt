@@ -7,7 +7,7 @@ use Rattle.order_kinds.specs.declared.side.Side.{Side}
 use Rattle.cut_proof.specs.ZoneSet.{holds}
 use Rattle.zone_graph.specs.declared.route.Arc.{Arc}
 use Rattle.zone_graph.specs.Graph.{Graph}
-use Rattle.local_view.specs.Nearness.{is_joined, is_near}
+use Rattle.local_view.specs.Nearness.{is_joined}
 use Rattle.local_view.proofs.Counting.{any_next, any_within}
 
 or_false : (b : Bool) → (b || false) ≡ b

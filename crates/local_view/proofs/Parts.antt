@@ -10,7 +10,7 @@ use Rattle.local_view.specs.declared.part_views.PartViews.{PartViews}
 use Rattle.local_view.specs.declared.work.Work.{Work}
 use Rattle.local_view.specs.Insides.{IsInside}
 use Rattle.local_view.specs.Kept.{AreNext, AreSized, IsSized, Views, no_part, on_side, part_forgotten, views_forgotten}
-use Rattle.local_view.specs.Works.{IsWork}
+use Rattle.local_view.specs.Works.{IsSound}
 
 -- parts of which the same is kept are as many, and have as many zones
 pub sized_alike : (zones : ℕ) (old new : List PartViews) → map part_forgotten new ≡ map part_forgotten old → AreSized zones old → AreSized zones new
@@ -69,16 +69,13 @@ next_set board zones parts place new there before buys sells part side less =
 
 -- what is inside, where the parts were written back
 pub inside_back : (zones : ℕ) (items lent new rest : List PartViews) (len : ℕ) (work_old work : Option Work) → IsInside zones items work_old → lent ≡ items → length lent ≡ len
-    → length new ≡ length lent → AreSized zones new → IfSome work (λ (w : Work). IsWork w.borders w) → IsInside zones (take len (new ++ rest)) work
+    → length new ≡ length lent → AreSized zones new → IfSome work IsSound → IsInside zones (take len (new ++ rest)) work
 inside_back zones items lent new rest len work_old work inside is size many sized works =
     subst (λ ps. IsInside zones ps work) (sym (ap (λ n. take n (new ++ rest)) (sym (many ∙ size)) ∙ take-append_seam new rest)) (record {
       sized = sized;
       few = (let few = inside.few in let same = ap length is in omega (arith, few, same, many));
       work_is = works;
     })
-
-pub work_itself : (borders : ℕ) (work : Work) → IsWork borders work → IsWork work.borders work
-work_itself borders work is = record { count = refl; of_part = is.of_part ∙ sym is.count; of_list = is.of_list ∙ sym is.count }
 
 -- after next rows were dropped the same is kept
 pub kept_forgotten : (old refreshed now : Views) → now ≡ views_forgotten refreshed → map part_forgotten refreshed.lines ≡ map part_forgotten old.lines → refreshed.zones ≡ old.zones

@@ -1,75 +1,71 @@
 -- What a taker takes over one best route after the other, and what it knows after that.
-use Rattle.std.proofs.Common.{◌≡◌, ◌∙◌, ◌+◌, ◌-◌, ◌<◌, ℕ, Bool, false, IsTrue, List, [], ◌∷◌, ◌++◌, length, not, Option, is_some, slice_index_or, Some, None, refl, sym, ap, subst, arith}
+use Rattle.std.proofs.Common.{◌≡◌, ◌∙◌, ◌+◌, ◌-◌, ◌<◌, ℕ, true, List, [], ◌∷◌, ◌++◌, length, not, Option, is_some, IfNone, IfSome, Some, None, take, refl, sym, ap, subst, arith}
+use Rattle.std.specs.List.{list_all}
 use Rattle.std.specs.Option.{option_map}
 use Rattle.order_kinds.specs.declared.side.Side.{Side}
 use Rattle.order_kinds.specs.declared.side.Side.TheVariants.{Buy, Sell}
 use Rattle.order_kinds.specs.Same.{same_side}
 use Rattle.zone_graph.specs.declared.route.Arc.{Arc}
 use Rattle.zone_graph.specs.declared.route.RouteLeg.{RouteLeg}
-use Rattle.zone_graph.specs.Graph.{Graph, HasZone, IsGraph, border_count}
+use Rattle.zone_graph.specs.Graph.{Graph, HasArc, HasZone, IsGraph, border_count}
 use Rattle.zone_graph.specs.Pour.{room_after}
 use Rattle.zone_graph.specs.Rooms.{room_of}
-use Rattle.zone_graph.specs.Route.{IsIn, best_route, carried}
-use Rattle.zone_graph.proofs.Finding.{none_from}
+use Rattle.zone_graph.specs.Route.{IsIn, carried}
 use Rattle.route_carrying.specs.Carrying.{CanCarry, FitTogether}
 use Rattle.route_carrying.proofs.Carrying.{fit-kept, route_can_carry}
 use Rattle.route_choice.specs.declared.route_search.RouteSearch.{RouteSearch}
-use Rattle.route_choice.specs.Freshness.{IsFresh, is_known, directed_route, searched_route}
+use Rattle.route_choice.specs.Freshness.{IsFresh, is_known, directed_route, has_room}
 use Rattle.route_choice.specs.Poured.{AreRoomsAfter, lots_of, rooms_after}
-use Rattle.route_choice.proofs.Fresh.{exclusion_after, fresh_excludes, known_is_reached, searched_arcs}
+use Rattle.route_choice.proofs.Fresh.{known_is_reached, searched_arcs}
 use Rattle.route_choice.proofs.Pours.{IsPoured, IsPourLeg, ended, leg_over_route, no_leg_without_route, one_more, over_route, pour_leg-is}
-use Rattle.route_tree.specs.Tree.{StaysTold, TellsRoutes, Tree, route_along, search_of, told_route}
-use Rattle.local_view.specs.declared.taker.Taker.{Taker}
+use Rattle.route_tree.specs.Tree.{TellsRoutes, Tree, told_route}
+use Rattle.route_tree.proofs.Told.{routes_stay, stays_told}
 use Rattle.local_view.specs.Nearness.{is_joined}
 use Rattle.local_view.specs.Poured.{CarriesNext, leg_with, legs_with, room_after_next, sent_from, sent_to}
-use Rattle.local_view.specs.Takers.{IsTaker}
+use Rattle.local_view.specs.Takers.{IsOwn, IsTaker, best_between}
+use Rattle.local_view.specs.Trees.{TellsTakers}
 
--- a taker whose search was made just now
-pub fresh_taker : (graph : Graph) (room : Arc → ℕ) (taker : Taker) → IsGraph graph → taker.tree.towards ≡ same_side taker.side Sell → length taker.route ≡ 64
-    → TellsRoutes graph room taker.tree → IsTaker graph room taker
-fresh_taker graph room taker is towards places told = record {
-  there = told.fresh.there;
-  towards = towards;
-  excludes = fresh_excludes graph room (search_of taker.tree) is told.fresh;
-  fresh = λ e. told;
-  places = places;
-}
+-- ---- routes between the taker and an order
 
--- a tree tells a route where its search has a distance
-told-known : (tree : Tree) (other : ℕ) → is_some (told_route tree other) ≡ is_known (search_of tree) other
-told-known tree other = by (slice_index_or tree.distances other None)
+-- the tree of the order's zone tells the best one
+pub shared-tells : (graph : Graph) (room : Arc → ℕ) (side : Side) (zone other : ℕ) (tree : Tree) → HasZone graph zone → TellsTakers graph room side other tree
+    → told_route tree zone ≡ best_between graph room side zone other
+shared-tells graph room side zone other tree there t =
+    t.told.routes zone there
+    ∙ ap (λ z. directed_route graph room z zone tree.towards) t.here
+    ∙ ap (directed_route graph room other zone) t.towards
+    ∙ by side
   where
-    by : (o : Option ℕ) → is_some (option_map (λ arcs. route_along tree.steps tree.towards arcs other) o) ≡ is_some o
-    by None = refl
-    by (Some arcs) = refl
+    by : (s : Side) → directed_route graph room other zone (not (same_side s Sell)) ≡ best_between graph room s zone other
+    by Buy = refl
+    by Sell = refl
 
--- and the route that a tree tells is the one that is searched
-pub told-searched : (graph : Graph) (room : Arc → ℕ) (tree : Tree) (other : ℕ) (route : List Arc) → TellsRoutes graph room tree → HasZone graph other
-    → told_route tree other ≡ Some route → searched_route graph room (search_of tree) other ≡ Some route
-told-searched graph room tree other route tells known is = sym (tells.routes other known) ∙ is
+between : (graph : Graph) (room : Arc → ℕ) (side : Side) (zone other : ℕ) → directed_route graph room zone other (same_side side Sell) ≡ best_between graph room side zone other
+between graph room Buy zone other = refl
+between graph room Sell zone other = refl
 
--- the route that the search answers is the best one between the two zones
-directed-is : (graph : Graph) (room : Arc → ℕ) (side : Side) (towards : Bool) (zone other : ℕ) → towards ≡ same_side side Sell
-    → directed_route graph room zone other towards ≡ best_route graph room (sent_from side zone other) (sent_to side zone other)
-directed-is graph room Buy towards zone other e = ap (directed_route graph room zone other) e
-directed-is graph room Sell towards zone other e = ap (directed_route graph room zone other) e
+-- and the taker's own tree does
+pub own-tells : (graph : Graph) (room : Arc → ℕ) (side : Side) (zone other : ℕ) (tree : Tree) → HasZone graph other → IsOwn graph room side zone tree
+    → told_route tree other ≡ best_between graph room side zone other
+own-tells graph room side zone other tree there own =
+    own.told.routes other there
+    ∙ ap (λ z. directed_route graph room z other tree.towards) own.here
+    ∙ ap (directed_route graph room zone other) own.towards
+    ∙ between graph room side zone other
 
-searched-is : (graph : Graph) (room : Arc → ℕ) (taker : Taker) (other : ℕ) → IsTaker graph room taker
-    → searched_route graph room (search_of taker.tree) other ≡ best_route graph room (sent_from taker.side taker.tree.zone other) (sent_to taker.side taker.tree.zone other)
-searched-is graph room taker other t = directed-is graph room taker.side taker.tree.towards taker.tree.zone other t.towards
+pub some-told : (found : Option ℕ) (told best : Option (List Arc)) (route : List Arc) → told ≡ best → IfSome found (λ count. told ≡ Some (take count route))
+    → IfSome found (λ count. best ≡ Some (take count route))
+some-told None told best route same is = tt
+some-told (Some count) told best route same is = sym same ∙ is
+
+pub none-told : (found : Option ℕ) (told best : Option (List Arc)) → told ≡ best → IfNone found (told ≡ None) → IfNone found (best ≡ None)
+none-told None told best same is = sym same ∙ is
+none-told (Some count) told best same is = tt
 
 -- ---- one leg
 
-pub none_over : (graph : Graph) (room : Arc → ℕ) (taker : Taker) (other left : ℕ) → IsTaker graph room taker → searched_route graph room (search_of taker.tree) other ≡ None
-    → leg_with graph room taker.side taker.tree.zone other left ≡ None
-none_over graph room taker other left t none =
-    no_leg_without_route graph room (sent_from taker.side taker.tree.zone other) (sent_to taker.side taker.tree.zone other) left
-    (sym (searched-is graph room taker other t) ∙ none)
-
-pub none_told : (graph : Graph) (room : Arc → ℕ) (taker : Taker) (other left : ℕ) → IsTaker graph room taker → TellsRoutes graph room taker.tree → HasZone graph other
-    → is_some (told_route taker.tree other) ≡ false → leg_with graph room taker.side taker.tree.zone other left ≡ None
-none_told graph room taker other left t told known away =
-    none_over graph room taker other left t (sym (told.routes other known) ∙ none_from (told_route taker.tree other) away)
+pub none_over : (graph : Graph) (room : Arc → ℕ) (side : Side) (zone other left : ℕ) → best_between graph room side zone other ≡ None → leg_with graph room side zone other left ≡ None
+none_over graph room side zone other left none = no_leg_without_route graph room (sent_from side zone other) (sent_to side zone other) left none
 
 pub carries_none : (room : Arc → ℕ) (next : Option RouteLeg) → next ≡ None → CarriesNext room room next None
 carries_none room next none = record {
@@ -77,26 +73,30 @@ carries_none room next none = record {
   rooms = λ arc. ap (λ n. room_after_next room n arc) (sym none);
 }
 
-module _ (graph : Graph) (is : IsGraph graph) (rooms : List (ℕ × ℕ)) (size : length rooms ≡ border_count graph) (fit : FitTogether graph (room_of rooms)) (taker : Taker)
-    (t : IsTaker graph (room_of rooms) taker) (other left : ℕ) (some : 0 < left) (route : List Arc) (found : searched_route graph (room_of rooms) (search_of taker.tree) other ≡ Some route) where
+module _ (graph : Graph) (is : IsGraph graph) (rooms : List (ℕ × ℕ)) (size : length rooms ≡ border_count graph) (fit : FitTogether graph (room_of rooms)) (side : Side)
+    (zone other left : ℕ) (some : 0 < left) (route : List Arc) (found : best_between graph (room_of rooms) side zone other ≡ Some route) where
   abbrev from : ℕ
-  from = sent_from taker.side taker.tree.zone other
+  from = sent_from side zone other
 
   abbrev to : ℕ
-  to = sent_to taker.side taker.tree.zone other
+  to = sent_to side zone other
 
   abbrev leg : RouteLeg
   leg = over_route (room_of rooms) left route
 
-  next : leg_with graph (room_of rooms) taker.side taker.tree.zone other left ≡ Some leg
-  next = leg_over_route graph (room_of rooms) from to left route some (sym (searched-is graph (room_of rooms) taker other t) ∙ found)
+  next : leg_with graph (room_of rooms) side zone other left ≡ Some leg
+  next = leg_over_route graph (room_of rooms) from to left route some found
 
   is_leg : IsPourLeg graph (room_of rooms) from to left leg
   is_leg = pour_leg-is graph (room_of rooms) from to left leg is next
 
+  arcs_there : (arc : Arc) → IsIn arc route → HasArc graph arc
+  arcs_there =
+      searched_arcs graph (room_of rooms) (record { zone = zone; towards = same_side side Sell; distances = [] }) other route is
+      (between graph (room_of rooms) side zone other ∙ found)
+
   pub arcs_known : (arcs : List Arc) → arcs ≡ route → (size_now : ℕ) → size_now ≡ length rooms → (arc : Arc) → IsIn arc arcs → arc.border < size_now
-  arcs_known arcs same size_now size_is arc i =
-      subst (λ n. arc.border < n) (sym (size_is ∙ size)) (searched_arcs graph (room_of rooms) (search_of taker.tree) other route is found arc (subst (IsIn arc) same i))
+  arcs_known arcs same size_now size_is arc i = subst (λ n. arc.border < n) (sym (size_is ∙ size)) (arcs_there arc (subst (IsIn arc) same i))
 
   pub can_carry : (lots : ℕ) (asked arcs : List Arc) → asked ≡ route → lots ≡ carried (room_of rooms) left asked → arcs ≡ route → CanCarry (length rooms) (room_of rooms) lots arcs
   can_carry lots asked arcs same_asked lots_are same =
@@ -105,15 +105,15 @@ module _ (graph : Graph) (is : IsGraph graph) (rooms : List (ℕ × ℕ)) (size 
       (subst (λ borders. CanCarry borders (room_of rooms) leg.lots route) (sym size) (route_can_carry graph (room_of rooms) from to leg fit is_leg.fits)))
 
   -- the rooms after it
-  module _ (after : List (ℕ × ℕ)) (lots : ℕ) (asked arcs : List Arc) (same_asked : asked ≡ route) (lots_are : lots ≡ carried (room_of rooms) left asked) (same : arcs ≡ route)
-      (over : (arc : Arc) → room_of after arc ≡ room_after (room_of rooms) (record { route = arcs; lots = lots }) arc) where
-    leg_same : record { route = arcs; lots = lots } ≡ leg
-    leg_same = let all = lots_are ∙ ap (carried (room_of rooms) left) same_asked in λ i. record { route = same i; lots = all i }
+  module _ (after : List (ℕ × ℕ)) (lots : ℕ) (lots_are : lots ≡ carried (room_of rooms) left route)
+      (over : (arc : Arc) → room_of after arc ≡ room_after (room_of rooms) (record { route = route; lots = lots }) arc) where
+    leg_same : record { route = route; lots = lots } ≡ leg
+    leg_same = λ i. record { route = route; lots = lots_are i }
 
     over_leg : (arc : Arc) → room_of after arc ≡ room_after (room_of rooms) leg arc
     over_leg arc = over arc ∙ ap (λ l. room_after (room_of rooms) l arc) leg_same
 
-    pub carries : CarriesNext (room_of rooms) (room_of after) (leg_with graph (room_of rooms) taker.side taker.tree.zone other left) (Some lots)
+    pub carries : CarriesNext (room_of rooms) (room_of after) (leg_with graph (room_of rooms) side zone other left) (Some lots)
     carries = record {
       lots_are = ap (λ (l : RouteLeg). Some l.lots) leg_same ∙ ap (option_map (λ (l : RouteLeg). l.lots)) (sym next);
       rooms = λ arc. over_leg arc ∙ ap (λ n. room_after_next (room_of rooms) n arc) (sym next);
@@ -122,16 +122,48 @@ module _ (graph : Graph) (is : IsGraph graph) (rooms : List (ℕ × ℕ)) (size 
     pub fit_after : FitTogether graph (room_of after)
     fit_after = subst (FitTogether graph) (λ i. λ arc. sym (over_leg arc) i) (fit-kept graph (room_of rooms) leg fit is_leg.fits.has_room)
 
-    pub taker_after : (asked_fresh : List Arc) → asked_fresh ≡ route → TellsRoutes graph (room_of rooms) taker.tree → (is_fresh : Bool)
-        → (IsTrue is_fresh → StaysTold taker.tree (room_of after) asked_fresh) → (places : List Arc) → length places ≡ 64
-        → IsTaker graph (room_of after) (record { side = taker.side; tree = taker.tree; is_fresh = is_fresh; route = places })
-    taker_after asked_fresh same_fresh told is_fresh stays places many = record {
-      there = t.there;
-      towards = t.towards;
-      excludes = exclusion_after (search_of taker.tree) (room_of after) route graph (room_of rooms) other leg.lots is t.excludes found over_leg;
-      fresh = λ yes. subst (StaysTold taker.tree (room_of after)) same_fresh (stays yes) graph (room_of rooms) other leg.lots is told found over_leg;
-      places = many;
+    -- the routes of the taker's zone stay the same where each arc has room
+    routes-stay : list_all (has_room (room_of after)) route ≡ true → (o : ℕ) → best_between graph (room_of after) side zone o ≡ best_between graph (room_of rooms) side zone o
+    routes-stay all o =
+        sym (between graph (room_of after) side zone o)
+        ∙ routes_stay graph (room_of rooms) (room_of after) zone other o (same_side side Sell) route lots is all (between graph (room_of rooms) side zone other ∙ found) over
+        ∙ between graph (room_of rooms) side zone o
+
+    own-stays : (tree : Tree) → list_all (has_room (room_of after)) route ≡ true → IsOwn graph (room_of rooms) side zone tree → IsOwn graph (room_of after) side zone tree
+    own-stays tree all own = record {
+      here = own.here;
+      towards = own.towards;
+      told = stays_told tree (room_of after) route all graph (room_of rooms) other lots is own.told
+          (ap (λ z. directed_route graph (room_of rooms) z other tree.towards) own.here ∙ ap (directed_route graph (room_of rooms) zone other) own.towards
+          ∙ between graph (room_of rooms) side zone other ∙ found)
+          over;
     }
+
+    pub taker-stays : (start : Arc → ℕ) (own : Option Tree) → list_all (has_room (room_of after)) route ≡ true
+        → IsTaker graph start (room_of rooms) (record { side = side; zone = zone; own = own }) → IsTaker graph start (room_of after) (record { side = side; zone = zone; own = own })
+    taker-stays start own all t = record {
+      there = t.there;
+      first = λ e o. routes-stay all o ∙ t.first e o;
+      own = λ tree e. own-stays tree all (t.own tree e);
+    }
+
+-- a taker whose own tree was made just now
+pub taker-anew : (graph : Graph) (start room : Arc → ℕ) (side : Side) (zone : ℕ) (tree : Tree) → HasZone graph zone → TellsRoutes graph room tree → tree.zone ≡ zone
+    → tree.towards ≡ same_side side Sell → IsTaker graph start room (record { side = side; zone = zone; own = Some tree })
+taker-anew graph start room side zone tree there told here towards = record {
+  there = there;
+  first = λ e. absurd (cc);
+  own = λ other e. subst (IsOwn graph room side zone) (let same : tree ≡ other = cc in same) (record { here = here; towards = towards; told = told });
+}
+
+-- and one that has taken nothing yet
+pub taker-first : (graph : Graph) (start room : Arc → ℕ) (side : Side) (zone : ℕ) → HasZone graph zone → room ≡ start
+    → IsTaker graph start room (record { side = side; zone = zone; own = None })
+taker-first graph start room side zone there same = record {
+  there = there;
+  first = λ e o. ap (λ (r : Arc → ℕ). best_between graph r side zone o) same;
+  own = λ tree e. absurd (cc);
+}
 
 -- ---- the whole pour
 
@@ -196,15 +228,6 @@ takes_all graph start side zone other most room after left is taken carried = by
           lots_are = (let rest : most - left ≡ lots_of taken.legs = omega (arith, sums) in rest) ∙ ap lots_of all;
           rooms = λ arc. rooms arc ∙ ap (λ r. r arc) taken.poured.rooms ∙ ap (λ ls. rooms_after start ls arc) all;
         }
-
--- and of an order out of reach nothing is
-pub takes_none : (graph : Graph) (room : Arc → ℕ) (taker : Taker) (other most : ℕ) → IsGraph graph → IsTaker graph room taker → is_some (told_route taker.tree other) ≡ false
-    → TakesAll graph room taker.side taker.tree.zone other most room 0
-takes_none graph room taker other most is t tells =
-    let away = none_from (searched_route graph room (search_of taker.tree) other) (t.excludes other (sym (told-known taker.tree other) ∙ tells)) in
-    let none = none_over graph room taker other most t away in
-    subst (TakesAll graph room taker.side taker.tree.zone other most room) (let nothing : most - most ≡ 0 = omega arith in nothing)
-    (takes_all graph room taker.side taker.tree.zone other most room room most is (nothing_taken graph room taker.side taker.tree.zone other most) (carries_none room _ none))
 
 -- the same from what a step answered, of a taker with the side and the zone that it began with
 next_at : (graph : Graph) (room after : Arc → ℕ) (side side_now : Side) (zone zone_now other left : ℕ) (found answer : Option ℕ) → side_now ≡ side → zone_now ≡ zone

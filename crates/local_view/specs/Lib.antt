@@ -7,4 +7,5 @@ pub mod Poured
 pub mod Rows
 pub mod Sums
 pub mod Takers
+pub mod Trees
 pub mod Works

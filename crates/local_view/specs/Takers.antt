@@ -1,19 +1,47 @@
--- What a taker of a view knows of the rooms: whom it can no longer reach, and the routes that it has
--- searched.
-use Rattle.std.specs.Prelude.{◌≡◌, ℕ, true, length}
+-- What a taker of a view knows of the rooms as it goes along the line.
+use Rattle.std.specs.Prelude.{◌≡◌, ℕ, List, length, Option, None, Some}
+use Rattle.order_kinds.specs.declared.side.Side.{Side}
 use Rattle.order_kinds.specs.declared.side.Side.TheVariants.{Sell}
 use Rattle.order_kinds.specs.Same.{same_side}
 use Rattle.zone_graph.specs.declared.route.Arc.{Arc}
-use Rattle.zone_graph.specs.Graph.{Graph, HasZone}
-use Rattle.route_choice.specs.Freshness.{Excludes}
-use Rattle.route_tree.specs.Tree.{TellsRoutes, search_of}
+use Rattle.zone_graph.specs.Graph.{Graph, HasZone, border_count}
+use Rattle.zone_graph.specs.Rooms.{room_of}
+use Rattle.zone_graph.specs.Route.{best_route}
+use Rattle.route_carrying.specs.Carrying.{FitTogether}
+use Rattle.route_tree.specs.Tree.{TellsRoutes, Tree}
 use Rattle.local_view.specs.declared.taker.Taker.{Taker}
+use Rattle.local_view.specs.declared.walk.Walk.{Walk}
+use Rattle.local_view.specs.Poured.{sent_from, sent_to}
+use Rattle.local_view.specs.Trees.{AreTrees}
 
--- over these rooms no route joins it with a zone that its search has no distance for, and the routes
--- are told where it says so; energy comes to it from sells, and goes from it to buys
-pub record IsTaker (graph : Graph) (room : Arc → ℕ) (taker : Taker) : Type 0 where
-  pub there : HasZone graph taker.tree.zone
-  pub towards : taker.tree.towards ≡ same_side taker.side Sell
-  pub excludes : Excludes graph room (search_of taker.tree)
-  pub fresh : taker.is_fresh ≡ true → TellsRoutes graph room taker.tree
-  pub places : length taker.route ≡ 64
+-- the best route between a taker in a zone and an order of a side in another zone
+abbrev pub best_between : Graph → (Arc → ℕ) → Side → (zone other : ℕ) → Option (List Arc)
+best_between graph room side zone other = best_route graph room (sent_from side zone other) (sent_to side zone other)
+
+-- a tree tells the best routes of a taker in a zone: energy comes to it from sells, and goes from it to buys
+pub record IsOwn (graph : Graph) (room : Arc → ℕ) (side : Side) (zone : ℕ) (tree : Tree) : Type 0 where
+  pub here : tree.zone ≡ zone
+  pub towards : tree.towards ≡ same_side side Sell
+  pub told : TellsRoutes graph room tree
+
+-- as long as no arc was used up the taker's routes are those over the first rooms; after that its own
+-- tree tells them
+pub record IsTaker (graph : Graph) (start room : Arc → ℕ) (taker : Taker) : Type 0 where
+  pub there : HasZone graph taker.zone
+  pub first : taker.own ≡ None → (other : ℕ) → best_between graph room taker.side taker.zone other ≡ best_between graph start taker.side taker.zone other
+  pub own : (tree : Tree) → taker.own ≡ Some tree → IsOwn graph room taker.side taker.zone tree
+
+-- what a list works with, in its course: the rooms that are left, the line's trees over the first rooms,
+-- and what the taker knows
+pub record IsWalking (graph : Graph) (start : Arc → ℕ) (taker : Taker) (walk : Walk) : Type 0 where
+  pub size : length walk.rooms ≡ border_count graph
+  pub fit : FitTogether graph (room_of walk.rooms)
+  pub trees : AreTrees graph start taker.side walk.trees
+  pub places : length walk.route ≡ 64
+  pub knows : IsTaker graph start (room_of walk.rooms) taker
+
+-- what a list can begin with
+pub record IsReady (graph : Graph) (start : Arc → ℕ) (side : Side) (walk : Walk) : Type 0 where
+  pub size : length walk.rooms ≡ border_count graph
+  pub trees : AreTrees graph start side walk.trees
+  pub places : length walk.route ≡ 64

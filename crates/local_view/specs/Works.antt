@@ -5,19 +5,31 @@ use Rattle.market_model.specs.declared.reply.ViewRow.{ViewRow}
 use Rattle.market_model.specs.Board.{BoardState}
 use Rattle.local_view.specs.Boards.{view_of}
 use Rattle.local_view.specs.Rows.{LineRows}
+use Rattle.zone_graph.specs.Graph.{Graph, border_count, zone_count}
+use Rattle.local_view.specs.declared.walk.Walk.{Walk}
 use Rattle.local_view.specs.declared.work.Work.{Work}
 
--- the rooms are those of so many borders
-pub record IsWork (borders : ℕ) (work : Work) : Type 0 where
-  pub count : work.borders ≡ borders
-  pub of_part : length work.of_part ≡ borders
-  pub of_list : length work.of_list ≡ borders
+-- lists work with rooms of so many borders, and trees of so many zones
+pub record IsWalk (borders zones : ℕ) (walk : Walk) : Type 0 where
+  pub rooms : length walk.rooms ≡ borders
+  pub trees : length walk.trees.trees ≡ zones
+  pub places : length walk.route ≡ 64
 
--- a step leaves all but the rooms of lists
-pub record KeepsWork (old new : Work) : Type 0 where
-  pub count : new.borders ≡ old.borders
+-- the rooms and trees are as many as is said
+pub record IsSound (work : Work) : Type 0 where
+  pub of_part : length work.of_part ≡ work.borders
+  pub walk : IsWalk work.borders work.zones work.walk
+
+-- they are those of a grid
+pub record IsWork (graph : Graph) (work : Work) : Type 0 where
+  pub borders : work.borders ≡ border_count graph
+  pub zones : work.zones ≡ zone_count graph
+  pub sound : IsSound work
+
+-- a step leaves all but what lists work with, and that as large
+pub record KeepsWork (graph : Graph) (old new : Work) : Type 0 where
+  pub work : IsWork graph new
   pub of_part : new.of_part ≡ old.of_part
-  pub of_list : length new.of_list ≡ length old.of_list
   pub computed : new.computed ≡ old.computed
 
 -- the rows of all of so many zones are computed

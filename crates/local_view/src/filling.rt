@@ -1,9 +1,11 @@
 //! The lists of rows of one part and side, for each zone.
 
 ghost use Rattle.std.specs.Prelude.{◌≡◌, ◌<◌, ℕ, [], None, OnOk, get_or, length};
-ghost use Rattle.zone_graph.specs.Graph.{HasZone, border_count, zone_count};
+ghost use Rattle.zone_graph.specs.Graph.{HasZone, zone_count};
+ghost use Rattle.zone_graph.specs.Rooms.{room_of};
 ghost use Rattle.market_model.specs.Board.{IsBoard};
 ghost use Rattle.local_view.specs.Boards.{AreRoomsOf, view_of};
+ghost use Rattle.local_view.specs.Takers.{IsReady};
 ghost use Rattle.local_view.specs.Works.{AreComputed, IsWork, KeepsWork};
 
 use crate::listing::{Line, list_rows};
@@ -30,11 +32,11 @@ pub(crate) fn fill_lists<B: Board>(
     requires grid { grid.now ≡ (B.state board.now).grid }
     requires hand { (B.state board.now).hand ≡ None }
     requires part { line.part < (B.state board.now).parts }
-    requires work { IsWork (border_count grid.now) work.old }
+    requires work { IsWork grid.now work.old }
     requires zones { length lists.old ≡ zone_count grid.now }
     ensures lists { OnOk result (AreComputed work.old.computed (B.state board.now) line.part line.side lists.new) }
     ensures size { length lists.new ≡ length lists.old }
-    ensures work { IsWork (border_count grid.now) work.new }
+    ensures work { IsWork grid.now work.new }
     ensures computed { work.new.computed ≡ work.old.computed }
     ensures board { IsBoard (B.state board.now) }
 {
@@ -43,6 +45,7 @@ pub(crate) fn fill_lists<B: Board>(
         return Ok(());
     }
     board.rooms(line.part, &mut work.of_part);
+    work.walk.trees.forget();
     list_zones(alloc, board, grid, work, line, lists)
 }
 
@@ -79,12 +82,14 @@ fn list_zones<B: Board>(
     requires grid { grid.now ≡ (B.state board.now).grid }
     requires hand { (B.state board.now).hand ≡ None }
     requires part { line.part < (B.state board.now).parts }
-    requires work { IsWork (border_count grid.now) work.old }
+    requires work { IsWork grid.now work.old }
     requires rooms { AreRoomsOf (B.state board.now) line.part work.old.of_part }
+    requires walk { IsReady grid.now (room_of work.old.of_part) line.side work.old.walk }
     requires zones { length lists.old ≡ zone_count grid.now }
     ensures lists { OnOk result (AreComputed work.old.computed (B.state board.now) line.part line.side lists.new) }
     ensures size { length lists.new ≡ length lists.old }
-    ensures work { KeepsWork work.old work.new }
+    ensures work { KeepsWork grid.now work.old work.new }
+    ensures walk { IsReady grid.now (room_of work.new.of_part) line.side work.new.walk }
 {
     let zones = grid.zones();
     for (zone, list) in lists.iter_mut().enumerate() {
@@ -110,17 +115,19 @@ fn fill_list<B: Board>(
     requires hand { (B.state board.now).hand ≡ None }
     requires part { line.part < (B.state board.now).parts }
     requires zone { HasZone grid.now zone }
-    requires work { IsWork (border_count grid.now) work.old }
+    requires work { IsWork grid.now work.old }
     requires rooms { AreRoomsOf (B.state board.now) line.part work.old.of_part }
+    requires walk { IsReady grid.now (room_of work.old.of_part) line.side work.old.walk }
     ensures list { OnOk result (list.new ≡ view_of (B.state board.now) line.part line.side zone) }
-    ensures work { KeepsWork work.old work.new }
+    ensures work { KeepsWork grid.now work.old work.new }
+    ensures walk { IsReady grid.now (room_of work.new.of_part) line.side work.new.walk }
 {
     let mut rows = mem::replace(list, Rows::new(alloc)).into_vec();
     list_rows(
         board,
         grid,
         &work.of_part,
-        &mut work.of_list,
+        &mut work.walk,
         line,
         zone,
         &mut rows,

@@ -7,7 +7,9 @@ mod listing;
 mod nearness;
 mod part_views;
 mod taker;
+mod trees;
 mod views;
+mod walk;
 mod work;
 
 pub use views::LocalViews;

@@ -1,11 +1,14 @@
 //! The rows of one view, in one walk along its line.
 
-ghost use Rattle.std.specs.Prelude.{◌≡◌, ◌∷◌, ◌++◌, [], None, OnOk, length, ◌<◌};
-ghost use Rattle.zone_graph.specs.Graph.{HasZone, border_count};
+ghost use Rattle.std.specs.Prelude.{◌≡◌, ◌∷◌, ◌++◌, [], None, OnOk, ◌<◌};
+ghost use Rattle.zone_graph.specs.Graph.{HasZone};
+ghost use Rattle.zone_graph.specs.Rooms.{room_of};
 ghost use Rattle.local_view.specs.Boards.{AreRoomsOf, view_of};
 ghost use Rattle.local_view.specs.Poured.{row_if};
+ghost use Rattle.local_view.specs.Takers.{IsReady};
 
 use crate::taker::Taker;
+use crate::walk::Walk;
 use market_model::{Board, NoMemory, Price, Side, ViewRow};
 use zone_graph::{Grid, Rooms};
 
@@ -19,7 +22,7 @@ pub(crate) struct Line {
 }
 
 /// Writes the rows of the view of a line and a zone, in place of those that were there. The rooms of the
-/// part stay; the others are then what is left of them.
+/// part stay; those that the list works with are then what is left of them.
 ///
 /// # Errors
 ///
@@ -28,7 +31,7 @@ pub(crate) fn list_rows<B: Board>(
     board: &B,
     grid: &Grid,
     of_part: &Rooms,
-    rooms: &mut Rooms,
+    walk: &mut Walk,
     line: Line,
     zone: u32,
     rows: &mut Vec<ViewRow>,
@@ -38,17 +41,21 @@ pub(crate) fn list_rows<B: Board>(
     requires part { line.part < (B.state board.now).parts }
     requires zone { HasZone grid.now zone }
     requires of_part { AreRoomsOf (B.state board.now) line.part of_part.now }
-    requires size { length rooms.old ≡ length of_part.now }
+    requires walk { IsReady grid.now (room_of of_part.now) line.side walk.old }
     ensures rows { OnOk result (rows.new.items ≡ view_of (B.state board.now) line.part line.side zone) }
-    ensures size { length rooms.new ≡ length rooms.old }
+    ensures walk { IsReady grid.now (room_of of_part.now) line.side walk.new }
 {
     rows.clear();
-    rooms.copy_from(of_part);
-    let mut taker = Taker::new(grid, rooms, line.side, zone);
+    walk.rooms.copy_from(of_part);
+    let mut taker = Taker {
+        side: line.side,
+        zone,
+        own: None,
+    };
     let mut left = u32::MAX;
     let mut next = board.first(line.part, line.side);
     while let Some(order) = next {
-        let lots = taker.take(grid, rooms, order.zone, left.min(order.lots));
+        let lots = taker.take(grid, of_part, walk, order.zone, left.min(order.lots));
         add_row(rows, order.price, lots)?;
         left -= lots;
         next = board.after(order.number);

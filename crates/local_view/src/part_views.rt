@@ -4,7 +4,7 @@ ghost use Rattle.std.specs.Prelude.{◌≡◌, ◌<◌, ℕ, [], false, None, If
 ghost use Rattle.order_kinds.specs.declared.side.Side.TheVariants.{Buy, Sell};
 ghost use Rattle.order_kinds.specs.Side.{opposite};
 ghost use Rattle.market_model.specs.Board.{IsBoard};
-ghost use Rattle.zone_graph.specs.Graph.{border_count, zone_count};
+ghost use Rattle.zone_graph.specs.Graph.{zone_count};
 ghost use Rattle.local_view.specs.Kept.{AreNext, IsSized, adopted, empty_part, empty_rows, forgotten, on_side, part_adopted, part_forgotten};
 ghost use Rattle.local_view.specs.Rows.{chosen};
 ghost use Rattle.local_view.specs.Works.{AllComputed, HasMade, IsWork};
@@ -103,11 +103,11 @@ impl LineViews {
         requires grid { grid.now ≡ (B.state board.now).grid }
         requires hand { (B.state board.now).hand ≡ None }
         requires part { line.part < (B.state board.now).parts }
-        requires work { IsWork (border_count grid.now) work.old }
+        requires work { IsWork grid.now work.old }
         requires zones { length self.old.kept ≡ zone_count grid.now }
         ensures next { OnOk result (HasMade work.old.computed (B.state board.now) line.part line.side self.old.kept self.new) }
         ensures kept { forgotten self.new ≡ forgotten self.old }
-        ensures work { IsWork (border_count grid.now) work.new }
+        ensures work { IsWork grid.now work.new }
         ensures computed { work.new.computed ≡ work.old.computed }
         ensures board { IsBoard (B.state board.now) }
     {
@@ -221,14 +221,14 @@ impl PartViews {
         requires grid { grid.now ≡ (B.state board.now).grid }
         requires hand { (B.state board.now).hand ≡ None }
         requires part { part < (B.state board.now).parts }
-        requires work { IsWork (border_count grid.now) work.old }
+        requires work { IsWork grid.now work.old }
         requires all { AllComputed (zone_count grid.now) work.old.computed }
         requires zones { IsSized (zone_count grid.now) self.old }
         ensures buys { OnOk result (AreNext (B.state board.now) part Buy (zone_count grid.now) self.new.buys) }
         ensures sells { OnOk result (AreNext (B.state board.now) part Sell (zone_count grid.now) self.new.sells) }
         ensures kept { part_forgotten self.new ≡ part_forgotten self.old }
         ensures sized { IsSized (zone_count grid.now) self.new }
-        ensures work { IsWork (border_count grid.now) work.new }
+        ensures work { IsWork grid.now work.new }
         ensures all { AllComputed (zone_count grid.now) work.new.computed }
     {
         let buys = Line {
@@ -260,12 +260,12 @@ impl PartViews {
         requires grid { grid.now ≡ (B.state board.now).grid }
         requires hand { (B.state board.now).hand ≡ None }
         requires part { line.part < (B.state board.now).parts }
-        requires work { IsWork (border_count grid.now) work.old }
+        requires work { IsWork grid.now work.old }
         requires zones { IsSized (zone_count grid.now) self.old }
         ensures next { OnOk result (HasMade work.old.computed (B.state board.now) line.part line.side (on_side self.old line.side).kept (on_side self.new line.side)) }
         ensures other { on_side self.new (opposite line.side) ≡ on_side self.old (opposite line.side) }
         ensures kept { part_forgotten self.new ≡ part_forgotten self.old }
-        ensures work { IsWork (border_count grid.now) work.new }
+        ensures work { IsWork grid.now work.new }
         ensures board { IsBoard (B.state board.now) }
     {
         match line.side {

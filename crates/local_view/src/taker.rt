@@ -1,77 +1,61 @@
 //! A taker of any quantity at any price, which pours what it can from one order after the other.
 
-ghost use Rattle.std.specs.Prelude.{◌≡◌, ◌≤◌, length};
+ghost use Rattle.std.specs.Prelude.{◌≡◌, ◌<◌, ◌≤◌, None, Some, IfNone, IfSome, length, take};
+ghost use Rattle.std.specs.List.{list_all};
 ghost use Rattle.order_kinds.specs.Same.{same_side};
 ghost use Rattle.order_kinds.specs.declared.side.Side.TheVariants.{Sell};
 ghost use Rattle.zone_graph.specs.Graph.{HasZone, border_count};
 ghost use Rattle.zone_graph.specs.Grid.{IsGrid};
 ghost use Rattle.zone_graph.specs.Rooms.{room_of};
-ghost use Rattle.route_carrying.specs.Carrying.{FitTogether};
+ghost use Rattle.zone_graph.specs.Route.{IsIn};
+ghost use Rattle.zone_graph.specs.declared.route.Arc.{Arc as AnArc};
+ghost use Rattle.route_choice.specs.Freshness.{has_room};
+ghost use Rattle.route_tree.specs.Tree.{told_route};
 ghost use Rattle.route_choice.specs.Poured.{AreRoomsAfter, lots_of};
-ghost use Rattle.route_tree.specs.Tree.{TellsRoutes};
 ghost use Rattle.local_view.specs.Poured.{CarriesNext, leg_with, legs_with};
-ghost use Rattle.local_view.specs.Takers.{IsTaker};
+ghost use Rattle.local_view.specs.Takers.{IsWalking, best_between};
 
+use crate::walk::Walk;
 use order_kinds::Side;
 use route_carrying::{carried, carry};
 use route_tree::RouteTree;
-use zone_graph::{Arc, Grid, MOST_ZONES, Rooms};
+use zone_graph::{Arc, Grid, Rooms};
 
 /// A taker in a zone, who takes of the orders of a side.
 #[derive(Drop)]
 pub(crate) struct Taker {
     /// The side of the orders.
     pub(crate) side: Side,
-    /// The routes that join the taker's zone with the orders' zones.
-    pub(crate) tree: RouteTree,
-    /// Whether no arc of these routes was used up since they were searched.
-    pub(crate) is_fresh: bool,
-    /// The arcs of the route that was taken last.
-    pub(crate) route: [Arc; MOST_ZONES],
+    /// The taker's zone.
+    pub(crate) zone: u32,
+    /// The routes of its zone over the rooms that are left, where it used up an arc. As long as it did
+    /// not, they are those over the rooms of the part.
+    pub(crate) own: Option<RouteTree>,
 }
 
 impl Taker {
-    /// A taker in a zone that has taken nothing yet.
-    pub(crate) fn new(grid: &Grid, rooms: &Rooms, side: Side, zone: u32) -> Taker
-        requires zone { HasZone grid.now zone }
-        requires size { length rooms.now ≡ border_count grid.now }
-        ensures taker { IsTaker grid.now (room_of rooms.now) result }
-        ensures side { result.side ≡ side }
-        ensures zone { result.tree.zone ≡ zone }
-    {
-        let zones = grid.zones();
-        prove!(zone < zones);
-        Taker {
-            side,
-            tree: RouteTree::new(grid, rooms, zone, is_sell(side)),
-            is_fresh: true,
-            route: [NO_ARC; MOST_ZONES],
-        }
-    }
-
     /// Takes what it can, and no more than so many lots, of an order in another zone, over one best
     /// route after the other, and answers how many lots that is. The rooms are lowered by it.
-    pub(crate) fn take(&mut self, grid: &Grid, rooms: &mut Rooms, other: u32, most: u32) -> u32
-        requires taker { IsTaker grid.now (room_of rooms.old) self.old }
+    pub(crate) fn take(
+        &mut self,
+        grid: &Grid,
+        of_part: &Rooms,
+        walk: &mut Walk,
+        other: u32,
+        most: u32,
+    ) -> u32
         requires other { HasZone grid.now other }
-        requires size { length rooms.old ≡ border_count grid.now }
-        requires fit { FitTogether grid.now (room_of rooms.old) }
-        ensures lots { result ≡ lots_of (legs_with grid.now (room_of rooms.old) self.old.side self.old.tree.zone other most) }
+        requires size { length of_part.now ≡ border_count grid.now }
+        requires walking { IsWalking grid.now (room_of of_part.now) self.old walk.old }
+        ensures lots { result ≡ lots_of (legs_with grid.now (room_of walk.old.rooms) self.old.side self.old.zone other most) }
         ensures most { result ≤ most }
-        ensures rooms { AreRoomsAfter (room_of rooms.old) (room_of rooms.new) (legs_with grid.now (room_of rooms.old) self.old.side self.old.tree.zone other most) }
-        ensures size { length rooms.new ≡ length rooms.old }
-        ensures fit { FitTogether grid.now (room_of rooms.new) }
-        ensures taker { IsTaker grid.now (room_of rooms.new) self.new }
+        ensures rooms { AreRoomsAfter (room_of walk.old.rooms) (room_of walk.new.rooms) (legs_with grid.now (room_of walk.old.rooms) self.old.side self.old.zone other most) }
+        ensures walking { IsWalking grid.now (room_of of_part.now) self.new walk.new }
         ensures side { self.new.side ≡ self.old.side }
-        ensures zone { self.new.tree.zone ≡ self.old.tree.zone }
+        ensures zone { self.new.zone ≡ self.old.zone }
     {
-        let zones = grid.zones();
-        prove!(other < zones);
-        if !self.tree.reaches(other) {
-            return 0;
-        }
         let mut left = most;
-        while let Some(lots) = self.take_next(grid, rooms, other, left) {
+        while let Some(lots) = self.take_next(grid, of_part, walk, other, left) {
             left -= lots;
         }
         most - left
@@ -79,17 +63,21 @@ impl Taker {
 
     // Takes over the next best route what it carries of so many lots. `None` exactly where none are
     // left or no route has room.
-    fn take_next(&mut self, grid: &Grid, rooms: &mut Rooms, other: u32, left: u32) -> Option<u32>
-        requires taker { IsTaker grid.now (room_of rooms.old) self.old }
+    fn take_next(
+        &mut self,
+        grid: &Grid,
+        of_part: &Rooms,
+        walk: &mut Walk,
+        other: u32,
+        left: u32,
+    ) -> Option<u32>
         requires other { HasZone grid.now other }
-        requires size { length rooms.old ≡ border_count grid.now }
-        requires fit { FitTogether grid.now (room_of rooms.old) }
-        ensures next { CarriesNext (room_of rooms.old) (room_of rooms.new) (leg_with grid.now (room_of rooms.old) self.old.side self.old.tree.zone other left) result }
-        ensures size { length rooms.new ≡ length rooms.old }
-        ensures fit { FitTogether grid.now (room_of rooms.new) }
-        ensures taker { IsTaker grid.now (room_of rooms.new) self.new }
+        requires size { length of_part.now ≡ border_count grid.now }
+        requires walking { IsWalking grid.now (room_of of_part.now) self.old walk.old }
+        ensures next { CarriesNext (room_of walk.old.rooms) (room_of walk.new.rooms) (leg_with grid.now (room_of walk.old.rooms) self.old.side self.old.zone other left) result }
+        ensures walking { IsWalking grid.now (room_of of_part.now) self.new walk.new }
         ensures side { self.new.side ≡ self.old.side }
-        ensures zone { self.new.tree.zone ≡ self.old.tree.zone }
+        ensures zone { self.new.zone ≡ self.old.zone }
         ensures grid { IsGrid grid.now }
     {
         let zones = grid.zones();
@@ -97,42 +85,69 @@ impl Taker {
         if left == 0 {
             return None;
         }
-        self.freshen(grid, rooms);
-        if !self.tree.reaches(other) {
+        let Some(count) = self.route_to(grid, of_part, walk, other) else {
             return None;
+        };
+        let route = &walk.route[..count];
+        let lots = carried(&walk.rooms, left, route);
+        carry(&mut walk.rooms, route, lots);
+        if !have_room(&walk.rooms, route) {
+            self.own = Some(RouteTree::new(grid, &walk.rooms, self.zone, is_sell(self.side)));
         }
-        let count = self.tree.route_into(other, &mut self.route);
-        let route = &self.route[..count];
-        let lots = carried(rooms, left, route);
-        carry(rooms, route, lots);
-        self.is_fresh = self.tree.tells_after(rooms, route);
         Some(lots)
     }
 
-    // Searches the routes anew, where an arc of them was used up.
-    fn freshen(&mut self, grid: &Grid, rooms: &Rooms)
-        requires taker { IsTaker grid.now (room_of rooms.now) self.old }
-        requires size { length rooms.now ≡ border_count grid.now }
-        ensures taker { IsTaker grid.now (room_of rooms.now) self.new }
-        ensures told { TellsRoutes grid.now (room_of rooms.now) self.new.tree }
-        ensures side { self.new.side ≡ self.old.side }
-        ensures zone { self.new.tree.zone ≡ self.old.tree.zone }
+    // Finds the best route between the taker and an order in another zone: how many arcs it has, which are
+    // then in the first places. `None` exactly where there is none.
+    fn route_to(&self, grid: &Grid, of_part: &Rooms, walk: &mut Walk, other: u32) -> Option<usize>
+        requires other { HasZone grid.now other }
+        requires size { length of_part.now ≡ border_count grid.now }
+        requires walking { IsWalking grid.now (room_of of_part.now) self.now walk.old }
+        ensures some { IfSome result (λ count. best_between grid.now (room_of walk.old.rooms) self.now.side self.now.zone other ≡ Some (take count walk.new.route)) }
+        ensures none { IfNone result (best_between grid.now (room_of walk.old.rooms) self.now.side self.now.zone other ≡ None) }
+        ensures short { IfSome result (λ count. count ≤ 64) }
+        ensures rooms { walk.new.rooms ≡ walk.old.rooms }
+        ensures walking { IsWalking grid.now (room_of of_part.now) self.now walk.new }
     {
-        let zones = grid.zones();
-        let zone = self.tree.zone();
-        prove!(zone < zones);
-        if !self.is_fresh {
-            self.tree = RouteTree::new(grid, rooms, zone, self.tree.towards());
-            self.is_fresh = true;
+        match &self.own {
+            None => {
+                walk.trees.make(grid, of_part, self.side, other);
+                let tree = walk.trees.of(other);
+                read(tree, self.zone, &mut walk.route)
+            }
+            Some(tree) => read(tree, other, &mut walk.route),
         }
     }
 }
 
-// What stands in the places of a route that has fewer arcs.
-const NO_ARC: Arc = Arc {
-    border: 0,
-    forward: true,
-};
+// Reads the route of a zone off a tree, if there is one: how many arcs it has, which are then in the first
+// places.
+fn read(tree: &RouteTree, zone: u32, route: &mut [Arc]) -> Option<usize>
+    requires { length route.old ≡ 64 }
+    ensures some { IfSome result (λ count. told_route tree.now zone ≡ Some (take count route.new)) }
+    ensures none { IfNone result (told_route tree.now zone ≡ None) }
+    ensures short { IfSome result (λ count. count ≤ 64) }
+    ensures places { length route.new ≡ 64 }
+{
+    if tree.reaches(zone) {
+        Some(tree.route_into(zone, route))
+    } else {
+        None
+    }
+}
+
+// Whether each arc of a route has room.
+fn have_room(rooms: &Rooms, route: &[Arc]) -> bool
+    requires { (arc : AnArc) → IsIn arc route.now → arc.border < length rooms.now }
+    ensures { result ≡ list_all (has_room (room_of rooms.now)) route.now }
+{
+    for arc in route {
+        if rooms.at(*arc) == 0 {
+            return false;
+        }
+    }
+    true
+}
 
 /// Whether a side is the sellers'.
 pub(crate) fn is_sell(side: Side) -> bool

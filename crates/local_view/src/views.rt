@@ -2,7 +2,7 @@
 
 ghost use Rattle.std.specs.Prelude.{◌≡◌, ◌+◌, ◌*◌, ◌<◌, ◌^◌, ℕ, None, IfOk, OnErr, OnOk, get_or, length, map, replicate};
 ghost use Rattle.order_kinds.specs.declared.side.Side.{Side};
-ghost use Rattle.zone_graph.specs.Graph.{border_count, zone_count};
+ghost use Rattle.zone_graph.specs.Graph.{zone_count};
 ghost use Rattle.local_view.specs.Kept.{AreAllNext, AreNext, AreSized, empty_part, kept_of, line_of, made_after as most_made, no_part, on_side, part_adopted, part_forgotten, views_adopted, views_forgotten};
 ghost use Rattle.market_model.specs.Board.{IsBoard};
 ghost use Rattle.zone_graph.specs.Rooms.{room_of};
@@ -106,7 +106,7 @@ impl LocalViews {
     {
         let alloc = *self.parts.allocator();
         let zones = grid.zones();
-        let mut work = Work::over(self.work.take(), grid)?;
+        let mut work = Work::over(alloc, self.work.take(), grid)?;
         work.computed = [true; MOST_ZONES];
         let filled = fill_parts(alloc, board, grid, &mut work, self.parts.as_mut_slice());
         self.work = Some(work);
@@ -122,7 +122,7 @@ impl LocalViews {
     /// The kept rows of the part and side are the views after some events of the hour, `old_rooms` are
     /// the rooms of the part then, and the board differs from then in the zones of `touched` alone: bit
     /// z stands for zone z. Only the rows of the zones that could trade with a touched one are computed,
-    /// and `made` rises by their number; the others are copies of the kept ones. The rows add up as those
+    /// and `made` rises by their number; the others stay as they are kept. The rows add up as those
     /// of `refresh` do. The grid is the board's, and has as many zones as the views; the board has as many
     /// parts, and no order in hand.
     ///
@@ -183,7 +183,7 @@ impl LocalViews {
     {
         let alloc = *self.parts.allocator();
         let zones = grid.zones();
-        let mut work = Work::over(self.work.take(), grid)?;
+        let mut work = Work::over(alloc, self.work.take(), grid)?;
         work.computed = near_zones(grid, old_rooms, line.side, touched);
         let lists = count(&work.computed, zones);
         let filled = fill_near(
@@ -276,12 +276,12 @@ fn fill_parts<B: Board>(
     requires hand { (B.state board.now).hand ≡ None }
     requires parts { (B.state board.now).parts ≡ length parts.old }
     requires few { length parts.old < 2 ^ 32 }
-    requires work { IsWork (border_count grid.now) work.old }
+    requires work { IsWork grid.now work.old }
     requires all { AllComputed (zone_count grid.now) work.old.computed }
     requires sized { AreSized (zone_count grid.now) parts.old }
     ensures next { OnOk result ((part : ℕ) (side : Side) → part < length parts.new → AreNext (B.state board.now) part side (zone_count grid.now) (on_side (get_or parts.new part no_part) side)) }
     ensures kept { map part_forgotten parts.new ≡ map part_forgotten parts.old }
-    ensures work { IsWork (border_count grid.now) work.new }
+    ensures work { IsWork grid.now work.new }
 {
     for (part, views) in parts.iter_mut().enumerate() {
         views.refresh(alloc, board, grid, work, part as u32)?;
@@ -306,7 +306,7 @@ fn made_after(made: u64, parts: usize, zones: u32) -> u64
 }
 
 // Makes the next rows of one part and side: of the zones that the work says from the board, and of the
-// others as copies of the kept ones.
+// others the kept ones.
 fn fill_near<B: Board>(
     alloc: Global,
     board: &B,
@@ -319,12 +319,12 @@ fn fill_near<B: Board>(
     requires hand { (B.state board.now).hand ≡ None }
     requires parts { (B.state board.now).parts ≡ length parts.old }
     requires part { line.part < length parts.old }
-    requires work { IsWork (border_count grid.now) work.old }
+    requires work { IsWork grid.now work.old }
     requires sized { AreSized (zone_count grid.now) parts.old }
     ensures next { OnOk result (HasMade work.old.computed (B.state board.now) line.part line.side (on_side (get_or parts.old line.part no_part) line.side).kept (on_side (get_or parts.new line.part no_part) line.side)) }
     ensures others { (other : ℕ) (otherwise : Side) → AreOthers line.part line.side other otherwise → on_side (get_or parts.new other no_part) otherwise ≡ on_side (get_or parts.old other no_part) otherwise }
     ensures kept { map part_forgotten parts.new ≡ map part_forgotten parts.old }
-    ensures work { IsWork (border_count grid.now) work.new }
+    ensures work { IsWork grid.now work.new }
     ensures board { IsBoard (B.state board.now) }
 {
     parts[line.part as usize].refresh_near(alloc, board, grid, work, line)

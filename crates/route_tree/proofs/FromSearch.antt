@@ -2,7 +2,7 @@
 -- ones at the end.
 use Rattle.std.proofs.Common.{◌≡◌, ◌≢◌, ◌∙◌, ◌+◌, ◌<◌, ◌≤◌, ◌⊎◌, inl, inr, ℕ, Bool, true, false, List, length, get_or, set, Option, Some, None, is_none, is_some, ◌&&◌, nat_lt, if◌then◌else◌, refl, sym, ap, subst, arith, get_or-set_same, get_or-set_other, ltb-false, ltb-true}
 use Rattle.std.proofs.lemmas.Bool.{cases_eq, cases_lt}
-use Rattle.std.proofs.lemmas.List.{length-replicate, length-set}
+use Rattle.std.proofs.lemmas.List.{length-set}
 use Rattle.zone_graph.specs.declared.route.Arc.{Arc}
 use Rattle.zone_graph.specs.declared.grid.Neighbour.{Neighbour}
 use Rattle.zone_graph.specs.Graph.{Graph, HasArc, HasZone, end_of, start_of, zone_count}
@@ -10,15 +10,15 @@ use Rattle.zone_graph.specs.Grid.{IsGrid, neighbours_of}
 use Rattle.zone_graph.specs.Pour.{opposite_arc}
 use Rattle.zone_graph.proofs.Arcs.{opposite-end, opposite-start, opposite-twice}
 use Rattle.zone_graph.proofs.Places.{at_any}
-use Rattle.zone_search.specs.Distance.{AreDistances, arcs_of_distance, directed_room, distance_at}
+use Rattle.zone_search.specs.Distance.{arcs_of_distance, directed_room, distance_at}
 use Rattle.zone_search.proofs.Neighbours.{IsNeighbour, neighbour_at}
-use Rattle.zone_search.proofs.Searches.{IsReady, IsVisiting, at_found, at_others, ended, spaces_in, started, visit_begins, visit_ends, visit_goes_on, visit_skips}
+use Rattle.zone_search.proofs.Searches.{IsReady, IsVisiting, at_found, at_others, spaces_in, started, visit_begins, visit_ends, visit_goes_on, visit_skips}
 use Rattle.route_tree.specs.Search.{Search, begun, first_met, found, no_step, step_at}
 use Rattle.route_tree.specs.Tree.{HasPlaces, TellsRoutes}
 use Rattle.route_tree.proofs.AllFound.{search_done}
 use Rattle.route_tree.proofs.FirstSteps.{IsBefore, IsEarlierStep, IsStepFrom, from_tells}
 use Rattle.route_tree.proofs.Rising.{rising_neighbours}
-use Rattle.route_tree.proofs.TowardsSearch.{branches_tree, no_step_at, start_alone}
+use Rattle.route_tree.proofs.TowardsSearch.{branches_tree, start_alone}
 
 -- a zone is one of the first so many that were found
 abbrev pub IsAmong : (zones : List ℕ) → (next zone : ℕ) → Type 0
@@ -337,15 +337,16 @@ from_meets graph room from search next zone distance neighbours index grid all w
 
 -- ---- its start and its end
 
-pub from_started : (graph : Graph) (room : Arc → ℕ) (from : ℕ) → HasZone graph from → from < 64 → IsReadyFrom graph room from (begun from) 0
-from_started graph room from known within =
-    let ready = started graph (directed_room room false) from known within in
-    let never = start_alone graph (directed_room room false) from (begun from).distances (begun from).zones ready refl in
+pub from_started : (graph : Graph) (room : Arc → ℕ) (from : ℕ) (steps : List Neighbour) → HasZone graph from → from < 64 → length steps ≡ 64
+    → ((zone : ℕ) → (step_at steps zone).zone < 64) → IsReadyFrom graph room from (begun from steps) 0
+from_started graph room from steps known low places within =
+    let ready = started graph (directed_room room false) from known low in
+    let never = start_alone graph (directed_room room false) from (begun from steps).distances (begun from steps).zones ready refl in
     record {
       ready = ready;
       steps = record {
-        step_places = length-replicate 64 no_step;
-        within = λ zone. subst (λ (n : Neighbour). n.zone < 64) (sym (no_step_at 64 zone)) (omega arith);
+        step_places = places;
+        within = within;
         steps_from = λ zone positive near. absurd (never zone positive near);
         later = λ i positive less. absurd (omega (arith, positive, less));
         ordered = λ i j positive before less. absurd (omega (arith, positive, before, less));

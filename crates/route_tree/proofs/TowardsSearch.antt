@@ -2,7 +2,7 @@
 -- zones are found, at each time.
 use Rattle.std.proofs.Common.{◌≡◌, ◌≢◌, ◌∙◌, ◌+◌, ◌<◌, ◌≤◌, ◌==◌, ◌&&◌, ◌⊎◌, inl, inr, ℕ, zero, suc, Bool, true, false, List, length, find, get_or, set, replicate, Option, Some, None, is_none, is_some, nat_lt, unwrap_or, if◌then◌else◌, refl, sym, ap, subst, arith, get_or-set_same, get_or-set_other, eqb-true, eq-eqb, ltb-true, ltb-false, lt-ltb}
 use Rattle.std.proofs.lemmas.Bool.{and_from, and_parts, cases_eq}
-use Rattle.std.proofs.lemmas.List.{length-replicate, length-set}
+use Rattle.std.proofs.lemmas.List.{length-set}
 use Rattle.zone_graph.specs.declared.route.Arc.{Arc}
 use Rattle.zone_graph.specs.declared.grid.Neighbour.{Neighbour}
 use Rattle.zone_graph.specs.Graph.{Graph, HasZone, end_of, zone_count}
@@ -17,7 +17,7 @@ use Rattle.zone_search.proofs.Neighbours.{IsNeighbour, neighbour_at, neighbour_b
 use Rattle.zone_search.proofs.Searches.{IsReady, IsVisiting, at_found, at_others, spaces_in, started, visit_begins, visit_ends, visit_goes_on, visit_skips}
 use Rattle.route_tree.specs.declared.search.Branches.{Branches}
 use Rattle.route_tree.specs.declared.search.Queue.{Queue}
-use Rattle.route_tree.specs.Search.{Search, begun, first_met, found, leads_at, least_step, no_branches, no_step, search_over, step_at}
+use Rattle.route_tree.specs.Search.{Search, begun, first_met, found, leads_at, least_step, no_step, search_over, step_at}
 use Rattle.route_tree.specs.Tree.{HasPlaces, TellsRoutes, Tree, tree_of}
 use Rattle.route_tree.proofs.AllFound.{search_done}
 use Rattle.route_tree.proofs.Rising.{first_neighbour_least}
@@ -195,13 +195,41 @@ towards_finds graph room to search next zone arcs neighbours index step grid all
     in_least z positive near (inl e) = subst (λ k. Least k (step_at steps' k)) (sym e) (subst (Least found_zone) (sym here) new)
     in_least z positive near (inr apart) = subst (Least z) (sym (kept z apart)) (old z apart positive near)
 
+-- where the arc back from a neighbour has room there is such a step: the one back is one of those that
+-- are looked at
+pub has_least : (graph : Graph) (room : Arc → ℕ) (to : ℕ) (search : Search) (next zone arcs : ℕ) (neighbours : List Neighbour) (index : ℕ)
+    → IsGrid graph → neighbours ≡ neighbours_of graph zone → index < length neighbours
+    → IsVisitingTowards graph room to search next zone arcs neighbours index
+    → 0 < room (opposite_arc (get_or neighbours index no_step).arc)
+    → (step : Neighbour) × (least_step graph room search.distances arcs (get_or neighbours index no_step).zone ≡ Some step)
+has_least graph room to search next zone arcs neighbours index grid all within v some =
+    find-IsIn (leads_at room search.distances arcs) (neighbours_of graph neighbour.zone) (neighbour_over graph back)
+    (neighbour_by graph neighbour.zone back is_neighbour.known (opposite-start graph neighbour.arc ∙ is_neighbour.end))
+    (and_from (distance_at search.distances (end_of graph back) == arcs) (nat_lt 0 (room back)) (eq-eqb (distance_at search.distances (end_of graph back)) arcs far)
+    (lt-ltb 0 (room back) some))
+  where
+    neighbour : Neighbour
+    neighbour = get_or neighbours index no_step
+
+    back : Arc
+    back = opposite_arc neighbour.arc
+
+    is_neighbour : IsNeighbour graph zone neighbour
+    is_neighbour = neighbour_at graph zone neighbours index no_step grid.is_graph all within
+
+    far : distance_at search.distances (end_of graph back) ≡ arcs
+    far =
+        let farther = v.visiting.farther in
+        let end = ap (distance_at search.distances) (opposite-end graph neighbour.arc ∙ is_neighbour.start) in
+        omega (arith, farther, end)
+
 -- a neighbour is met, in each case
-pub towards_meets : (graph : Graph) (room : Arc → ℕ) (to : ℕ) (search : Search) (next zone arcs : ℕ) (neighbours : List Neighbour) (index : ℕ) (step : Neighbour)
+pub towards_meets : (graph : Graph) (room : Arc → ℕ) (to : ℕ) (search : Search) (next zone arcs : ℕ) (neighbours : List Neighbour) (index : ℕ)
     → IsGrid graph → neighbours ≡ neighbours_of graph zone → index < length neighbours
     → IsVisitingTowards graph room to search next zone arcs neighbours index
     → IsVisitingTowards graph room to (first_met (nat_lt 0 (room (opposite_arc (get_or neighbours index no_step).arc))) search (get_or neighbours index no_step).zone (arcs + 1)
-    (least_step graph room search.distances arcs (get_or neighbours index no_step).zone step)) next zone arcs neighbours (index + 1)
-towards_meets graph room to search next zone arcs neighbours index step grid all within v =
+    (unwrap_or (least_step graph room search.distances arcs (get_or neighbours index no_step).zone) no_step)) next zone arcs neighbours (index + 1)
+towards_meets graph room to search next zone arcs neighbours index grid all within v =
     by (get_or search.distances neighbour.zone None) refl (nat_lt 0 (room back)) refl
   where
     neighbour : Neighbour
@@ -214,23 +242,12 @@ towards_meets graph room to search next zone arcs neighbours index step grid all
     After later = IsVisitingTowards graph room to later next zone arcs neighbours (index + 1)
 
     one_of : Bool → Search
-    one_of b = if b then found search neighbour.zone (arcs + 1) (least_step graph room search.distances arcs neighbour.zone step) else search
-
-    -- the step back to the zone that is visited is one of those that are looked at
-    has_first : 0 < room back → (first : Neighbour) × (find (leads_at room search.distances arcs) (neighbours_of graph neighbour.zone) ≡ Some first)
-    has_first some =
-        let n = neighbour_at graph zone neighbours index no_step grid.is_graph all within in
-        let end : end_of graph back ≡ zone = opposite-end graph neighbour.arc ∙ n.start in
-        let farther = v.visiting.farther in
-        let far : distance_at search.distances (end_of graph back) ≡ arcs = ap (distance_at search.distances) end ∙ (let same : distance_at search.distances zone ≡ arcs = omega (arith, farther) in same) in
-        find-IsIn (leads_at room search.distances arcs) (neighbours_of graph neighbour.zone) (neighbour_over graph back)
-        (neighbour_by graph neighbour.zone back n.known (opposite-start graph neighbour.arc ∙ n.end))
-        (and_from (distance_at search.distances (end_of graph back) == arcs) (nat_lt 0 (room back)) (eq-eqb (distance_at search.distances (end_of graph back)) arcs far) (lt-ltb 0 (room back) some))
+    one_of b = if b then found search neighbour.zone (arcs + 1) (unwrap_or (least_step graph room search.distances arcs neighbour.zone) no_step) else search
 
     finds : 0 < room back → get_or search.distances neighbour.zone None ≡ None → After (one_of true)
     finds some free =
-        let first = has_first some in
-        subst (λ s. After (found search neighbour.zone (arcs + 1) s)) (sym (ap (λ o. unwrap_or o step) first.1))
+        let first = has_least graph room to search next zone arcs neighbours index grid all within v some in
+        subst (λ s. After (found search neighbour.zone (arcs + 1) s)) (sym (ap (λ o. unwrap_or o no_step) first.1))
         (towards_finds graph room to search next zone arcs neighbours index first.0 grid all within v some free first.1)
 
     by : (o : Option ℕ) → get_or search.distances neighbour.zone None ≡ o → (b : Bool) → nat_lt 0 (room back) ≡ b
@@ -267,15 +284,10 @@ towards_done graph room to search next grid there r past = (
 
 -- ---- its start
 
-pub begun_over : (branches : Branches) (queue : Queue) (zone : ℕ) → branches ≡ no_branches → queue.zones ≡ set (replicate 64 0) 0 zone → queue.count ≡ 1
-    → search_over (record { distances = set branches.distances zone (Some 0); steps = branches.steps }) queue ≡ begun zone
+pub begun_over : (branches : Branches) (queue : Queue) (zone : ℕ) → branches.distances ≡ replicate 64 None → queue.zones ≡ set (replicate 64 0) 0 zone → queue.count ≡ 1
+    → search_over (record { distances = set branches.distances zone (Some 0); steps = branches.steps }) queue ≡ begun zone branches.steps
 begun_over branches queue zone none zones count =
-    λ i. record { distances = set (none i).distances zone (Some 0); steps = (none i).steps; zones = zones i; count = count i }
-
-pub no_step_at : (n zone : ℕ) → get_or (replicate n no_step) zone no_step ≡ no_step
-no_step_at zero zone = refl
-no_step_at (suc n) zero = refl
-no_step_at (suc n) (suc zone) = no_step_at n zone
+    λ i. record { distances = set (none i) zone (Some 0); steps = branches.steps; zones = zones i; count = count i }
 
 -- at the start no zone but its own has a distance
 pub start_alone : (graph : Graph) (room : Arc → ℕ) (to : ℕ) (distances : List (Option ℕ)) (zones : List ℕ) → IsReady graph room to distances zones 1 0
@@ -287,12 +299,22 @@ start_alone graph room to distances zones r first zone positive near =
     let home = r.searching.home in
     omega (arith, positive, home, ap (distance_at distances) same)
 
-pub towards_started : (graph : Graph) (room : Arc → ℕ) (to : ℕ) → HasZone graph to → to < 64 → IsReadyTowards graph room to (begun to) 0
-towards_started graph room to known within =
-    let ready = started graph room to known within in
+pub towards_started : (graph : Graph) (room : Arc → ℕ) (to : ℕ) (steps : List Neighbour) → HasZone graph to → to < 64 → length steps ≡ 64
+    → ((zone : ℕ) → (step_at steps zone).zone < 64) → IsReadyTowards graph room to (begun to steps) 0
+towards_started graph room to steps known low places within =
+    let ready = started graph room to known low in
     record {
       ready = ready;
-      step_places = length-replicate 64 no_step;
-      within = λ zone. subst (λ (n : Neighbour). n.zone < 64) (sym (no_step_at 64 zone)) (omega arith);
-      least = λ zone positive near. absurd (start_alone graph room to (begun to).distances (begun to).zones ready refl zone positive near);
+      step_places = places;
+      within = within;
+      least = λ zone positive near. absurd (start_alone graph room to (begun to steps).distances (begun to steps).zones ready refl zone positive near);
     }
+
+no_step_at : (n zone : ℕ) → get_or (replicate n no_step) zone no_step ≡ no_step
+no_step_at zero zone = refl
+no_step_at (suc n) zero = refl
+no_step_at (suc n) (suc zone) = no_step_at n zone
+
+-- the steps that a search begins with are at zones with places
+pub within_at_first : (steps : List Neighbour) → steps ≡ replicate 64 no_step → (zone : ℕ) → (step_at steps zone).zone < 64
+within_at_first steps no_steps zone = subst (λ (n : Neighbour). n.zone < 64) (sym (ap (λ l. step_at l zone) no_steps ∙ no_step_at 64 zone)) (omega arith)

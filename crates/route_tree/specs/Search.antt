@@ -1,5 +1,5 @@
 -- How a search for the routes of a tree goes on, arc by arc.
-use Rattle.std.specs.Prelude.{ℕ, ◌+◌, Bool, false, ◌==◌, ◌&&◌, List, Option, Some, None, find, is_none, nat_lt, replicate, slice_index_or, slice_set, unwrap_or, if◌then◌else◌}
+use Rattle.std.specs.Prelude.{ℕ, ◌+◌, Bool, false, ◌==◌, ◌&&◌, List, Option, Some, None, find, is_none, nat_lt, replicate, slice_index_or, slice_set, if◌then◌else◌}
 use Rattle.zone_graph.specs.declared.route.Arc.{Arc}
 use Rattle.zone_graph.specs.declared.grid.Neighbour.{Neighbour}
 use Rattle.zone_graph.specs.Graph.{Graph}
@@ -16,10 +16,6 @@ no_step = record { arc = record { border = 0; forward = false }; zone = 0 }
 abbrev pub step_at : List Neighbour → ℕ → Neighbour
 step_at steps zone = slice_index_or steps zone no_step
 
--- what a search that has found no zone knows
-abbrev pub no_branches : Branches
-no_branches = record { distances = replicate 64 None; steps = replicate 64 no_step }
-
 -- a search: how far the zones are that it has found, their steps, and these zones in the order in
 -- which they were found
 pub record Search : Type 0 where
@@ -31,11 +27,11 @@ pub record Search : Type 0 where
 abbrev pub search_over : Branches → Queue → Search
 search_over branches queue = record { distances = branches.distances; steps = branches.steps; zones = queue.zones; count = queue.count }
 
--- a search that has found its own zone alone
-abbrev pub begun : ℕ → Search
-begun zone = record {
+-- a search that has found its own zone alone, whatever steps it begins with
+abbrev pub begun : ℕ → List Neighbour → Search
+begun zone steps = record {
   distances = slice_set (replicate 64 None) zone (Some 0);
-  steps = replicate 64 no_step;
+  steps = steps;
   zones = slice_set (replicate 64 0) 0 zone;
   count = 1;
 }
@@ -58,7 +54,6 @@ first_met has_room search zone distance step =
 abbrev pub leads_at : (Arc → ℕ) → List (Option ℕ) → (arcs : ℕ) → Neighbour → Bool
 leads_at room distances arcs neighbour = (distance_at distances neighbour.zone == arcs) && nat_lt 0 (room neighbour.arc)
 
--- of the steps from a zone to those so many arcs far the one over the least border; another one
--- where there is none
-abbrev pub least_step : Graph → (Arc → ℕ) → List (Option ℕ) → (arcs zone : ℕ) → Neighbour → Neighbour
-least_step graph room distances arcs zone step = unwrap_or (find (leads_at room distances arcs) (neighbours_of graph zone)) step
+-- of the steps from a zone to those so many arcs far the one over the least border, if there is one
+abbrev pub least_step : Graph → (Arc → ℕ) → List (Option ℕ) → (arcs zone : ℕ) → Option Neighbour
+least_step graph room distances arcs zone = find (leads_at room distances arcs) (neighbours_of graph zone)

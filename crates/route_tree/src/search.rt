@@ -1,12 +1,13 @@
 //! The search that a tree of routes is made by.
 
-ghost use Rattle.std.specs.Prelude.{◌≡◌, ◌<◌, ◌+◌, ◌==◌, None, true, false, find, length, replicate, slice_index_or, slice_set};
+ghost use Rattle.std.specs.Prelude.{◌≡◌, ◌<◌, ◌+◌, ◌==◌, ℕ, None, IsSome, IsTrue, true, false, find, length, replicate, slice_index_or, slice_set, unwrap_or};
+ghost use Rattle.std.specs.Option.{option_copied};
 ghost use Rattle.zone_graph.specs.Graph.{HasZone, border_count};
 ghost use Rattle.zone_graph.specs.Rooms.{room_of};
 ghost use Rattle.zone_search.specs.Distance.{arcs_of_distance};
 ghost use Rattle.route_choice.specs.Freshness.{has_room};
 ghost use Rattle.route_choice.specs.Neighbours.{AreKnown};
-ghost use Rattle.route_tree.specs.Search.{first_met, leads_at, least_step, no_branches, search_over};
+ghost use Rattle.route_tree.specs.Search.{first_met, leads_at, least_step, no_step, search_over, step_at};
 ghost use Rattle.route_tree.specs.Tree.{HasPlaces, TellsRoutes, tree_of};
 
 use zone_graph::{Arc, Grid, MOST_ZONES, Neighbour, Rooms};
@@ -54,7 +55,8 @@ impl Queue {
 impl Branches {
     /// Those of a search that has found no zone.
     pub fn new() -> Branches
-        ensures { result ≡ no_branches }
+        ensures distances { result.distances ≡ replicate 64 None }
+        ensures steps { result.steps ≡ replicate 64 no_step }
     {
         let step = Neighbour {
             arc: Arc::over(0, false),
@@ -63,6 +65,22 @@ impl Branches {
         Branches {
             distances: [None; MOST_ZONES],
             steps: [step; MOST_ZONES],
+        }
+    }
+
+    /// Finds the best routes to a zone (`towards`), or from it, where no zone is found yet.
+    pub fn search(&mut self, grid: &Grid, rooms: &Rooms, zone: u32, towards: bool)
+        requires zone { HasZone grid.now zone }
+        requires size { length rooms.now ≡ border_count grid.now }
+        requires none { self.old.distances ≡ replicate 64 None }
+        requires within { (zone : ℕ) → (step_at self.old.steps zone).zone < 64 }
+        ensures tells { TellsRoutes grid.now (room_of rooms.now) (tree_of self.new zone towards) }
+        ensures places { HasPlaces (tree_of self.new zone towards) }
+    {
+        if towards {
+            search_towards(grid, rooms, zone, self);
+        } else {
+            search_from(grid, rooms, zone, self);
         }
     }
 
@@ -88,8 +106,8 @@ impl Branches {
         }
     }
 
-    // Meets a zone over a step to one that is so many arcs far: adds it if it was not found before,
-    // with the step over the least border of those to zones as far.
+    // Meets a zone, from which an arc leads to one that is so many arcs far: adds it if it was not
+    // found before, with the step over the least border of those to zones as far.
     fn meet_least(
         &mut self,
         queue: &mut Queue,
@@ -97,22 +115,21 @@ impl Branches {
         rooms: &Rooms,
         zone: u32,
         arcs: u32,
-        step: Neighbour,
+        arc: Arc,
     )
-        requires border { step.arc.border < length rooms.now }
+        requires border { arc.border < length rooms.now }
         requires zone { HasZone grid.now zone }
         requires size { length rooms.now ≡ border_count grid.now }
         requires short { arcs < 64 }
         requires place { slice_index_or self.old.distances zone None ≡ None → queue.old.count < 64 }
-        ensures { search_over self.new queue.new ≡ first_met (has_room (room_of rooms.now) step.arc) (search_over self.old queue.old) zone (arcs + 1) (least_step grid.now (room_of rooms.now) self.old.distances arcs zone step) }
+        requires some { IsTrue (has_room (room_of rooms.now) arc) → IsSome (least_step grid.now (room_of rooms.now) self.old.distances arcs zone) }
+        ensures { search_over self.new queue.new ≡ first_met (has_room (room_of rooms.now) arc) (search_over self.old queue.old) zone (arcs + 1) (unwrap_or (least_step grid.now (room_of rooms.now) self.old.distances arcs zone) no_step) }
     {
         let zones = grid.zones();
         prove!(zone < zones);
         let place = zone as usize;
-        if self.distances[place].is_none() && rooms.at(step.arc) > 0 {
-            let least = first_at(grid.neighbours(zone), rooms, &self.distances, arcs).unwrap_or(
-                step,
-            );
+        if self.distances[place].is_none() && rooms.at(arc) > 0 {
+            let least = *first_at(grid.neighbours(zone), rooms, &self.distances, arcs).unwrap();
             self.distances[place] = Some(arcs + 1);
             self.steps[place] = least;
             queue.add(zone);
@@ -129,19 +146,19 @@ impl Branches {
 }
 
 // The first of neighbours that is so many arcs far and can be gone to.
-fn first_at(
-    neighbours: &[Neighbour],
+fn first_at<'a>(
+    neighbours: &'a [Neighbour],
     rooms: &Rooms,
     distances: &[Option<u32>],
     arcs: u32,
-) -> Option<Neighbour>
+) -> Option<&'a Neighbour>
     requires known { AreKnown rooms.now distances.now neighbours.now }
     requires short { arcs < 64 }
-    ensures { result ≡ find (leads_at (room_of rooms.now) distances.now arcs) neighbours.now }
+    ensures { option_copied result ≡ find (leads_at (room_of rooms.now) distances.now arcs) neighbours.now }
 {
     for neighbour in neighbours {
         if is_at(distances[neighbour.zone as usize], arcs) && rooms.at(neighbour.arc) > 0 {
-            return Some(*neighbour);
+            return Some(neighbour);
         }
     }
     None
@@ -158,12 +175,13 @@ fn is_at(found: Option<u32>, arcs: u32) -> bool
     }
 }
 
-/// Finds the best routes to a zone: each zone's step is over the least border of those that lead to
-/// a nearer one. It ends when all zones of the grid are found.
-pub(crate) fn search_towards(grid: &Grid, rooms: &Rooms, zone: u32, branches: &mut Branches)
+// Finds the best routes to a zone: each zone's step is over the least border of those that lead to
+// a nearer one. It ends when all zones of the grid are found.
+fn search_towards(grid: &Grid, rooms: &Rooms, zone: u32, branches: &mut Branches)
     requires zone { HasZone grid.now zone }
     requires size { length rooms.now ≡ border_count grid.now }
-    requires none { branches.old ≡ no_branches }
+    requires none { branches.old.distances ≡ replicate 64 None }
+    requires within { (zone : ℕ) → (step_at branches.old.steps zone).zone < 64 }
     ensures tells { TellsRoutes grid.now (room_of rooms.now) (tree_of branches.new zone true) }
     ensures places { HasPlaces (tree_of branches.new zone true) }
 {
@@ -176,22 +194,20 @@ pub(crate) fn search_towards(grid: &Grid, rooms: &Rooms, zone: u32, branches: &m
         let visited = queue.zones[next];
         let arcs = branches.distance(visited).unwrap();
         for neighbour in grid.neighbours(visited) {
-            let step = Neighbour {
-                arc: neighbour.arc.opposite(),
-                zone: visited,
-            };
-            branches.meet_least(&mut queue, grid, rooms, neighbour.zone, arcs, step);
+            let arc = neighbour.arc.opposite();
+            branches.meet_least(&mut queue, grid, rooms, neighbour.zone, arcs, arc);
         }
         next += 1;
     }
 }
 
-/// Finds the best routes from a zone: each zone's step is the one over which it is found first. It
-/// ends when all zones of the grid are found.
-pub(crate) fn search_from(grid: &Grid, rooms: &Rooms, zone: u32, branches: &mut Branches)
+// Finds the best routes from a zone: each zone's step is the one over which it is found first. It
+// ends when all zones of the grid are found.
+fn search_from(grid: &Grid, rooms: &Rooms, zone: u32, branches: &mut Branches)
     requires zone { HasZone grid.now zone }
     requires size { length rooms.now ≡ border_count grid.now }
-    requires none { branches.old ≡ no_branches }
+    requires none { branches.old.distances ≡ replicate 64 None }
+    requires within { (zone : ℕ) → (step_at branches.old.steps zone).zone < 64 }
     ensures tells { TellsRoutes grid.now (room_of rooms.now) (tree_of branches.new zone false) }
     ensures places { HasPlaces (tree_of branches.new zone false) }
 {

@@ -10,9 +10,9 @@ ghost use Rattle.route_choice.specs.Freshness.{has_room};
 ghost use Rattle.route_tree.specs.Tree.{StaysTold, TellsRoutes, told_route};
 
 use crate::reading::{read_from, read_towards};
-use crate::search::{Branches, search_from, search_towards};
+use crate::search::Branches;
 use std::marker::Model;
-use zone_graph::{Arc, Grid, Rooms};
+use zone_graph::{Arc, Grid, MOST_ZONES, Rooms};
 
 /// The best routes between one zone of a grid and all others, over a row of rooms: to the zone
 /// (`towards`) or from it. It keeps, for each other zone, the step that its best route takes at that
@@ -55,12 +55,26 @@ impl RouteTree {
             towards,
             branches: Branches::new(),
         };
-        if towards {
-            search_towards(grid, rooms, zone, &mut tree.branches);
-        } else {
-            search_from(grid, rooms, zone, &mut tree.branches);
-        }
+        tree.branches.search(grid, rooms, zone, towards);
         tree
+    }
+
+    /// Makes a tree that is there that of the best routes to a zone (`towards`), or from it (not
+    /// `towards`), over arcs that have room, as `new` does: what it told before is gone. It takes no
+    /// memory.
+    ///
+    /// The zone is in the grid, and the rooms are those of its arcs.
+    pub fn remake(&mut self, grid: &Grid, rooms: &Rooms, zone: u32, towards: bool)
+        requires zone { HasZone grid.now zone }
+        requires size { length rooms.now ≡ border_count grid.now }
+        ensures tells { TellsRoutes grid.now (room_of rooms.now) self.new }
+        ensures zone { self.new.zone ≡ zone }
+        ensures towards { self.new.towards ≡ towards }
+    {
+        self.zone = zone;
+        self.towards = towards;
+        self.branches.distances = [None; MOST_ZONES];
+        self.branches.search(grid, rooms, zone, towards);
     }
 
     /// The zone that the routes lead to or from.

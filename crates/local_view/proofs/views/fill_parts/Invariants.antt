@@ -1,6 +1,6 @@
 use Rattle.std.proofs.Common.{◌≡◌, ◌<◌, ℕ, get_or, map}
 use Rattle.order_kinds.specs.declared.side.Side.{Side}
-use Rattle.zone_graph.specs.Graph.{border_count, zone_count}
+use Rattle.zone_graph.specs.Graph.{zone_count}
 use Rattle.local_view.specs.Kept.{AreNext, AreSized, no_part, on_side, part_forgotten}
 use Rattle.local_view.specs.Works.{AllComputed, IsWork}
 use Rattle.local_view.proofs.views.fill_parts.Given as goal
@@ -8,7 +8,7 @@ use Rattle.local_view.proofs.views.fill_parts.Given as goal
 -- the next rows of the parts so far are made
 abbrev pub invariant-loop-part : goal.invariant-loop-part
 invariant-loop-part g l = record {
-  work : IsWork (border_count l.grid) l.work;
+  work : IsWork l.grid l.work;
   all : AllComputed (zone_count l.grid) l.work.computed;
   kept : map part_forgotten l.parts ≡ map part_forgotten l.fn.parts;
   sized : AreSized (zone_count l.grid) l.parts;

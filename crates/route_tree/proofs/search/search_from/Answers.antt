@@ -1,4 +1,4 @@
-use Rattle.std.proofs.Common.{◌∙◌, ◌+◌, inl, inr, false, get_or, sym, ap, subst, refl, arith}
+use Rattle.std.proofs.Common.{rules, ◌∙◌, ◌+◌, inl, inr, false, get_or, sym, ap, subst, refl, arith}
 use Rattle.zone_graph.specs.Rooms.{room_of}
 use Rattle.zone_search.specs.Distance.{arcs_of_distance, directed_room}
 use Rattle.zone_search.proofs.Neighbours.{neighbour_at, neighbour_within}
@@ -12,7 +12,8 @@ pub loop-next-init : goal.loop-next-init
 loop-next-init c =
     subst (λ (s : Search). IsReadyFrom c.args.grid.now (room_of c.args.rooms.now) c.args.zone s 0)
     (sym (begun_over c.args.branches.now c.new-queue.result c.args.zone c.requires.none c.new-queue.ensures.zones c.new-queue.ensures.count))
-    (from_started c.args.grid.now (room_of c.args.rooms.now) c.args.zone c.requires.zone (omega (arith, c.zones-zones.ensures.grid.few_zones, c.requires.zone)))
+    (from_started c.args.grid.now (room_of c.args.rooms.now) c.args.zone c.args.branches.now.steps c.requires.zone (omega (arith, c.zones-zones.ensures.grid.few_zones, c.requires.zone))
+    (search rules) c.requires.within)
 
 pub loop-neighbour-init : goal.loop-neighbour-init
 loop-neighbour-init c = record {

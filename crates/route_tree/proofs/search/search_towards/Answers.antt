@@ -1,7 +1,6 @@
-use Rattle.std.proofs.Common.{◌≡◌, ◌∙◌, ◌+◌, ◌<◌, inl, inr, get_or, sym, ap, subst, refl, arith}
+use Rattle.std.proofs.Common.{rules, ◌∙◌, ◌+◌, ◌<◌, inl, inr, get_or, sym, ap, subst, refl, arith, is_some, ltb-true, unwrap_or}
 use Rattle.zone_graph.specs.declared.route.Arc.{Arc}
 use Rattle.zone_graph.specs.declared.grid.Neighbour.{Neighbour}
-use Rattle.zone_graph.specs.Pour.{opposite_arc}
 use Rattle.zone_graph.specs.Rooms.{room_of}
 use Rattle.zone_graph.proofs.Arcs.{opposite-border}
 use Rattle.zone_search.specs.Distance.{arcs_of_distance}
@@ -9,14 +8,15 @@ use Rattle.zone_search.proofs.Neighbours.{neighbour_at, neighbour_within}
 use Rattle.zone_search.proofs.Searches.{spaces_in}
 use Rattle.route_choice.specs.Freshness.{has_room}
 use Rattle.route_tree.specs.Search.{Search, first_met, least_step, no_step, search_over}
-use Rattle.route_tree.proofs.TowardsSearch.{IsReadyTowards, IsVisitingTowards, begun_over, towards_begins, towards_done, towards_ends, towards_meets, towards_started}
+use Rattle.route_tree.proofs.TowardsSearch.{has_least, IsReadyTowards, IsVisitingTowards, begun_over, towards_begins, towards_done, towards_ends, towards_meets, towards_started}
 use Rattle.route_tree.proofs.search.search_towards.Goals as goal
 
 pub loop-next-init : goal.loop-next-init
 loop-next-init c =
     subst (λ (s : Search). IsReadyTowards c.args.grid.now (room_of c.args.rooms.now) c.args.zone s 0)
     (sym (begun_over c.args.branches.now c.new-queue.result c.args.zone c.requires.none c.new-queue.ensures.zones c.new-queue.ensures.count))
-    (towards_started c.args.grid.now (room_of c.args.rooms.now) c.args.zone c.requires.zone (omega (arith, c.zones-zones.ensures.grid.few_zones, c.requires.zone)))
+    (towards_started c.args.grid.now (room_of c.args.rooms.now) c.args.zone c.args.branches.now.steps c.requires.zone (omega (arith, c.zones-zones.ensures.grid.few_zones, c.requires.zone))
+    (search rules) c.requires.within)
 
 pub loop-neighbour-init : goal.loop-neighbour-init
 loop-neighbour-init c = record {
@@ -31,7 +31,7 @@ pub meet_least-requires-clause-border : goal.meet_least-requires-clause-border
 meet_least-requires-clause-border c =
     let known = (neighbour_at c.args.grid.now _ c.neighbours-neighbour-items.result.now c.loop-neighbour.neighbour-index no_step
     c.zones-zones.ensures.grid.is_graph c.neighbours-neighbour-items.ensures.neighbours c.loop-neighbour-test.true).known in
-    let border = opposite-border c.opposite.result (get_or c.neighbours-neighbour-items.result.now c.loop-neighbour.neighbour-index no_step).arc c.opposite.ensures in
+    let border = opposite-border c.opposite-arc.result (get_or c.neighbours-neighbour-items.result.now c.loop-neighbour.neighbour-index no_step).arc c.opposite-arc.ensures in
     omega (arith, known, border, c.requires.size)
 
 pub meet_least-requires-clause-zone : goal.meet_least-requires-clause-zone
@@ -46,6 +46,14 @@ meet_least-requires-clause-short c =
     let free = c.loop-next.invariant.ready.searching.free in
     omega (arith, e, early, free, c.loop-next-test.true)
 
+pub meet_least-requires-clause-some : goal.meet_least-requires-clause-some
+meet_least-requires-clause-some c = λ some.
+    let least = has_least c.args.grid.now (room_of c.args.rooms.now) c.args.zone (search_over c.loop-neighbour.branches c.loop-neighbour.queue) c.loop-next.next (get_or c.loop-next.queue.zones c.loop-next.next 0)
+    c.unwrap-arcs.result c.neighbours-neighbour-items.result.now c.loop-neighbour.neighbour-index
+    c.zones-zones.ensures.grid c.neighbours-neighbour-items.ensures.neighbours c.loop-neighbour-test.true c.loop-neighbour.invariant.visiting
+    (subst (λ (a : Arc). 0 < room_of c.args.rooms.now a) c.opposite-arc.ensures (ltb-true 0 (room_of c.args.rooms.now c.opposite-arc.result) some)) in
+    ap is_some least.1
+
 pub meet_least-requires-clause-place : goal.meet_least-requires-clause-place
 meet_least-requires-clause-place c = λ free.
     spaces_in c.args.grid.now (room_of c.args.rooms.now) c.args.zone c.loop-neighbour.branches.distances c.loop-neighbour.queue.zones c.loop-neighbour.queue.count _
@@ -59,13 +67,13 @@ loop-neighbour-preserved c = record {
   visiting =
       let neighbour : Neighbour = get_or c.neighbours-neighbour-items.result.now c.loop-neighbour.neighbour-index no_step in
       let meets = towards_meets c.args.grid.now (room_of c.args.rooms.now) c.args.zone (search_over c.loop-neighbour.branches c.loop-neighbour.queue) c.loop-next.next (get_or c.loop-next.queue.zones c.loop-next.next 0)
-      c.unwrap-arcs.result c.neighbours-neighbour-items.result.now c.loop-neighbour.neighbour-index (record { arc = opposite_arc neighbour.arc; zone = get_or c.loop-next.queue.zones c.loop-next.next 0 })
+      c.unwrap-arcs.result c.neighbours-neighbour-items.result.now c.loop-neighbour.neighbour-index
       c.zones-zones.ensures.grid c.neighbours-neighbour-items.ensures.neighbours c.loop-neighbour-test.true c.loop-neighbour.invariant.visiting in
       subst (λ (s : Search). IsVisitingTowards c.args.grid.now (room_of c.args.rooms.now) c.args.zone s c.loop-next.next (get_or c.loop-next.queue.zones c.loop-next.next 0)
       c.unwrap-arcs.result c.neighbours-neighbour-items.result.now (c.loop-neighbour.neighbour-index + 1))
       (sym (c.meet_least.ensures
       ∙ ap (λ (a : Arc). first_met (has_room (room_of c.args.rooms.now) a) (search_over c.loop-neighbour.branches c.loop-neighbour.queue) neighbour.zone (c.unwrap-arcs.result + 1)
-      (least_step c.args.grid.now (room_of c.args.rooms.now) c.loop-neighbour.branches.distances c.unwrap-arcs.result neighbour.zone (record { arc = a; zone = get_or c.loop-next.queue.zones c.loop-next.next 0 }))) c.opposite.ensures)) meets;
+      (unwrap_or (least_step c.args.grid.now (room_of c.args.rooms.now) c.loop-neighbour.branches.distances c.unwrap-arcs.result neighbour.zone) no_step)) c.opposite-arc.ensures)) meets;
   neighbours = c.neighbours-neighbour-items.ensures.neighbours;
 }
 

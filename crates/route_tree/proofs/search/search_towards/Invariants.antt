@@ -1,4 +1,4 @@
-use Rattle.std.proofs.Common.{◌≡◌, ◌-◌, ◌<◌}
+use Rattle.std.proofs.Common.{◌≡◌, ◌-◌}
 use Rattle.zone_graph.specs.Grid.{IsGrid, neighbours_of}
 use Rattle.zone_graph.specs.Rooms.{room_of}
 use Rattle.route_tree.proofs.TowardsSearch.{IsReadyTowards, IsVisitingTowards}

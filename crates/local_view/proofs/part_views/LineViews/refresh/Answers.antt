@@ -1,5 +1,4 @@
-use Rattle.std.proofs.Common.{◌≡◌, ◌∙◌, ◌++◌, List, Some, length, take, ap, sym}
-use Rattle.market_model.specs.declared.reply.ViewRow.{ViewRow}
+use Rattle.std.proofs.Common.{◌≡◌, ◌∙◌, ◌++◌, Some, length, take, ap}
 use Rattle.local_view.specs.Rows.{LineRows, chosen}
 use Rattle.local_view.proofs.Chosen.{made_of, written_whole}
 use Rattle.local_view.proofs.part_views.LineViews.refresh.Goals as goal

@@ -1,11 +1,11 @@
 use Rattle.std.proofs.Common.{◌≡◌, ◌∙◌, ◌<◌, ℕ, Some, false, get_or, subst, sym, ap}
-use Rattle.zone_graph.specs.Graph.{Graph, border_count, zone_count}
+use Rattle.zone_graph.specs.Graph.{Graph, zone_count}
 use Rattle.zone_graph.specs.Rooms.{room_of}
 use Rattle.local_view.specs.Kept.{AreSized, Views, made_after}
 use Rattle.local_view.specs.Nearness.{is_near}
 use Rattle.local_view.proofs.Made.{on_ok}
 use Rattle.local_view.proofs.NearViews.{near_back, near_counted, others_back}
-use Rattle.local_view.proofs.Parts.{inside_back, many_alike, sized_alike, work_itself}
+use Rattle.local_view.proofs.Parts.{inside_back, many_alike, sized_alike}
 use Rattle.local_view.proofs.views.LocalViews.try_refresh_near.Goals as goal
 
 pub invariant_of-self-then-is_ok : goal.invariant_of-self-then-is_ok
@@ -15,7 +15,7 @@ invariant_of-self-then-is_ok g c =
     (many_alike c.as_mut_slice.result.now c.fill_near-filled.new.parts c.fill_near-filled.ensures.kept)
     (sized_alike c.self.inside.zones c.as_mut_slice.result.now c.fill_near-filled.new.parts c.fill_near-filled.ensures.kept
     (subst (AreSized c.self.inside.zones) (sym c.as_mut_slice.ensures.value) c.self.invariant.sized))
-    (work_itself (border_count c.args.grid.now) c.fill_near-filled.new.work c.fill_near-filled.ensures.work)
+    c.fill_near-filled.ensures.work.sound
 
 pub invariant_of-self-else-is_ok : goal.invariant_of-self-else-is_ok
 invariant_of-self-else-is_ok g c =
@@ -24,7 +24,7 @@ invariant_of-self-else-is_ok g c =
     (many_alike c.as_mut_slice.result.now c.fill_near-filled.new.parts c.fill_near-filled.ensures.kept)
     (sized_alike c.self.inside.zones c.as_mut_slice.result.now c.fill_near-filled.new.parts c.fill_near-filled.ensures.kept
     (subst (AreSized c.self.inside.zones) (sym c.as_mut_slice.ensures.value) c.self.invariant.sized))
-    (work_itself (border_count c.args.grid.now) c.fill_near-filled.new.work c.fill_near-filled.ensures.work)
+    c.fill_near-filled.ensures.work.sound
 
 pub returns-then-is_ok-clause-next : goal.returns-then-is_ok-clause-next
 returns-then-is_ok-clause-next g c =

@@ -1,4 +1,4 @@
-use Rattle.std.proofs.Common.{rules, ◌≡◌, ◌≤◌, length}
+use Rattle.std.proofs.Common.{rules, ◌≤◌, length}
 use Rattle.route_choice.proofs.Nearer.{known_neighbours}
 use Rattle.route_tree.proofs.search.Branches.meet_least.Goals as goal
 
