@@ -13,3 +13,5 @@ mod reach_tests;
 mod route_tests;
 #[cfg(test)]
 mod search_tests;
+#[cfg(test)]
+mod tree_tests;
