@@ -1,7 +1,8 @@
 -- Lists that are gone through place by place, and the seats of desks in them.
 use Rattle.std.proofs.Common.{◌≡◌, ◌∙◌, inl, inr, ℕ, zero, suc, ◌+◌, ◌<◌, ◌≤◌, ◌^◌, List, [], ◌∷◌, ◌++◌, map, drop, take, length, Option, None, Some, unwrap_or, refl, sym, ap, subst, arith, add-one, append_assoc, set, slice_get}
 use Rattle.std.specs.Option.{option_map}
-use Rattle.std.proofs.lemmas.List.{drop-set-lt, length-map, map-append, take_more_set}
+use Rattle.std.proofs.lemmas.List.{drop-set-lt, length-map, map-append, set-get_or, take_more_set}
+use Rattle.std.proofs.lemmas.Option.{get_or_from_slice_get}
 use Rattle.zone_graph.specs.Route.{IsIn}
 use Rattle.atomic_table.specs.Table.{Me}
 use Rattle.market_model.specs.declared.entry.Entry.{Entry}
@@ -71,6 +72,10 @@ hours-set (other ∷ seats) zero seat changed at same =
     let own : other.hour ≡ seat.hour = ap (λ found. unwrap_or (option_map (λ (s : DeskSeatState). s.hour) found) 0) at in
     ap (λ hour. hour ∷ hours_of seats) (same ∙ sym own)
 hours-set (other ∷ seats) (suc i) seat changed at same = ap (λ hours. other.hour ∷ hours) (hours-set seats i seat changed at same)
+
+-- an item that is put where it is already changes nothing
+pub put-back : {X : Type 0} (xs : List X) (i : ℕ) (x : X) → slice_get xs i ≡ Some x → set xs i x ≡ xs
+put-back xs i x at = ap (set xs i) (sym (get_or_from_slice_get xs i x x at)) ∙ set-get_or xs i x
 
 pub IsIn-get : {X : Type 0} (xs : List X) (i : ℕ) (x : X) → slice_get xs i ≡ Some x → IsIn x xs
 IsIn-get [] i x at = cc

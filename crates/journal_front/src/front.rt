@@ -9,7 +9,7 @@ ghost use Rattle.journal_front.specs.declared.seats.PassSeat.{PassSeat};
 ghost use Rattle.journal_front.specs.Fronts.{IsDeskOf, IsJournalOf, IsOpened, IsPassOf, touched_in_order, with_entries};
 ghost use Rattle.journal_front.specs.Seats.{hours_of};
 
-use crate::desks::{deal_desks, gather_desks};
+use crate::desks::{compare_desks, deal_desks, gather_desks};
 use crate::hours::HourSeats;
 use crate::opening::{first_desks, first_passes};
 use crate::places::{add, deal, gather, learn, look};
@@ -97,6 +97,19 @@ impl Front {
         pass.badge = deal(word, &mut journal.place);
         pass.made += 1;
         deal_desks(word, &mut journal.place, hours);
+    }
+
+    /// Tells how the seats of some hours stand to the journal, whose seat it is given: each list is a beginning of the
+    /// journal, after which the journal has no entry that touches the hour. All of them stay as they were.
+    pub fn compare<H: HourSeats>(&self, journal: &mut JournalSeat, hours: &mut H)
+        requires journal { IsJournalOf self.now journal.old }
+        requires seats { (seat : DeskSeat) → IsIn seat (H.seats hours.old) → IsDeskOf self.now seat }
+        ensures current { (seat : DeskSeat) → IsIn seat (H.seats hours.old) → IsCurrent self.now.setup (who.Hour seat.hour) seat.entries journal.old.entries }
+        ensures journal { journal.new ≡ journal.old }
+        ensures desks { H.seats hours.new ≡ H.seats hours.old }
+        ensures rest { H.rest hours.new ≡ H.rest hours.old }
+    {
+        compare_desks(&self.table.shared, &mut journal.place, hours);
     }
 
     /// How many entries the journal has at this moment: at least as many as the pass's list, and no fewer
