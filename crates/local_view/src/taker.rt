@@ -1,6 +1,6 @@
 //! A taker of any quantity at any price, which pours what it can from one order after the other.
 
-ghost use Rattle.std.specs.Prelude.{◌≡◌, ◌<◌, ◌≤◌, None, Some, IfNone, IfSome, length, take};
+ghost use Rattle.std.specs.Prelude.{◌≡◌, ◌<◌, ◌≤◌, ℕ, None, Some, IfNone, IfSome, length, take};
 ghost use Rattle.std.specs.List.{list_all};
 ghost use Rattle.order_kinds.specs.Same.{same_side};
 ghost use Rattle.order_kinds.specs.declared.side.Side.TheVariants.{Sell};
@@ -13,7 +13,7 @@ ghost use Rattle.route_choice.specs.Freshness.{has_room};
 ghost use Rattle.route_tree.specs.Tree.{told_route};
 ghost use Rattle.route_choice.specs.Poured.{AreRoomsAfter, lots_of};
 ghost use Rattle.local_view.specs.Poured.{CarriesNext, leg_with, legs_with};
-ghost use Rattle.local_view.specs.Takers.{IsWalking, best_between};
+ghost use Rattle.local_view.specs.Takers.{IsTaker, IsWalking, best_between};
 
 use crate::walk::Walk;
 use order_kinds::Side;
@@ -92,9 +92,22 @@ impl Taker {
         let lots = carried(&walk.rooms, left, route);
         carry(&mut walk.rooms, route, lots);
         if !have_room(&walk.rooms, route) {
-            self.own = Some(RouteTree::new(grid, &walk.rooms, self.zone, is_sell(self.side)));
+            self.search(grid, &walk.rooms);
         }
         Some(lots)
+    }
+
+    // Searches the routes of the taker's own zone. It is no part of the code around its calls, where the
+    // tree's places would be cleared for every leg.
+    #[inline(never)]
+    fn search(&mut self, grid: &Grid, rooms: &Rooms)
+        requires zone { HasZone grid.now self.old.zone }
+        requires size { length rooms.now ≡ border_count grid.now }
+        ensures side { self.new.side ≡ self.old.side }
+        ensures zone { self.new.zone ≡ self.old.zone }
+        ensures own { (start : AnArc → ℕ) → IsTaker grid.now start (room_of rooms.now) self.new }
+    {
+        self.own = Some(RouteTree::new(grid, rooms, self.zone, is_sell(self.side)));
     }
 
     // Finds the best route between the taker and an order in another zone: how many arcs it has, which are

@@ -1,7 +1,9 @@
 use Rattle.std.proofs.Common.{◌≡◌, ◌∙◌, ℕ, List, Some, take, refl, subst, sym, arith}
+use Rattle.order_kinds.specs.declared.side.Side.{Side}
 use Rattle.zone_graph.specs.Rooms.{room_of}
 use Rattle.local_view.specs.Takers.{best_between}
-use Rattle.local_view.proofs.Takers.{arcs_known, can_carry, fit_after, taker-anew, taker-stays}
+use Rattle.local_view.specs.Trees.{AreTrees}
+use Rattle.local_view.proofs.Takers.{arcs_known, can_carry, fit_after, taker-stays}
 use Rattle.local_view.proofs.taker.Taker.take_next.Goals as goal
 
 pub carried-lots-requires : goal.carried-lots-requires
@@ -33,10 +35,9 @@ returns-then-not-have_room-clause-walking c = record {
       (take c.in-Some.count c.route_to.new.walk.route)
       (subst (λ (rooms : List (ℕ × ℕ)). best_between c.args.grid.now (room_of rooms) c.args.self.now.side c.args.self.now.zone c.args.other ≡ Some (take c.in-Some.count c.route_to.new.walk.route)) (sym c.route_to.ensures.rooms) c.in-Some.ensures.some)
       c.carry.new.rooms c.carried-lots.result c.carried-lots.ensures c.carry.ensures.rooms;
-  trees = c.route_to.ensures.walking.trees;
+  trees = subst (λ (side : Side). AreTrees c.args.grid.now (room_of c.args.of_part.now) side c.route_to.new.walk.trees) (sym c.search.ensures.side) c.route_to.ensures.walking.trees;
   places = c.route_to.ensures.walking.places;
-  knows = taker-anew c.args.grid.now (room_of c.args.of_part.now) (room_of c.carry.new.rooms) c.args.self.now.side c.args.self.now.zone c.new.result
-      c.requires.walking.knows.there c.new.ensures.tells c.new.ensures.zone (c.new.ensures.towards ∙ c.is_sell.ensures);
+  knows = c.search.ensures.own (room_of c.args.of_part.now);
 }
 
 pub returns-else-not-have_room-clause-walking : goal.returns-else-not-have_room-clause-walking
