@@ -1,0 +1,6 @@
+-- What the contracts of this crate cite.
+pub mod Setups
+pub mod Shared
+pub mod Planning
+pub mod Submitting
+pub mod Venues
