@@ -1,4 +1,5 @@
 -- What the contracts of this crate cite.
+pub mod Faults
 pub mod Setups
 pub mod Shared
 pub mod Planning

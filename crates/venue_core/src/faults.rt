@@ -3,6 +3,7 @@
 ghost use Rattle.std.specs.Prelude.{◌≡◌, Some};
 ghost use Rattle.venue_core.specs.declared.faults.OpenFault.TheVariants as opening;
 ghost use Rattle.venue_core.specs.declared.faults.SubmitFault.TheVariants as submitting;
+ghost use Rattle.venue_core.specs.Faults.{opening_text, submitting_text};
 
 use std::error::Error;
 use std::fmt;
@@ -54,6 +55,8 @@ impl From<NoMemory> for SubmitFault {
 }
 
 impl fmt::Display for OpenFault {
+    ghost output = { λ fault. Some (opening_text fault) };
+
     fn fmt<W: fmt::Write>(&self, f: &mut fmt::Formatter<W>) -> fmt::Result {
         match self {
             OpenFault::BadSetup(fault) => write!(f, "{fault}"),
@@ -63,6 +66,8 @@ impl fmt::Display for OpenFault {
 }
 
 impl fmt::Display for SubmitFault {
+    ghost output = { λ fault. Some (submitting_text fault) };
+
     fn fmt<W: fmt::Write>(&self, f: &mut fmt::Formatter<W>) -> fmt::Result {
         match self {
             SubmitFault::JournalFull { entries } => {

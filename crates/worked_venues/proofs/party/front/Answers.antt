@@ -1,4 +1,4 @@
-use Rattle.std.proofs.Common.{◌∙◌, get_or, ap, subst, sym}
+use Rattle.std.proofs.Common.{◌∙◌, ap, subst, sym}
 use Rattle.trader_pass.specs.Passes.{IsOf, PassState}
 use Rattle.worked_venues.proofs.Passes.{all-set, own-pass}
 use Rattle.worked_venues.proofs.party.front.Goals as goal
