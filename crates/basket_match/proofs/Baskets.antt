@@ -24,11 +24,11 @@ use Rattle.market_model.specs.Refusals.{basket_order_refusal, basket_refusal, re
 use Rattle.market_model.specs.Rules.{first_broken}
 use Rattle.market_model.specs.Sweep.{all_parts, first_answer, or_else}
 use Rattle.plain_refusals.specs.State.{filling_rules, state_refusal}
-use Rattle.joint_laws.specs.Baskets as baskets
-use Rattle.joint_laws.specs.ByHour.{hour_events}
-use Rattle.joint_laws.proofs.BasketHours.{done_by_hour, have_hours, refused_by_hour}
-use Rattle.joint_laws.proofs.RefusedByHours.{closed_alone}
-use Rattle.hour_desk.specs.Desk.{DeskState, planning, with_nothing_planned}
+use Rattle.joint_plan.specs.Baskets as baskets
+use Rattle.joint_plan.specs.ByHour.{hour_events}
+use Rattle.joint_plan.proofs.BasketHours.{done_by_hour, have_hours, refused_by_hour}
+use Rattle.joint_plan.proofs.RefusedByHours.{closed_alone}
+use Rattle.joint_plan.specs.Desk.{DeskState, planning, with_nothing_planned}
 use Rattle.joint_plan.specs.Refusing.{closed_refusal, is_closed}
 use Rattle.joint_plan.specs.Rows as rows
 use Rattle.joint_plan.proofs.Asked.{asked-hours, ready-history, ready-is, ready-over}

@@ -23,8 +23,8 @@ use Rattle.market_model.specs.Rules.{ascends, early_refusal, first_broken, has_r
 use Rattle.market_model.specs.Sweep.{or_else}
 use Rattle.market_laws.proofs.Admitted.{NamesWhatIs, NumbersAreGood, all-pass}
 use Rattle.market_laws.proofs.Replies.{kills-peaks}
-use Rattle.desk_laws.proofs.Admitting.{early-none}
-use Rattle.joint_laws.specs.Baskets as baskets
+use Rattle.joint_plan.proofs.Admitting.{early-none}
+use Rattle.joint_plan.specs.Baskets as baskets
 
 -- none of some rules is broken
 abbrev AllHold : List (Unit {0} → Option Refusal) → Type 0

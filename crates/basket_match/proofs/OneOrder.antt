@@ -24,7 +24,7 @@ use Rattle.market_model.specs.Room.{is_closed_phase, phase_of}
 use Rattle.market_model.specs.Rules.{early_refusal, first_broken, unless}
 use Rattle.market_model.specs.Sweep.{all_parts, or_else}
 use Rattle.plain_refusals.specs.State.{filling_rules, state_refusal}
-use Rattle.hour_desk.specs.Desk.{DeskState}
+use Rattle.joint_plan.specs.Desk.{DeskState}
 use Rattle.joint_plan.proofs.Histories.{split}
 use Rattle.basket_match.specs.Orders.{CanEnter, of_basket, reply_on}
 

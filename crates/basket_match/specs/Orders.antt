@@ -16,7 +16,7 @@ use Rattle.market_model.specs.Market.{refused_or}
 use Rattle.market_model.specs.Refusals.{basket_order_refusal}
 use Rattle.market_model.specs.Rules.{early_refusal}
 use Rattle.market_model.specs.Sweep.{all_parts}
-use Rattle.hour_desk.specs.Desk.{DeskState, IsAfterJournal}
+use Rattle.joint_plan.specs.Desk.{DeskState, IsAfterJournal}
 use Rattle.joint_plan.specs.Refusing.{is_closed}
 
 -- a fill-or-kill order that breaks no rule by itself can be planned on the desk of its hour, which is not closed

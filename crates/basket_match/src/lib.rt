@@ -10,3 +10,4 @@ mod basket;
 mod orders;
 
 pub use basket::plan_basket;
+pub use joint_plan::{Desks, HourDesk, carry_all, plan_joint, refuse, undo_all};

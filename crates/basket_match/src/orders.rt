@@ -4,7 +4,7 @@ ghost use Rattle.std.specs.Prelude.{◌≡◌, ◌<◌, IfOk, OnErr, OnOk, Some,
 ghost use Rattle.market_model.specs.declared.command.Command.TheVariants as commands;
 ghost use Rattle.market_model.specs.History.{events_of};
 ghost use Rattle.market_model.specs.Market.{reply_to};
-ghost use Rattle.hour_desk.specs.Desk.{DeskState, planning, with_nothing_planned};
+ghost use Rattle.joint_plan.specs.Desk.{DeskState, planning, with_nothing_planned};
 ghost use Rattle.basket_match.specs.Orders as orders;
 
 use joint_plan::Desks;

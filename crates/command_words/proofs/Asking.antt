@@ -8,11 +8,19 @@ use Rattle.std.proofs.lemmas.Slice.Eq.{bytes_eq-Decides}
 use Rattle.command_words.specs.Words.{IsInRange, count_of, task_of}
 use Rattle.command_words.specs.declared.words.Task.TheVariants as task
 use Rattle.command_words.proofs.Counts.{is-numeral, numeral-is-text, spelled}
-use Rattle.command_words.proofs.Programs.{some-count}
+use Rattle.command_words.proofs.Programs.{one-word, some-count}
 
 replay-is-text : IsUtf8 (codes "replay")
 unfolding encode_utf8
 replay-is-text = (codes "replay", (refl, refl))
+
+audit-is-text : IsUtf8 (codes "audit")
+unfolding encode_utf8
+audit-is-text = (codes "audit", (refl, refl))
+
+ship-is-text : IsUtf8 (codes "ship")
+unfolding encode_utf8
+ship-is-text = (codes "ship", (refl, refl))
 
 generate-is-text : IsUtf8 (codes "generate")
 unfolding encode_utf8
@@ -21,13 +29,11 @@ generate-is-text = (codes "generate", (refl, refl))
 -- each of the words is text
 pub asking-is-text : (words : List (List ℕ)) → is_some (task_of words) ≡ true → (i : ℕ) (d : List ℕ) → i < length words → IsUtf8 (get_or words i d)
 asking-is-text [] asked = absurd (true≢false (sym asked))
-asking-is-text (word ∷ []) asked = by (bytes_eq word (codes "replay")) refl asked
+asking-is-text (word ∷ []) asked = only
   where
-    by : (b : Bool) → bytes_eq word (codes "replay") ≡ b → is_some (if b then Some task.Replay else None) ≡ true
-        → (i : ℕ) (d : List ℕ) → i < 1 → IsUtf8 (get_or (word ∷ []) i d)
-    by true same asked zero d within = subst IsUtf8 (sym ((bytes_eq-Decides word (codes "replay")).0 same)) replay-is-text
-    by true same asked (suc i) d within = absurd (omega (arith, within))
-    by false same asked i d within = absurd (true≢false (sym asked))
+    only : (i : ℕ) (d : List ℕ) → i < 1 → IsUtf8 (get_or (word ∷ []) i d)
+    only zero d within = one-word IsUtf8 replay-is-text audit-is-text ship-is-text word asked
+    only (suc i) d within = absurd (omega (arith, within))
 asking-is-text (word ∷ count ∷ []) asked = by (bytes_eq word (codes "generate")) refl asked
   where
     by : (b : Bool) → bytes_eq word (codes "generate") ≡ b → is_some (if b then option_map task.Generate (count_of count) else None) ≡ true
@@ -43,11 +49,13 @@ asking-is-text (word ∷ count ∷ more ∷ words) asked = absurd (true≢false 
 -- a number of commands that is asked for is in range
 pub asked_in_range : (words : List (List ℕ)) → IsInRange (task_of words)
 asked_in_range [] = tt
-asked_in_range (word ∷ []) = one (bytes_eq word (codes "replay"))
+asked_in_range (word ∷ []) = one (bytes_eq word (codes "replay")) (bytes_eq word (codes "audit")) (bytes_eq word (codes "ship"))
   where
-    one : (b : Bool) → IsInRange (if b then Some task.Replay else None)
-    one true = tt
-    one false = tt
+    one : (a b c : Bool) → IsInRange (if a then Some task.Replay else if b then Some task.Audit else if c then Some task.Ship else None)
+    one true b c = tt
+    one false true c = tt
+    one false false true = tt
+    one false false false = tt
 asked_in_range (word ∷ count ∷ []) = two (bytes_eq word (codes "generate"))
   where
     counted : (o : Option ℕ) → count_of count ≡ o → IsInRange (option_map task.Generate o)

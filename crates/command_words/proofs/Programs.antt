@@ -8,7 +8,7 @@ use Rattle.std.proofs.lemmas.Slice.Eq.{bytes_eq-Decides}
 use Rattle.clap.specs.Words.{is_simple, subcommand_of, takes}
 use Rattle.clap.proofs.OnLiterals.{clap_on_literals}
 use Rattle.command_words.specs.Matches.{program, task_matched}
-use Rattle.command_words.specs.Words.{count_of, task_of}
+use Rattle.command_words.specs.Words.{count_of, task_of, task_of_word}
 use Rattle.command_words.specs.declared.words.Task.TheVariants as task
 use Rattle.command_words.proofs.Counts.{begins, spelled}
 
@@ -19,11 +19,39 @@ IsParsed words = (takes program words ≡ true) × (task_matched (subcommand_of 
 pub program-simple : is_simple program ≡ true
 program-simple = refl
 
--- ---- the word `replay`
+-- ---- one word
 
 replay-parsed : IsParsed (codes "replay" ∷ [])
 unfolding clap_on_literals
 replay-parsed = (refl, refl)
+
+audit-parsed : IsParsed (codes "audit" ∷ [])
+unfolding clap_on_literals
+audit-parsed = (refl, refl)
+
+ship-parsed : IsParsed (codes "ship" ∷ [])
+unfolding clap_on_literals
+ship-parsed = (refl, refl)
+
+-- what holds of the three words holds of each one that asks for something
+pub one-word : (P : List ℕ → Type 0) → P (codes "replay") → P (codes "audit") → P (codes "ship")
+    → (word : List ℕ) → is_some (task_of_word word) ≡ true → P word
+one-word P replay audit ship word asked = first (bytes_eq word (codes "replay")) refl asked
+  where
+    third : (b : Bool) → bytes_eq word (codes "ship") ≡ b → is_some (if b then Some task.Ship else None) ≡ true → P word
+    third true same asked = subst P (sym ((bytes_eq-Decides word (codes "ship")).0 same)) ship
+    third false same asked = absurd (true≢false (sym asked))
+
+    second : (b : Bool) → bytes_eq word (codes "audit") ≡ b
+        → is_some (if b then Some task.Audit else if bytes_eq word (codes "ship") then Some task.Ship else None) ≡ true → P word
+    second true same asked = subst P (sym ((bytes_eq-Decides word (codes "audit")).0 same)) audit
+    second false same asked = third (bytes_eq word (codes "ship")) refl asked
+
+    first : (b : Bool) → bytes_eq word (codes "replay") ≡ b
+        → is_some (if b then Some task.Replay else if bytes_eq word (codes "audit") then Some task.Audit
+        else if bytes_eq word (codes "ship") then Some task.Ship else None) ≡ true → P word
+    first true same asked = subst P (sym ((bytes_eq-Decides word (codes "replay")).0 same)) replay
+    first false same asked = second (bytes_eq word (codes "audit")) refl asked
 
 -- ---- `generate` and a number
 
@@ -67,11 +95,7 @@ some-count (Some n) asked = (n, refl)
 
 pub parses : (words : List (List ℕ)) → is_some (task_of words) ≡ true → IsParsed words
 parses [] asked = absurd (true≢false (sym asked))
-parses (word ∷ []) asked = by (bytes_eq word (codes "replay")) refl asked
-  where
-    by : (b : Bool) → bytes_eq word (codes "replay") ≡ b → is_some (if b then Some task.Replay else None) ≡ true → IsParsed (word ∷ [])
-    by true same asked = subst (λ w. IsParsed (w ∷ [])) (sym ((bytes_eq-Decides word (codes "replay")).0 same)) replay-parsed
-    by false same asked = absurd (true≢false (sym asked))
+parses (word ∷ []) asked = one-word (λ w. IsParsed (w ∷ [])) replay-parsed audit-parsed ship-parsed word asked
 parses (word ∷ count ∷ []) asked = by (bytes_eq word (codes "generate")) refl asked
   where
     by : (b : Bool) → bytes_eq word (codes "generate") ≡ b → is_some (if b then option_map task.Generate (count_of count) else None) ≡ true

@@ -4,7 +4,7 @@ use Rattle.std.specs.Option.{option_and_then, option_map}
 use Rattle.std.specs.Str.{bytes_eq}
 use Rattle.clap.specs.Words.{App, Row, Text, first_of, new_app, new_rule, with_rule, with_subcommand}
 use Rattle.clap.specs.Simple.{on_top}
-use Rattle.command_words.specs.Words.{count_of}
+use Rattle.command_words.specs.Words.{count_of, task_of_word}
 use Rattle.command_words.specs.declared.words.Task.{Task}
 use Rattle.command_words.specs.declared.words.Task.TheVariants as task
 
@@ -16,16 +16,30 @@ replay = new_app (codes "replay")
 abbrev pub generate : App
 generate = with_rule (new_app (codes "generate")) (record (new_rule (codes "N")) { required = true })
 
--- the command line of the program: one of these words, and no options
-abbrev pub program : App
-program = with_subcommand (with_subcommand top replay.top) generate.top
+-- a command line with these words, and no options
+abbrev pub session_words : App
+session_words = with_subcommand (with_subcommand top replay.top) generate.top
   where
     top : App
     top = on_top (λ shape. record shape { no_binary_name = true; disable_help_flag = true; disable_help_subcommand = true }) (new_app (codes "sidc"))
+
+-- the words `audit` and `ship`, with nothing behind them
+abbrev pub audit : App
+audit = new_app (codes "audit")
+
+abbrev pub ship : App
+ship = new_app (codes "ship")
+
+abbrev pub with_record_words : App → App
+with_record_words line = with_subcommand (with_subcommand line audit.top) ship.top
+
+-- the command line of the program
+abbrev pub program : App
+program = with_record_words session_words
 
 -- what the matches ask for, if they ask for anything
 abbrev pub task_matched : Option (Text × List Row) → Option Task
 task_matched None = None
 task_matched (Some (name, rows)) =
-    if bytes_eq name (codes "replay") then Some task.Replay
-    else option_map task.Generate (option_and_then count_of (first_of (codes "N") rows))
+    if bytes_eq name (codes "generate") then option_map task.Generate (option_and_then count_of (first_of (codes "N") rows))
+    else task_of_word name

@@ -5,7 +5,7 @@ ghost use Rattle.clap.specs.Words.{app_of, found_of, first_of, kind_of, rows_of,
 ghost use Rattle.command_words.specs.Matches as asked;
 ghost use Rattle.command_words.specs.Words as meaning;
 
-use crate::words::{Task, count_of, is_task};
+use crate::words::{Task, count_of, is_task, task_of_word};
 use clap::error::ErrorKind;
 use clap::{Arg, ArgMatches, Command, Error};
 use std::alloc::{AllocError, Global};
@@ -61,6 +61,14 @@ fn matches_of<'a>(alloc: Global, words: &'a [&'a str]) -> Result<ArgMatches<'a>,
 fn program<'a>(alloc: Global) -> Result<Command<'a>, AllocError>
     ensures { IfOk result (λ command. app_of command ≡ asked.program) }
 {
+    let line = session_words(alloc)?;
+    with_record_words(alloc, line)
+}
+
+// The command line with the words that play a session alone.
+fn session_words<'a>(alloc: Global) -> Result<Command<'a>, AllocError>
+    ensures { IfOk result (λ command. app_of command ≡ asked.session_words) }
+{
     let replay = Command::new(alloc, "replay");
     let generate = Command::new(alloc, "generate").arg(Arg::new(alloc, "N").required(true))?;
     Command::new(alloc, "sidc")
@@ -71,16 +79,25 @@ fn program<'a>(alloc: Global) -> Result<Command<'a>, AllocError>
         .subcommand(generate)
 }
 
+// The same command line with the words that read a record.
+fn with_record_words<'a>(alloc: Global, line: Command<'a>) -> Result<Command<'a>, AllocError>
+    ensures { IfOk result (λ command. app_of command ≡ asked.with_record_words (app_of line.entry)) }
+{
+    let audit = Command::new(alloc, "audit");
+    let ship = Command::new(alloc, "ship");
+    line.subcommand(audit)?.subcommand(ship)
+}
+
 // What the matches ask for.
 fn task_matched(matches: &ArgMatches) -> Option<Task>
     ensures { result ≡ asked.task_matched (subcommand_rows_of matches.now) }
 {
     let (name, rest) = matches.subcommand()?;
-    if name == "replay" {
-        return Some(Task::Replay);
+    if name == "generate" {
+        let commands = commands_matched(rest)?;
+        return Some(Task::Generate { commands });
     }
-    let commands = commands_matched(rest)?;
-    Some(Task::Generate { commands })
+    task_of_word(name.as_bytes())
 }
 
 // The number of commands behind `generate`.

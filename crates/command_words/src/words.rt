@@ -12,6 +12,10 @@ use zone_graph::Word;
 pub enum Task {
     /// `replay`: plays a session in the order of its lines, and writes the journal.
     Replay,
+    /// `audit`: reads a session and its journal, and says how many entries it has where it is legal.
+    Audit,
+    /// `ship`: reads a session and its journal, and writes the schedule that follows from it.
+    Ship,
     /// `generate N`: plays the session that is generated for so many commands, and writes the
     /// summary of its journal.
     Generate {
@@ -38,11 +42,26 @@ pub(crate) fn is_task(words: &[Word]) -> bool
     ensures { result ≡ is_some (meaning.task_of words.now) }
 {
     match words {
-        [word] => word.bytes() == b"replay".as_slice(),
+        [word] => task_of_word(word.bytes()).is_some(),
         [word, count] => {
             word.bytes() == b"generate".as_slice() && count_of(count.bytes()).is_some()
         }
         _ => false,
+    }
+}
+
+/// What one word asks for.
+pub(crate) fn task_of_word(word: &[u8]) -> Option<Task>
+    ensures { result ≡ meaning.task_of_word word.now }
+{
+    if word == b"replay".as_slice() {
+        Some(Task::Replay)
+    } else if word == b"audit".as_slice() {
+        Some(Task::Audit)
+    } else if word == b"ship".as_slice() {
+        Some(Task::Ship)
+    } else {
+        None
     }
 }
 

@@ -3,7 +3,7 @@ use Rattle.std.proofs.Common.{◌≡◌, ◌≢◌, ◌∙◌, ℕ, zero, suc, �
 use Rattle.std.proofs.lemmas.Option.{slice_get-get_or}
 use Rattle.market_model.specs.declared.hours.Hours.{Hours}
 use Rattle.market_model.specs.HourSet.{has_hour}
-use Rattle.hour_desk.specs.Desk.{DeskState}
+use Rattle.basket_match.specs.Desk.{DeskState}
 use Rattle.day_desks.specs.Day.{DayState, chosen_from, chosen_of, place_from, put_from, with_chosen}
 
 -- what is left of a list from a place on begins with the item there

@@ -1,7 +1,7 @@
 -- Desks that are chosen among those of a day, and the others.
 use Rattle.std.proofs.Common.{◌≡◌, ℕ, zero, suc, ◌+◌, Bool, true, false, List, [], ◌∷◌, refl, ap, slice_set}
 use Rattle.market_model.specs.HourSet.{has_hour}
-use Rattle.hour_desk.specs.Desk.{DeskState}
+use Rattle.basket_match.specs.Desk.{DeskState}
 use Rattle.day_desks.specs.Day.{DayState, chosen_from, others_from, others_of, put_from, with_chosen}
 
 -- a chosen desk is put in at its place among them

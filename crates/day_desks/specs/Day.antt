@@ -4,7 +4,7 @@ use Rattle.std.specs.List.{range_with_len}
 use Rattle.zone_graph.specs.Graph.{Graph}
 use Rattle.market_model.specs.declared.hours.Hours.{Hours}
 use Rattle.market_model.specs.HourSet.{has_hour}
-use Rattle.hour_desk.specs.Desk.{DeskState, empty_desk}
+use Rattle.basket_match.specs.Desk.{DeskState, empty_desk}
 
 -- a desk for each hour, from the first hour on, and the hours that are chosen
 pub record DayState : Type 0 where

@@ -2,12 +2,11 @@
 
 ghost use Rattle.std.specs.Prelude.{◌≡◌, ℕ, ◌+◌, ◌-◌, ◌<◌, ◌≤◌, Some, IfOk, length, slice_get};
 ghost use Rattle.std.specs.Borrow.{Lends, sem};
-ghost use Rattle.hour_desk.specs.contracts.desk.HourDesk.{the_row};
+ghost use Rattle.basket_match.specs.HourDesk.{the_row};
 ghost use Rattle.market_model.specs.HourSet.{has_hour};
 ghost use Rattle.day_desks.specs.Day as days;
 
-use hour_desk::HourDesk;
-use joint_plan::Desks;
+use basket_match::{Desks, HourDesk};
 use market_model::Hours;
 use std::alloc::Global;
 use std::marker::Model;

@@ -3,5 +3,6 @@
 
 mod day;
 
+pub use basket_match::{Desks, HourDesk, carry_all, plan_basket, plan_joint, undo_all};
 pub use day::DayDesks;
 pub use zone_graph::NoMemory;

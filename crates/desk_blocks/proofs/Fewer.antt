@@ -20,8 +20,8 @@ use Rattle.market_laws.proofs.Counts.{fewer-lt}
 use Rattle.market_laws.proofs.Members.{from_first_answer}
 use Rattle.market_laws.proofs.Repeats.{map-some}
 use Rattle.joint_laws.specs.EnteringBlocks.{AreClosed}
-use Rattle.kept_hour.proofs.DealtEntries.{fewer-without}
-use Rattle.kept_hour.proofs.MadeDeals.{both-out}
+use Rattle.desk_changes.proofs.DealtEntries.{fewer-without}
+use Rattle.desk_changes.proofs.MadeDeals.{both-out}
 
 -- a book without the number of a block in it
 one-fewer : (book : List RestingBlock) (block : RestingBlock) → IsIn block book → length (without book block.number) < length book

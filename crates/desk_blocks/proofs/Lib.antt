@@ -8,3 +8,7 @@ pub mod Periods
 pub mod Fewer
 pub mod Making
 pub mod NextDeals
+-- What stands below and is passed on to the crates above.
+pub use Rattle.desk_changes.proofs.Planning as DeskPlanning
+pub use Rattle.desk_changes.proofs.Lists
+pub use Rattle.desk_changes.proofs.PartNumbers

@@ -9,8 +9,8 @@ use Rattle.market_model.specs.Board.{IsHourOf, with_events}
 use Rattle.hour_changes.proofs.NextEvents.{first_of_many}
 use Rattle.joint_laws.specs.EnteringBlocks.{AreClosed}
 use Rattle.joint_laws.specs.MatchingBlocks.{legs_of}
-use Rattle.kept_hour.specs.Planned.{CanFollow, after_events}
-use Rattle.kept_hour.specs.State.{HourState, with_board, with_hand}
+use Rattle.desk_changes.specs.Planned.{CanFollow, after_events}
+use Rattle.desk_changes.specs.State.{HourState, with_board, with_hand}
 use Rattle.desk_blocks.specs.Plans.{CloseInTurn}
 use Rattle.desk_blocks.proofs.Periods.{legs-more}
 

@@ -15,8 +15,8 @@ use Rattle.market_model.specs.declared.setup.Setup.{Setup}
 use Rattle.market_model.specs.Board.{IsHourOf}
 use Rattle.joint_laws.specs.EnteringBlocks.{AreClosed}
 use Rattle.joint_laws.specs.MatchingBlocks.{legs_of}
-use Rattle.kept_hour.specs.Planned.{CanFollow, after_events}
-use Rattle.kept_hour.specs.State.{HourState}
+use Rattle.desk_changes.specs.Planned.{CanFollow, after_events}
+use Rattle.desk_changes.specs.State.{HourState}
 use Rattle.desk_blocks.specs.Periods.{AreDealsOf, AreRoomsAfter, IsFirstOfPeriod, IsPeriodOf}
 use Rattle.desk_blocks.specs.Rooms.{CanCarryEach}
 use Rattle.desk_blocks.proofs.Fewer.{fewer-blocks}

@@ -10,9 +10,9 @@ use Rattle.sweep_core.specs.Sweeping.{swept}
 use Rattle.block_match.specs.declared.deal.BlockDeal.{BlockDeal}
 use Rattle.block_match.specs.Market.{deal_events}
 use Rattle.joint_laws.specs.EnteringBlocks.{AreClosed}
-use Rattle.kept_hour.specs.Deals.{ClosesBoth, with_entry}
-use Rattle.kept_hour.specs.Planned.{CanFollow, IsUnplanned, after_events, with_planned}
-use Rattle.kept_hour.specs.State.{HourState, after_event, block_entry_of, undone, with_board, with_hand}
+use Rattle.desk_changes.specs.Deals.{ClosesBoth, with_entry}
+use Rattle.desk_changes.specs.Planned.{CanFollow, IsUnplanned, after_events, with_planned}
+use Rattle.desk_changes.specs.State.{HourState, after_event, block_entry_of, undone, with_board, with_hand}
 use Rattle.order_kinds.specs.declared.order.BlockOrder.{BlockOrder}
 use Rattle.desk_changes.specs.Quiet.{HasNoLeg}
 use Rattle.desk_changes.proofs.Planning.{settled-quiet}

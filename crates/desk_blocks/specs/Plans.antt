@@ -8,7 +8,7 @@ use Rattle.market_model.specs.declared.event.Event.{Event}
 use Rattle.market_model.specs.Orders.{next_name}
 use Rattle.market_model.specs.Sweep.{all_parts, sweep}
 use Rattle.joint_laws.specs.EnteringBlocks.{AreClosed, events_of_deal}
-use Rattle.kept_hour.specs.State.{HourState, block_entry_of}
+use Rattle.desk_changes.specs.State.{HourState, block_entry_of}
 
 -- some events behind those that are settled, and then the sweep of the hour
 abbrev pub then_sweep_all : Graph → HourState → List Event → List Event

@@ -6,14 +6,14 @@ ghost use Rattle.desk_changes.specs.Quiet.{HasNoLeg};
 ghost use Rattle.desk_laws.specs.Settled.{IsSettled};
 ghost use Rattle.joint_laws.specs.EnteringBlocks.{AreClosed};
 ghost use Rattle.joint_laws.specs.MatchingBlocks.{legs_of};
-ghost use Rattle.kept_hour.specs.Planned.{CanFollow, IsUnplanned, after_events, with_planned};
-ghost use Rattle.kept_hour.specs.State.{undone};
+ghost use Rattle.desk_changes.specs.Planned.{CanFollow, IsUnplanned, after_events, with_planned};
+ghost use Rattle.desk_changes.specs.State.{undone};
 ghost use Rattle.desk_blocks.specs.Plans as plans;
 
 use crate::openings::may_open;
 use crate::sweeping::sweep_if;
 use block_match::BlockDeal;
-use kept_hour::KeptHour;
+use desk_changes::KeptHour;
 use std::alloc::Global;
 use zone_graph::{Grid, NoMemory};
 

@@ -17,6 +17,7 @@ mod rooms;
 mod sweeping;
 
 pub use dealing::make_deals;
+pub use desk_changes::{KeptHour, entered_block, gate, grant, halt, number_of, offer, resume};
 pub use entering::enter_block;
 pub use matching::match_period;
 pub use zone_graph::NoMemory;

@@ -4,8 +4,8 @@ ghost use Rattle.std.specs.Prelude.{◌≡◌, false, None, IfOk, OnErr, length}
 ghost use Rattle.desk_changes.specs.Quiet.{HasNoLeg};
 ghost use Rattle.desk_laws.specs.Settled.{IsSettled};
 ghost use Rattle.joint_laws.specs.MatchingBlocks.{legs_of};
-ghost use Rattle.kept_hour.specs.Planned.{IsUnplanned, after_events, with_planned};
-ghost use Rattle.kept_hour.specs.State.{undone};
+ghost use Rattle.desk_changes.specs.Planned.{IsUnplanned, after_events, with_planned};
+ghost use Rattle.desk_changes.specs.State.{undone};
 ghost use Rattle.zone_graph.specs.Graph.{border_count};
 ghost use Rattle.desk_blocks.specs.Periods as periods;
 ghost use Rattle.desk_blocks.specs.Plans as plans;
@@ -14,7 +14,7 @@ use crate::dealing::make_deal;
 use crate::rooms::carry_each;
 use crate::sweeping::sweep_if;
 use block_match::{BlockDeal, match_resting};
-use kept_hour::KeptHour;
+use desk_changes::KeptHour;
 use std::alloc::Global;
 use zone_graph::{Grid, NoMemory, Rooms};
 

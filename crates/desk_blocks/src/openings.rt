@@ -7,8 +7,7 @@ ghost use Rattle.zone_graph.specs.Route.{IsIn};
 ghost use Rattle.joint_laws.specs.PeriodRooms.{hour_room};
 ghost use Rattle.desk_blocks.specs.Openings as openings;
 
-use desk_changes::has_room_in;
-use kept_hour::KeptHour;
+use desk_changes::{KeptHour, has_room_in};
 use zone_graph::{Arc, RouteLeg};
 
 /// Whether one of some legs goes over an arc whose opposite arc lacks room in some quarter of the hour.

@@ -3,9 +3,9 @@
 ghost use Rattle.std.specs.Prelude.{◌≡◌, false, None, OnErr, OnOk};
 ghost use Rattle.desk_changes.specs.Quiet.{HasNoLeg};
 ghost use Rattle.sweep_core.specs.Sweeping.{swept};
-ghost use Rattle.kept_hour.specs.State.{undone, with_board};
+ghost use Rattle.desk_changes.specs.State.{undone, with_board};
 
-use kept_hour::KeptHour;
+use desk_changes::KeptHour;
 use std::alloc::Global;
 use sweep_core::sweep;
 use zone_graph::{Grid, NoMemory};

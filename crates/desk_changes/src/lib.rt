@@ -18,5 +18,6 @@ mod sweeping;
 pub use capacity::{grant, offer};
 pub use closing::gate;
 pub use halting::{halt, resume};
+pub use kept_hour::{KeptHour, entered_block, number_of};
 pub use openings::has_room_in;
 pub use zone_graph::NoMemory;

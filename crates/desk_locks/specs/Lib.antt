@@ -2,3 +2,6 @@
 pub mod Places
 pub mod Held
 pub mod Homes
+-- What stands below and is passed on to the crates above.
+pub use Rattle.basket_match.specs.Desk
+pub use Rattle.basket_match.specs.Rows

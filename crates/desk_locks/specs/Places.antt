@@ -5,7 +5,7 @@ use Rattle.zone_graph.specs.Graph.{Graph}
 use Rattle.market_model.specs.Concerned.{left_for}
 use Rattle.market_model.specs.Grid.{graph_of}
 use Rattle.market_model.specs.History.{entered_count}
-use Rattle.hour_desk.specs.Desk.{DeskState}
+use Rattle.basket_match.specs.Desk.{DeskState}
 use Rattle.journal_front.specs.Fronts.{DeskSeatState, FrontState, IsDeskOf, desk_of}
 
 -- a place of a row: the front whose seats the row has, and the hour

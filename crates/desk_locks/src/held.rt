@@ -3,8 +3,7 @@
 ghost use Rattle.desk_locks.specs.Held as held;
 
 use crate::home::{Seated, Taken};
-use hour_desk::HourDesk;
-use joint_plan::Desks;
+use basket_match::{Desks, HourDesk};
 use journal_front::{DeskSeat, HourSeats};
 use std::marker::Model;
 

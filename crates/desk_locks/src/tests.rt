@@ -1,7 +1,7 @@
 //! Desks that are held by two threads at once, and the desks of no hour.
 
 use crate::{DeskRow, Held};
-use joint_plan::Desks;
+use basket_match::Desks;
 use journal_front::Front;
 use market_model::{Callers, Hours, Setup};
 use std::alloc::Global;

@@ -1,27 +1,20 @@
 -- The desks that are chosen for a command which breaks no rule by itself, where the day stands after a journal.
 use Rattle.std.proofs.Common.{◌≡◌, ◌∙◌, ℕ, List, Result, IfOk, OnErr, refl, sym, ap, subst}
 use Rattle.std.proofs.lemmas.Result.{IfErr-weaker, IfOk-weaker}
-use Rattle.order_kinds.specs.declared.order.Order.{Order}
 use Rattle.zone_graph.specs.Graph.{Graph}
 use Rattle.market_model.specs.declared.command.Command.{Command}
-use Rattle.market_model.specs.declared.command.Command.TheVariants as command
 use Rattle.market_model.specs.declared.entry.Entry.{Entry}
 use Rattle.market_model.specs.declared.reply.Reply.{Reply}
 use Rattle.market_model.specs.declared.setup.Setup.{Setup}
 use Rattle.market_model.specs.Grid.{graph_of}
 use Rattle.market_model.specs.History.{events_of}
 use Rattle.market_model.specs.Rules.{touched_hours}
-use Rattle.joint_plan.specs.Kinds.{IsNoBasket}
-use Rattle.joint_plan.specs.Rows.{AreReady, IsJournalOf, dropped, hours_of, planning_all}
+use Rattle.day_desks.specs.Kinds.{IsNoBasket}
+use Rattle.day_desks.specs.Rows.{AreReady, IsJournalOf, dropped, hours_of, planning_all}
 use Rattle.day_desks.specs.Day.{DayState, chosen_of, others_of}
 use Rattle.desk_market.specs.Standing.{IsChosen, planned_desks}
 use Rattle.desk_market.proofs.Planned.{day-failed, day-planned, settled-hours, settled-journal, settled-ready}
-use Rattle.desk_market.proofs.Touching.{AreHoursOf, touched-hours}
-
--- a command that is not a basket is none
-pub is-no_basket : (given : Command) → ((orders : List Order) → ¬ (given ≡ command.EnterBasket orders)) → IsNoBasket given
-is-no_basket (command.EnterBasket orders) apart = apart orders refl
-is-no_basket _ apart = tt
+use Rattle.day_desks.proofs.TouchedHours.{AreHoursOf, touched-hours}
 
 module _ (setup : Setup) (entries : List Entry) (caller : ℕ) (given : Command) (day : DayState) (is : IsChosen setup entries caller given day) where
   hours : AreHoursOf setup (touched_hours setup caller given)

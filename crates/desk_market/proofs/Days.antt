@@ -1,7 +1,7 @@
 -- The desks of a day by hour: those that are chosen, and the others.
 use Rattle.std.proofs.Common.{◌≡◌, ◌∙◌, ℕ, zero, suc, ◌+◌, not, Bool, true, false, if◌then◌else◌, List, [], ◌∷◌, filter, map, refl, ap}
 use Rattle.std.specs.List.{range_with_len}
-use Rattle.hour_desk.specs.Desk.{DeskState}
+use Rattle.day_desks.specs.Desk.{DeskState}
 use Rattle.day_desks.specs.Day.{chosen_from, others_from}
 
 -- the chosen desks of a day of which each is made by its hour

@@ -11,24 +11,19 @@ use Rattle.market_model.specs.declared.reply.Reply.{Reply}
 use Rattle.market_model.specs.declared.reply.Reply.TheVariants as reply
 use Rattle.market_model.specs.declared.setup.Setup.{Setup}
 use Rattle.market_model.specs.History.{events_of, journal_events, of_hour}
-use Rattle.market_model.specs.Market.{IsLegal, answer, refused_or, reply_by, reply_to, turn_of}
+use Rattle.market_model.specs.Market.{IsLegal, reply_to, turn_of}
 use Rattle.market_model.specs.Rules.{early_refusal, touched_hours}
 use Rattle.market_model.specs.Sweep.{all_parts}
 use Rattle.market_model.specs.WellFormed.{IsHistory, IsMarketSetup}
 use Rattle.market_laws.proofs.Journals.{run-history}
 use Rattle.market_locality.proofs.Named.{history-named}
 use Rattle.market_locality.proofs.Within.{reply-within}
-use Rattle.joint_laws.proofs.Touching.{none-elsewhere}
-use Rattle.plain_market.proofs.Admitting.{early-some}
+use Rattle.day_desks.proofs.Touching.{none-elsewhere}
+use Rattle.day_desks.proofs.Commands.{refused-early}
 use Rattle.desk_market.specs.Standing.{planned_hours}
 use Rattle.desk_market.proofs.Touching.{planned-touched}
 
 module _ (setup : Setup) (caller : ℕ) (given : Command) where
-  -- a command that a rule refuses by itself
-  pub refused-early : (history : List Event) (broken : Refusal) → early_refusal setup caller given ≡ Some broken → reply_to setup history caller given ≡ reply.Refused broken
-  unfolding reply_by
-  refused-early history broken early = ap (λ (o : Option Refusal). refused_or o (λ _. answer all_parts setup history caller given)) (early-some setup history caller given broken early)
-
   -- the reply has no event of an hour in which the command does not plan
   pub nothing-elsewhere : (entries : List Entry) → IsMarketSetup setup → IsLegal setup entries → (hour : ℕ) → has hour (planned_hours setup caller given) ≡ false
       → of_hour hour (events_of (reply_to setup (journal_events entries) caller given)) ≡ []
@@ -47,4 +42,4 @@ module _ (setup : Setup) (caller : ℕ) (given : Command) where
           none-elsewhere touched hour (events_of (reply_to setup history caller given))
           (reply-within all_parts setup history caller given (history-named setup history is_history.fit))
           (λ is. true≢false (sym (has-IsIn hour touched is) ∙ apart))
-      go (Some broken) early = ap (λ (r : Reply). of_hour hour (events_of r)) (refused-early history broken early)
+      go (Some broken) early = ap (λ (r : Reply). of_hour hour (events_of r)) (refused-early setup caller given history broken early)

@@ -1,7 +1,7 @@
 //! The market.
 
 ghost use Rattle.std.specs.Prelude.{◌≡◌, ◌-◌, ◌<◌, ◌≤◌, ◌^◌, [], IfOk, OnErr, OnOk, Some, length, nat_lt, slice_get};
-ghost use Rattle.hour_desk.specs.Desk.{DeskState};
+ghost use Rattle.day_desks.specs.Desk.{DeskState};
 ghost use Rattle.market_model.specs.Grid.{graph_of};
 ghost use Rattle.market_model.specs.History.{journal_events};
 ghost use Rattle.market_model.specs.Market.{entry_of, reply_to};
@@ -10,9 +10,7 @@ ghost use Rattle.trade_journal.specs.Journals.{IsJournal, made_by, room_of_calle
 ghost use Rattle.desk_market.specs.Standing as standing;
 
 use crate::planning::plan;
-use day_desks::DayDesks;
-use hour_desk::HourDesk;
-use joint_plan::{carry_all, undo_all};
+use day_desks::{DayDesks, HourDesk, carry_all, undo_all};
 use market_model::{Command, Entry, Reply, Setup};
 use std::alloc::Global;
 use std::marker::Model;

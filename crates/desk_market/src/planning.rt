@@ -8,9 +8,7 @@ ghost use Rattle.market_model.specs.Market.{reply_to};
 ghost use Rattle.market_model.specs.Rules.{touched_hours};
 ghost use Rattle.desk_market.specs.Standing as standing;
 
-use basket_match::plan_basket;
-use day_desks::DayDesks;
-use joint_plan::plan_joint;
+use day_desks::{DayDesks, plan_basket, plan_joint};
 use market_model::{Command, Hours, Reply, refuse_early, touches};
 use std::alloc::Global;
 use trade_journal::Journal;

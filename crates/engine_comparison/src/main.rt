@@ -11,13 +11,13 @@ mod kinds;
 use crate::comparing::compare_on;
 use crate::kinds::{KINDS, Tallies};
 use outside::ReadSource;
-use session_io::read_all;
+use session_io::{LONGEST_SESSION, read_all};
 use std::process::ExitCode;
 
 fn main(rt: HostRuntime) -> ExitCode {
     let alloc = rt.alloc();
     let mut source = ReadSource::new(rt.reader());
-    let Ok(text) = read_all(alloc, &mut source) else {
+    let Ok(text) = read_all(alloc, &mut source, LONGEST_SESSION) else {
         return ExitCode::FAILURE;
     };
     match compare_on(alloc, text.as_slice()) {

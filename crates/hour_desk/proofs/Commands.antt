@@ -30,13 +30,13 @@ use Rattle.market_model.specs.Rules.{border_is_known, early_refusal, first_broke
 use Rattle.market_model.specs.Sweep.{all_parts, sweep, sweeps}
 use Rattle.market_model.specs.WellFormed.{OrderEnters}
 use Rattle.market_laws.proofs.Admitted.{IsAdmitted, all-pass, naming-none, refusal-none}
-use Rattle.kept_hour.specs.Planned.{IsUnplanned, with_planned}
-use Rattle.kept_hour.specs.State.{CanBeNext, HourState, after_event, entry_of, gate_of, name_in, reduction_of, withdrawal_of}
+use Rattle.desk_blocks.specs.Planned.{IsUnplanned, with_planned}
+use Rattle.desk_blocks.specs.State.{CanBeNext, HourState, after_event, entry_of, gate_of, name_in, reduction_of, withdrawal_of}
 use Rattle.desk_laws.specs.Settled.{IsSettled}
 use Rattle.desk_laws.proofs.Admitting as entering
 use Rattle.desk_laws.proofs.Fitting.{fits_in}
 use Rattle.desk_laws.proofs.Stepping.{prefixes}
-use Rattle.desk_changes.specs.Changes.{then_sweep}
+use Rattle.desk_blocks.specs.Changes.{then_sweep}
 use Rattle.desk_refusals.specs.declared.owning.Own.{Own}
 use Rattle.desk_refusals.specs.Owned.{left_of, own_of}
 use Rattle.desk_refusals.proofs.Named.{told-number}

@@ -5,11 +5,11 @@ use Rattle.market_model.specs.declared.event.Event.{Event}
 use Rattle.zone_graph.specs.Graph.{Graph}
 use Rattle.market_model.specs.Board.{BoardState, is_in_hand, resting_names}
 use Rattle.market_model.specs.Orders.{open_names}
-use Rattle.kept_hour.specs.Planned.{IsUnplanned, with_planned}
-use Rattle.kept_hour.specs.State.{HourState, empty_board, settled_board, settled_now, undone, with_hand}
+use Rattle.desk_blocks.specs.Planned.{IsUnplanned, with_planned}
+use Rattle.desk_blocks.specs.State.{HourState, empty_board, settled_board, settled_now, undone, with_hand}
 use Rattle.desk_views.specs.Desk as views
 use Rattle.desk_views.specs.Standing.{IsNext, StandAt}
-use Rattle.kept_hour.proofs.Lists.{all-pass}
+use Rattle.desk_blocks.proofs.Lists.{all-pass}
 use Rattle.hour_desk.specs.Desk.{DeskState}
 use Rattle.hour_desk.specs.Insides.{IsInside, desk_of, planned_if}
 use Rattle.hour_desk.proofs.Views.{adopted-forgotten, forgotten-again, forgotten-stands, next-forgotten, next-kept}

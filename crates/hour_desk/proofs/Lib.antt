@@ -7,3 +7,7 @@ pub mod Views
 pub mod Desks
 pub mod Seen
 pub mod Parts
+pub mod Crosses
+-- What stands below and is passed on to the crates above.
+pub use Rattle.desk_blocks.proofs.SameRooms
+pub use Rattle.plain_market.proofs.Admitting

@@ -7,8 +7,8 @@ use Rattle.block_match.specs.declared.deal.BlockDeal.{BlockDeal}
 use Rattle.block_match.specs.Market.{deal_events}
 use Rattle.market_model.specs.declared.event.Event.TheVariants as event
 use Rattle.market_model.specs.Orders.{next_name}
-use Rattle.kept_hour.specs.Planned.{IsUnplanned}
-use Rattle.kept_hour.specs.State.{HourState, block_entry_of}
+use Rattle.desk_blocks.specs.Planned.{IsUnplanned}
+use Rattle.desk_blocks.specs.State.{HourState, block_entry_of}
 use Rattle.joint_laws.specs.EnteringBlocks.{AreClosed, block_entry}
 use Rattle.desk_laws.specs.Settled.{IsSettled}
 use Rattle.desk_blocks.specs.Plans as plans

@@ -15,7 +15,7 @@ use Rattle.market_model.specs.declared.refusal.Refusal.{Refusal}
 use Rattle.market_model.specs.declared.setup.Setup.{Setup}
 use Rattle.market_model.specs.Rules.{ascends, basket_is_good, early_refusal, hours_concerned, is_block_period, period_is_good, touched_hours}
 use Rattle.market_laws.proofs.Admitted.{NamesWhatIs, naming-none}
-use Rattle.kept_hour.specs.State.{HourState}
+use Rattle.desk_blocks.specs.State.{HourState}
 use Rattle.plain_market.specs.LetIn.{IsNoEntry}
 use Rattle.plain_market.proofs.Admitting.{IsNamed, early-none, is-no_entry}
 use Rattle.hour_desk.specs.Placed.{IsPlaced}

@@ -3,7 +3,7 @@ use Rattle.std.specs.Prelude.{◌≡◌, Bool, true, false, List, Option, Some, 
 use Rattle.market_model.specs.declared.event.Event.{Event}
 use Rattle.desk_views.specs.Desk as views
 use Rattle.desk_views.specs.Standing.{IsNext, StandAt}
-use Rattle.kept_hour.specs.State.{HourState, settled_board}
+use Rattle.desk_blocks.specs.State.{HourState, settled_board}
 use Rattle.hour_desk.specs.Desk.{DeskState}
 
 -- the events of an hour, if something is planned

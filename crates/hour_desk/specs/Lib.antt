@@ -4,3 +4,6 @@ pub mod Insides
 pub mod Placed
 pub mod Kinds
 pub mod Shared
+-- What stands below and is passed on to the crates above.
+pub use Rattle.desk_blocks.specs.Periods
+pub use Rattle.desk_blocks.specs.Plans

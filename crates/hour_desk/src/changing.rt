@@ -8,19 +8,18 @@ ghost use Rattle.market_model.specs.declared.refusal.Refusal.{Refusal as Reason}
 ghost use Rattle.market_model.specs.Market.{events_done};
 ghost use Rattle.market_model.specs.Rules.{first_broken};
 ghost use Rattle.market_model.specs.Sweep.{all_parts};
-ghost use Rattle.kept_hour.specs.Kept.{names_given};
-ghost use Rattle.kept_hour.specs.Planned.{with_planned};
-ghost use Rattle.kept_hour.specs.State.{settled_board};
+ghost use Rattle.desk_blocks.specs.Kept.{names_given};
+ghost use Rattle.desk_blocks.specs.Planned.{with_planned};
+ghost use Rattle.desk_blocks.specs.State.{settled_board};
 ghost use Rattle.plain_refusals.specs.State.{filling_rules};
 ghost use Rattle.desk_views.specs.Standing.{StandAt};
 ghost use Rattle.hour_desk.specs.Kinds as kinds;
 ghost use Rattle.hour_desk.specs.Placed.{CanChange};
 
-use desk_changes::{gate, grant, halt, offer, resume};
+use desk_blocks::{KeptHour, gate, grant, halt, number_of, offer, resume};
 use desk_entering::enter_order;
 use desk_refusals::own_of;
 use desk_views::DeskViews;
-use kept_hour::{KeptHour, number_of};
 use market_model::{Command, OrderName, Refusal, Setup};
 use std::alloc::Global;
 use zone_graph::{Arc, Grid, NoMemory};

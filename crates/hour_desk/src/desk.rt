@@ -17,10 +17,10 @@ ghost use Rattle.local_view.specs.Kept.{kept_of, views_forgotten};
 ghost use Rattle.hour_desk.specs.Desk as states;
 
 use block_book::BlockBook;
+use desk_blocks::KeptHour;
 use desk_refusals::{refuse_offer, refuse_request};
 use desk_views::DeskViews;
 use flow_netting::HourFlows;
-use kept_hour::KeptHour;
 use local_view::LocalViews;
 use market_model::{Event, Phase, Quarter, Refusal, Side, ViewRow};
 use std::alloc::Global;

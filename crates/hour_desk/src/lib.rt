@@ -19,5 +19,6 @@ mod sharing;
 
 pub use copying::events_from;
 pub use desk::HourDesk;
+pub use desk_blocks::entered_block;
 pub use part_work::{BlockDeals, BlockEntry, PartWork};
 pub use zone_graph::NoMemory;

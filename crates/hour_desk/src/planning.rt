@@ -5,14 +5,14 @@ ghost use Rattle.market_model.specs.Grid.{graph_of};
 ghost use Rattle.market_model.specs.History.{enters_in, events_of};
 ghost use Rattle.market_model.specs.Market.{reply_to};
 ghost use Rattle.market_model.specs.Rules.{early_refusal, touched_hours};
-ghost use Rattle.kept_hour.specs.State.{settled_now, undone};
+ghost use Rattle.desk_blocks.specs.State.{settled_now, undone};
 ghost use Rattle.desk_views.specs.Desk.{adopted, forgotten};
 ghost use Rattle.hour_desk.specs.Desk as states;
 
 use crate::desk::HourDesk;
 use crate::replying::reply_and_refresh;
+use desk_blocks::KeptHour;
 use desk_views::DeskViews;
-use kept_hour::KeptHour;
 use market_model::{Command, Reply, Setup};
 use std::alloc::Global;
 use zone_graph::{Grid, NoMemory};

@@ -16,3 +16,11 @@ mod SameRooms
 mod Entered
 mod OverEntries
 mod AskedEntries
+pub mod Commands
+pub mod TouchedHours
+-- What stands below and is passed on to the crates above.
+pub use Rattle.hour_desk.proofs.Crosses
+pub use Rattle.joint_laws.proofs.BasketHours
+pub use Rattle.joint_laws.proofs.RefusedByHours
+pub use Rattle.joint_laws.proofs.Touching
+pub use Rattle.desk_laws.proofs.Admitting

@@ -10,7 +10,7 @@ use Rattle.zone_graph.specs.Graph.{Graph}
 use Rattle.zone_graph.specs.Route.{IsIn}
 use Rattle.joint_laws.specs.ByHour.{hour_events}
 use Rattle.joint_laws.specs.MatchingBlocks.{ArePeriodDeals, legs_of}
-use Rattle.desk_blocks.specs.Periods.{AreDealsOf}
+use Rattle.hour_desk.specs.Periods.{AreDealsOf}
 use Rattle.hour_desk.specs.declared.part_work.PartWork.{PartWork}
 use Rattle.hour_desk.specs.declared.part_work.PartWork.TheVariants as work
 use Rattle.hour_desk.specs.Desk.{DeskState, planned_events, planning}

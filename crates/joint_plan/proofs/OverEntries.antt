@@ -41,7 +41,7 @@ use Rattle.joint_laws.specs.MatchingBlocks.{legs_of}
 use Rattle.joint_laws.specs.PeriodRooms.{period_room}
 use Rattle.joint_laws.proofs.EnteredBlocks.{close_both, enter_by_hour, enter_of_hour, room_in_first}
 use Rattle.joint_laws.proofs.SweptHours.{flat_map-same}
-use Rattle.desk_blocks.specs.Plans.{CloseInTurn}
+use Rattle.hour_desk.specs.Plans.{CloseInTurn}
 use Rattle.hour_desk.specs.declared.part_work.BlockEntry.{BlockEntry}
 use Rattle.hour_desk.specs.declared.part_work.PartWork.{PartWork}
 use Rattle.hour_desk.specs.Desk.{DeskState}

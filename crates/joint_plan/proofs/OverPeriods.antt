@@ -26,7 +26,7 @@ use Rattle.joint_laws.specs.PeriodRooms.{hour_room, period_room}
 use Rattle.joint_laws.proofs.PeriodDeals.{match_by_hour, match_of_hour, match_reply}
 use Rattle.joint_laws.proofs.SharedEvents.{within-has}
 use Rattle.joint_laws.proofs.SweptHours.{ascends-different, flat_map-same, hours-ascend}
-use Rattle.desk_blocks.specs.Periods.{IsPeriodOf}
+use Rattle.hour_desk.specs.Periods.{IsPeriodOf}
 use Rattle.hour_desk.specs.declared.part_work.BlockEntry.{BlockEntry}
 use Rattle.hour_desk.specs.declared.part_work.PartWork.{PartWork}
 use Rattle.hour_desk.specs.declared.part_work.PartWork.TheVariants as work

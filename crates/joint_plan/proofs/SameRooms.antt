@@ -13,7 +13,7 @@ use Rattle.block_book.specs.Book.{line_of}
 use Rattle.block_match.specs.declared.deal.BlockDeal.{BlockDeal}
 use Rattle.block_match.specs.Deals.{deal_of_block}
 use Rattle.block_match.specs.Meeting.{is_crossed, legs_between}
-use Rattle.desk_blocks.proofs.SameRooms.{pour-rooms}
+use Rattle.hour_desk.proofs.SameRooms.{pour-rooms}
 
 -- the deal of a block, by the legs between two blocks
 abbrev deal_by : (legs : RestingBlock → RestingBlock → List RouteLeg) → (book : List RestingBlock) → (own : RestingBlock) → Option BlockDeal

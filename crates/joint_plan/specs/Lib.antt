@@ -5,3 +5,8 @@ pub mod Refusing
 pub mod Works
 pub mod Rooms
 pub mod Entering
+-- What stands below and is passed on to the crates above.
+pub use Rattle.hour_desk.specs.Desk
+pub use Rattle.hour_desk.specs.contracts.desk.HourDesk
+pub use Rattle.joint_laws.specs.Baskets
+pub use Rattle.joint_laws.specs.ByHour

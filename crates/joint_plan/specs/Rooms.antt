@@ -7,7 +7,7 @@ use Rattle.zone_graph.specs.Rooms.{room_of}
 use Rattle.market_model.specs.History.{enters_in}
 use Rattle.market_model.specs.Room.{least}
 use Rattle.joint_laws.specs.PeriodRooms.{hour_room}
-use Rattle.desk_blocks.specs.Periods.{IsFirstOfPeriod}
+use Rattle.hour_desk.specs.Periods.{IsFirstOfPeriod}
 use Rattle.hour_desk.specs.Desk.{DeskState}
 use Rattle.hour_desk.specs.Shared.{IsAfterSomeJournal}
 

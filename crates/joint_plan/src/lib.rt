@@ -19,6 +19,7 @@ mod refusing;
 mod undoing;
 
 pub use desks::Desks;
+pub use hour_desk::HourDesk;
 pub use joint::plan_joint;
 pub use refusing::refuse_closed;
 pub use undoing::{carry_all, refuse, undo_all};

@@ -1,5 +1,5 @@
 -- Each entry of the journal of a session is the next one after those before it.
-use Rattle.std.proofs.Common.{◌≡◌, ◌∙◌, ℕ, ◌+◌, ◌==◌, Bool, true, false, if◌then◌else◌, List, [], ◌∷◌, ◌++◌, append_assoc, count_by, pos, ◌≤ℤ◌, Option, None, Some, refl, sym, ap, subst}
+use Rattle.std.proofs.Common.{◌≡◌, ◌∙◌, ℕ, ◌+◌, ◌==◌, Bool, true, false, if◌then◌else◌, List, [], ◌∷◌, ◌++◌, append_assoc, count_by, pos, ◌≤ℤ◌, Ok, Option, None, Some, refl, sym, ap, subst}
 use Rattle.std.proofs.lemmas.List.{append-nil}
 use Rattle.order_kinds.specs.declared.contract.Quarter.{Quarter}
 use Rattle.zone_graph.specs.declared.route.Arc.{Arc}
@@ -29,12 +29,17 @@ use Rattle.market_laws.proofs.Uses.{remaining-within, uses-remaining, within_off
 use Rattle.uncrossed_book.specs.Book.{IsUncrossedBook}
 use Rattle.uncrossed_book.proofs.Commands.{reply-uncrossed}
 use Rattle.uncrossed_book.proofs.Whole.{book_of_hours, hour_of_book}
+use Rattle.market_text.specs.declared.session.Session.{Session}
+use Rattle.market_text.specs.Session.{IsSession}
+use Rattle.market_text.specs.Text.{session_of_text}
 use Rattle.text_grammar.proofs.Grids.{sessions-make-grids}
 use Rattle.text_grammar.proofs.Sessions.{texts-are-sessions}
 use Rattle.session_journal.specs.Journal.{journal_of_session}
 use Rattle.session_journal.proofs.Graphs.{makes-graph}
 use Rattle.session_journal.proofs.Once.{each-command-once}
-use Rattle.one_history.specs.OneHistory.{IsNext, IsViewed, PrintedJournalsAreOneHistory}
+use Rattle.session_run.specs.Trading.{taking_turns}
+use Rattle.session_run.proofs.Rooms.{taking-turns}
+use Rattle.one_history.specs.OneHistory.{IsNext, IsOneHistory, IsViewed, PrintedJournalsAreOneHistory, TradedJournalsAreOneHistory}
 
 -- ---- views
 
@@ -129,21 +134,44 @@ module _ (setup : Setup) (is_setup : IsMarketSetup setup) where
 
 -- ---- the journal of a session
 
+session-history : (session : Session) → IsSession session → IsMarketSetup session.setup → IsOneHistory session (journal_of_session session)
+session-history session is is_setup =
+    let once = each-command-once session is in
+    record {
+      turns = once.0;
+      once = once.1;
+      next = λ before after entry has.
+          run-next session.setup is_setup (in_turn session.commands session.turns) [] (nothing-sound session.setup is_setup) before after entry has;
+    }
+
+-- the setup of a session that is read
+market-setup : (bytes : List ℕ) (session : Session) → session_of_text bytes ≡ Ok session → IsMarketSetup session.setup
+market-setup bytes session read =
+    let grid = sessions-make-grids bytes session read in
+    makes-graph (graph_of session.setup) grid.0 grid.1
+
 pub printed-journals : PrintedJournalsAreOneHistory
 printed-journals bytes written is =
     let session = is.session in
-    let grid = sessions-make-grids bytes session is.read in
-    let is_setup : IsMarketSetup session.setup = makes-graph (graph_of session.setup) grid.0 grid.1 in
-    let once = each-command-once session (texts-are-sessions bytes session is.read) in
     record {
       session = session;
       read = is.read;
       entries = journal_of_session session;
-      history = record {
-        turns = once.0;
-        once = once.1;
-        next = λ before after entry has.
-            run-next session.setup is_setup (in_turn session.commands session.turns) [] (nothing-sound session.setup is_setup) before after entry has;
-      };
+      history = session-history session (texts-are-sessions bytes session is.read) (market-setup bytes session is.read);
+      text = is.text;
+    }
+
+-- and with its callers in another order
+pub traded-journals : TradedJournalsAreOneHistory
+traded-journals bytes written is =
+    let session = is.session in
+    record {
+      session = session;
+      read = is.read;
+      turns = is.turns;
+      are = is.are;
+      entries = journal_of_session (taking_turns session is.turns);
+      history = session-history (taking_turns session is.turns) (taking-turns session (texts-are-sessions bytes session is.read) is.turns is.are)
+          (market-setup bytes session is.read);
       text = is.text;
     }

@@ -23,7 +23,8 @@ use Rattle.market_text.specs.Commands.{commands_of}
 use Rattle.market_text.specs.Text.{session_of_text}
 use Rattle.session_io.specs.JournalText.{journal_text}
 use Rattle.session_journal.specs.Laws.{commands_in}
-use Rattle.session_run.specs.Journal.{IsJournalOf}
+use Rattle.session_run.specs.Journal.{IsJournalOf, IsTradedJournalOf}
+use Rattle.session_run.specs.Trading.{AreTurnsOf, taking_turns}
 
 -- the command asks for a view, and these are the market's rows of it after some events
 pub record IsViewed (setup : Setup) (events : List Event) (given : Command) (rows : List ViewRow) : Type 0 where
@@ -59,6 +60,21 @@ pub record IsTextOfOneHistory (bytes written : List ℕ) : Type 0 where
   pub history : IsOneHistory session entries
   pub text : written ≡ journal_text session.setup entries
 
+-- bytes are a session, and a text is that of one history of it with its callers in the order of some turns, which name
+-- each caller as often as it has commands
+pub record IsTextOfOneTradedHistory (bytes written : List ℕ) : Type 0 where
+  pub session : Session
+  pub read : session_of_text bytes ≡ Ok session
+  pub turns : List ℕ
+  pub are : AreTurnsOf session turns
+  pub entries : List Entry
+  pub history : IsOneHistory (taking_turns session turns) entries
+  pub text : written ≡ journal_text session.setup entries
+
 -- where bytes are a session and a text is that of its journal, the text is that of one history of it
 abbrev pub PrintedJournalsAreOneHistory : Type 0
 PrintedJournalsAreOneHistory = (bytes written : List ℕ) → IsJournalOf bytes written → IsTextOfOneHistory bytes written
+
+-- and so it is where its callers came in any order
+abbrev pub TradedJournalsAreOneHistory : Type 0
+TradedJournalsAreOneHistory = (bytes written : List ℕ) → IsTradedJournalOf bytes written → IsTextOfOneTradedHistory bytes written

@@ -1,6 +1,6 @@
 //! The law of printed journals.
 
-ghost use Rattle.one_history.specs.OneHistory.{PrintedJournalsAreOneHistory};
+ghost use Rattle.one_history.specs.OneHistory.{PrintedJournalsAreOneHistory, TradedJournalsAreOneHistory};
 
 /// Where some bytes are a session and a text is that of its journal, the text is that of one single-thread history: it
 /// has each caller's commands once, in that caller's order, each with the market's reply after the entries before it; the
@@ -8,4 +8,11 @@ ghost use Rattle.one_history.specs.OneHistory.{PrintedJournalsAreOneHistory};
 /// entry from 0 to 200000.0 MW remains on each arc in each quarter, and no two open orders of one contract can trade.
 pub fn printed_journals_are_one_history()
     ensures { PrintedJournalsAreOneHistory }
+{}
+
+/// Where some bytes are a session and a text is that of its journal with its callers in whatever order they came, the text
+/// is that of one single-thread history in the same sense: of each caller the session's commands once, in that caller's
+/// order, each with the market's reply after the entries before it.
+pub fn traded_journals_are_one_history()
+    ensures { TradedJournalsAreOneHistory }
 {}

@@ -8,6 +8,10 @@ use Rattle.session_io.specs.declared.reading.ReadError.TheVariants as stopped
 abbrev pub longest_session : ℕ
 longest_session = 8388608
 
+-- the most bytes that a record may have, a session with its journal
+abbrev pub longest_record : ℕ
+longest_record = 134217728
+
 -- one more read: what came stands behind the bytes before it, and where the input does not go on
 -- the source is at its end
 pub record ReadsMore (old new : Option (List ℕ)) (before after : List ℕ) (more : Bool) : Type 0 where
@@ -24,9 +28,9 @@ GivesNothing old new stopped.Fault = Keeps old new
 GivesNothing old new stopped.TooLong = ⊥
 GivesNothing old new stopped.NoMemory = Unit {0}
 
--- what came before the reading stopped: more than a session may have, or no more than that; where
+-- what came before the reading stopped: more bytes than are allowed, or no more than that; where
 -- memory was wanting nothing is said of it
-abbrev pub Stops : Option (List ℕ) → Option (List ℕ) → ReadError → Type 0
-Stops old new stopped.Fault = (input : List ℕ) × Consumes old new input × (length input ≤ longest_session)
-Stops old new stopped.TooLong = (input : List ℕ) × Consumes old new input × (longest_session < length input)
-Stops old new stopped.NoMemory = Unit {0}
+abbrev pub Stops : (most : ℕ) → Option (List ℕ) → Option (List ℕ) → ReadError → Type 0
+Stops most old new stopped.Fault = (input : List ℕ) × Consumes old new input × (length input ≤ most)
+Stops most old new stopped.TooLong = (input : List ℕ) × Consumes old new input × (most < length input)
+Stops most old new stopped.NoMemory = Unit {0}

@@ -4,6 +4,6 @@
 mod reading;
 mod writing;
 
-pub use reading::{LONGEST_SESSION, ReadError, read_all};
+pub use reading::{LONGEST_RECORD, LONGEST_SESSION, ReadError, read_all};
 pub use writing::{WriteError, write_journal, write_lines};
 pub use zone_graph::NoMemory;

@@ -3,13 +3,16 @@
 ghost use Rattle.std.specs.Prelude.{◌≡◌, ◌<◌, ◌≤◌, length, vec_len, IfOk, IfErr};
 ghost use Rattle.std.specs.Io.KnownBytes.{Consumes, IsAtEnd};
 ghost use Rattle.outside.specs.Faults.{Rose};
-ghost use Rattle.session_io.specs.Reading.{longest_session, GivesNothing, ReadsMore, Stops};
+ghost use Rattle.session_io.specs.Reading.{GivesNothing, ReadsMore, Stops};
 
 use outside::Source;
 use std::alloc::{AllocError, Global};
 
 /// The most bytes that a session may have.
 pub const LONGEST_SESSION: usize = 8_388_608;
+
+/// The most bytes that a record may have: a session and, behind a line between them, its journal.
+pub const LONGEST_RECORD: usize = 134_217_728;
 
 // How many bytes are asked for at a time.
 const PIECE: usize = 65_536;
@@ -19,7 +22,7 @@ const PIECE: usize = 65_536;
 pub enum ReadError {
     /// A read failed.
     Fault,
-    /// More bytes came than a session may have.
+    /// More bytes came than were allowed.
     TooLong,
     /// There was no memory.
     NoMemory,
@@ -36,21 +39,22 @@ impl From<AllocError> for ReadError {
     }
 }
 
-/// Reads a source to its end.
+/// Reads a source to its end, where that comes after at most so many bytes.
 ///
-/// Each read but the last gives at least one byte, and none is made once more than
-/// [`LONGEST_SESSION`] bytes came: so there are at most 8388609 reads.
-pub fn read_all<S: Source>(alloc: Global, source: &mut S) -> Result<Vec<u8>, ReadError>
+/// Each read but the last gives at least one byte, and none is made once more than `most` bytes
+/// came: so there are at most `most` + 1 reads, 8388609 for [`LONGEST_SESSION`] and 134217729 for
+/// [`LONGEST_RECORD`].
+pub fn read_all<S: Source>(alloc: Global, source: &mut S, most: usize) -> Result<Vec<u8>, ReadError>
     ensures count { S.faults source.old ≤ S.faults source.new }
     ensures bytes { IfOk result (λ bytes. Consumes (S.left source.old) (S.left source.new) bytes.items) }
     ensures end { IfOk result (λ bytes. IsAtEnd (S.left source.new)) }
-    ensures short { IfOk result (λ bytes. vec_len bytes ≤ longest_session) }
-    ensures stopped { IfErr result (Stops (S.left source.old) (S.left source.new)) }
+    ensures short { IfOk result (λ bytes. vec_len bytes ≤ most) }
+    ensures stopped { IfErr result (Stops most (S.left source.old) (S.left source.new)) }
     ensures fault { result ≡ Err ReadError.Fault → Rose (S.faults source.old) (S.faults source.new) }
 {
     let mut piece = zeros(alloc, PIECE)?;
     let mut bytes = Vec::new(alloc);
-    while bytes.len() <= LONGEST_SESSION {
+    while bytes.len() <= most {
         match read_more(source, piece.as_mut_slice(), &mut bytes) {
             Ok(true) => {}
             Ok(false) => return Ok(bytes),

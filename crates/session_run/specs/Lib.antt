@@ -1,4 +1,5 @@
 pub mod Journal
 pub mod Outcomes
 pub mod Reading
-pub mod Status
+-- What stands below and is passed on to the crates above.
+pub use Rattle.session_trade.specs.Trading

@@ -5,10 +5,10 @@ ghost use Rattle.outside.specs.Faults.{Rose};
 ghost use Rattle.session_run.specs.Journal.{IsSummaryOf};
 ghost use Rattle.session_run.specs.Outcomes.{Generated};
 
-use crate::status::Status;
 use load_maker::{session_text, summary};
 use market_text::{TextFault, read_session};
 use outside::Sink;
+use run_status::Status;
 use session_io::write_lines;
 use session_play::journal_of;
 use std::alloc::Global;

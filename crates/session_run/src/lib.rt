@@ -1,10 +1,11 @@
 //! A run of the program: the words of the command line, a session that is read from a source or
-//! generated, the market that it plays, and the journal or its summary written to a sink.
+//! generated, the market that plays it or the venue where it is traded, and the journal or its
+//! summary written to a sink.
 #![tactic(auto)]
 
 mod generating;
 mod running;
-mod status;
+mod sessions;
 
+pub use run_status::{Status, message};
 pub use running::{run, run_alone};
-pub use status::{Status, message};

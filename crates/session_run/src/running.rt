@@ -1,23 +1,28 @@
 //! A run, from the words of the command line to the written journal.
 
-ghost use Rattle.std.specs.Prelude.{◌≡◌, ◌≢◌, ◌≤◌, ◌↔◌, ◌⊎◌, ℕ, List, IsTrue, Ok, Some, None, false, length};
+ghost use Rattle.std.specs.Prelude.{◌≡◌, ◌≢◌, ◌≤◌, ◌↔◌, ◌⊎◌, ℕ, List, IsTrue, Ok, Some, None, false, true, length};
 ghost use Rattle.outside.specs.Faults.{Rose};
-ghost use Rattle.session_run.specs.Outcomes.{Generated, Replayed};
+ghost use Rattle.market_model.specs.declared.entry.Entry.{Entry};
+ghost use Rattle.record_run.specs.Outcomes.{Audited, Shipped};
+ghost use Rattle.record_run.specs.Records.{IsRecord};
+ghost use Rattle.run_status.specs.Reading.{ReadsUpTo};
+ghost use Rattle.session_run.specs.Outcomes.{Generated, Replayed, Traded};
 ghost use Rattle.market_text.specs.Text.{session_of_text};
 ghost use Rattle.market_text.specs.declared.session.Session.{Session};
-ghost use Rattle.session_io.specs.Reading.{longest_session};
+ghost use Rattle.session_io.specs.Reading.{longest_record, longest_session};
 ghost use Rattle.session_run.specs.Reading.{Reads};
-ghost use Rattle.session_run.specs.Status.{writes_nothing};
-ghost use Rattle.command_words.specs.Words.{task_of as task_named, is_trade as trades};
+ghost use Rattle.run_status.specs.Status.{writes_nothing};
+ghost use Rattle.command_words.specs.Words.{ReadsRecord, task_of as task_named, is_trade as trades};
 ghost use Rattle.command_words.specs.declared.words.Task.TheVariants as task;
 
 use crate::generating::generate;
-use crate::status::Status;
+use crate::sessions::{session_from, write_to};
 use command_words::{Task, is_trade, task_of};
-use market_text::{TextFault, read_session};
 use outside::{Gate, Sink, Source};
-use session_io::{ReadError, WriteError, read_all, write_journal};
+use record_run::{audit_record, ship_record};
+use run_status::Status;
 use session_play::journal_of;
+use session_trade::trade_session;
 use std::alloc::Global;
 use std::sync::Wait;
 use std::thread::Threads;
@@ -26,32 +31,45 @@ use zone_graph::Word;
 /// Does what the words of a command line ask for.
 ///
 /// `replay` reads a session from the source, to its end, plays it in the order of its lines, and
-/// writes the journal to the sink, a line for each entry. `generate N` reads nothing, plays the
-/// session that is generated for N commands in the same way, and writes the summary of its journal.
-/// Every other list of words is [`Status::Usage`].
+/// writes the journal to the sink, a line for each entry. `trade` does the same, but each caller
+/// gives its commands on a thread of its own where threads can be made: the journal is that of the
+/// session with its callers in the order in which they came. The gate is told of each command of
+/// `trade`, which may wait. `generate N` reads nothing, plays the session that is generated for N
+/// commands as `replay` does, and writes the summary of its journal. `audit` reads a session, a line
+/// that is exactly `journal`, and a journal up to the end of the source, and writes how many entries
+/// it has where it is a complete journal of the session; `ship` reads the same, and writes the
+/// schedule that follows from it. Every other list of words is [`Status::Usage`].
 pub fn run<R: Threads + Wait + Sync, S: Source, K: Sink, G: Gate>(
-    _rt: &R,
+    rt: &R,
     alloc: Global,
     words: &[Word],
     source: &mut S,
     sink: &mut K,
-    _gate: &G,
+    gate: &G,
 ) -> Status
-    ensures usage { (result ≡ Status.Usage) ↔ (task_named words.now ≡ None) }
-    ensures unread { task_named words.now ≢ Some task.Replay → source.new ≡ source.old }
+    ensures usage { (result ≡ Status.Usage) ↔ ((task_named words.now ≡ None) × (trades words.now ≡ false)) }
+    ensures unread { trades words.now ≡ false → task_named words.now ≢ Some task.Replay → ¬ ReadsRecord (task_named words.now) → source.new ≡ source.old }
     ensures unwritten { IsTrue (writes_nothing result) → sink.new ≡ sink.old }
     ensures replayed { (bytes : List ℕ) → task_named words.now ≡ Some task.Replay → S.left source.old ≡ Some bytes → Replayed bytes result (K.written sink.old) (K.written sink.new) }
+    ensures traded { (bytes : List ℕ) → trades words.now ≡ true → S.left source.old ≡ Some bytes → Traded bytes result (K.written sink.old) (K.written sink.new) }
+    ensures audited { (bytes : List ℕ) → task_named words.now ≡ Some task.Audit → S.left source.old ≡ Some bytes → Audited bytes result (K.written sink.old) (K.written sink.new) }
+    ensures shipped { (bytes : List ℕ) → task_named words.now ≡ Some task.Ship → S.left source.old ≡ Some bytes → Shipped bytes result (K.written sink.old) (K.written sink.new) }
     ensures generated { (commands : ℕ) → task_named words.now ≡ Some (task.Generate commands) → Generated commands result (K.written sink.old) (K.written sink.new) }
     ensures complete { (bytes : List ℕ) (session : Session) → task_named words.now ≡ Some task.Replay → S.left source.old ≡ Some bytes → session_of_text bytes ≡ Ok session → length bytes ≤ longest_session → ¬ Rose (S.faults source.old) (S.faults source.new) → ¬ Rose (K.faults sink.old) (K.faults sink.new) → (result ≡ Status.Done) ⊎ (result ≡ Status.NoMemory) }
+    ensures complete_traded { (bytes : List ℕ) (session : Session) → trades words.now ≡ true → S.left source.old ≡ Some bytes → session_of_text bytes ≡ Ok session → length bytes ≤ longest_session → ¬ Rose (S.faults source.old) (S.faults source.new) → ¬ Rose (K.faults sink.old) (K.faults sink.new) → (result ≡ Status.Done) ⊎ (result ≡ Status.NoMemory) }
+    ensures complete_record { (bytes : List ℕ) (session : Session) (entries : List Entry) → ReadsRecord (task_named words.now) → S.left source.old ≡ Some bytes → IsRecord bytes session entries → length bytes ≤ longest_record → ¬ Rose (S.faults source.old) (S.faults source.new) → ¬ Rose (K.faults sink.old) (K.faults sink.new) → (result ≡ Status.Done) ⊎ (result ≡ Status.NoMemory) }
     ensures complete_generated { (commands : ℕ) → task_named words.now ≡ Some (task.Generate commands) → ¬ Rose (K.faults sink.old) (K.faults sink.new) → (result ≡ Status.Done) ⊎ (result ≡ Status.NoMemory) }
     ensures reads { task_named words.now ≡ Some task.Replay → result ≢ Status.NoMemory → Reads (S.left source.old) (S.left source.new) result }
+    ensures reads_traded { trades words.now ≡ true → result ≢ Status.NoMemory → Reads (S.left source.old) (S.left source.new) result }
+    ensures reads_record { ReadsRecord (task_named words.now) → result ≢ Status.NoMemory → ReadsUpTo longest_record (S.left source.old) (S.left source.new) result }
+    ensures illegal { (entry : ℕ) → result ≡ Status.Illegal entry → ReadsRecord (task_named words.now) × (trades words.now ≡ false) }
     ensures read_count { S.faults source.old ≤ S.faults source.new }
     ensures read_fault { result ≡ Status.ReadFault → Rose (S.faults source.old) (S.faults source.new) }
     ensures write_count { K.faults sink.old ≤ K.faults sink.new }
     ensures write_fault { result ≡ Status.WriteFault → Rose (K.faults sink.old) (K.faults sink.new) }
 {
     if is_trade(words) {
-        return Status::Usage;
+        return trade(rt, alloc, source, sink, gate);
     }
     run_alone(alloc, words, source, sink)
 }
@@ -65,13 +83,18 @@ pub fn run_alone<S: Source, K: Sink>(
 ) -> Status
     requires { trades words.now ≡ false }
     ensures usage { (result ≡ Status.Usage) ↔ (task_named words.now ≡ None) }
-    ensures unread { task_named words.now ≢ Some task.Replay → source.new ≡ source.old }
+    ensures unread { task_named words.now ≢ Some task.Replay → ¬ ReadsRecord (task_named words.now) → source.new ≡ source.old }
     ensures unwritten { IsTrue (writes_nothing result) → sink.new ≡ sink.old }
     ensures replayed { (bytes : List ℕ) → task_named words.now ≡ Some task.Replay → S.left source.old ≡ Some bytes → Replayed bytes result (K.written sink.old) (K.written sink.new) }
+    ensures audited { (bytes : List ℕ) → task_named words.now ≡ Some task.Audit → S.left source.old ≡ Some bytes → Audited bytes result (K.written sink.old) (K.written sink.new) }
+    ensures shipped { (bytes : List ℕ) → task_named words.now ≡ Some task.Ship → S.left source.old ≡ Some bytes → Shipped bytes result (K.written sink.old) (K.written sink.new) }
     ensures generated { (commands : ℕ) → task_named words.now ≡ Some (task.Generate commands) → Generated commands result (K.written sink.old) (K.written sink.new) }
     ensures complete { (bytes : List ℕ) (session : Session) → task_named words.now ≡ Some task.Replay → S.left source.old ≡ Some bytes → session_of_text bytes ≡ Ok session → length bytes ≤ longest_session → ¬ Rose (S.faults source.old) (S.faults source.new) → ¬ Rose (K.faults sink.old) (K.faults sink.new) → (result ≡ Status.Done) ⊎ (result ≡ Status.NoMemory) }
+    ensures complete_record { (bytes : List ℕ) (session : Session) (entries : List Entry) → ReadsRecord (task_named words.now) → S.left source.old ≡ Some bytes → IsRecord bytes session entries → length bytes ≤ longest_record → ¬ Rose (S.faults source.old) (S.faults source.new) → ¬ Rose (K.faults sink.old) (K.faults sink.new) → (result ≡ Status.Done) ⊎ (result ≡ Status.NoMemory) }
     ensures complete_generated { (commands : ℕ) → task_named words.now ≡ Some (task.Generate commands) → ¬ Rose (K.faults sink.old) (K.faults sink.new) → (result ≡ Status.Done) ⊎ (result ≡ Status.NoMemory) }
     ensures reads { task_named words.now ≡ Some task.Replay → result ≢ Status.NoMemory → Reads (S.left source.old) (S.left source.new) result }
+    ensures reads_record { ReadsRecord (task_named words.now) → result ≢ Status.NoMemory → ReadsUpTo longest_record (S.left source.old) (S.left source.new) result }
+    ensures illegal { (entry : ℕ) → result ≡ Status.Illegal entry → ReadsRecord (task_named words.now) }
     ensures read_count { S.faults source.old ≤ S.faults source.new }
     ensures read_fault { result ≡ Status.ReadFault → Rose (S.faults source.old) (S.faults source.new) }
     ensures write_count { K.faults sink.old ≤ K.faults sink.new }
@@ -79,6 +102,8 @@ pub fn run_alone<S: Source, K: Sink>(
 {
     match task_of(alloc, words) {
         Ok(Some(Task::Replay)) => replay(alloc, source, sink),
+        Ok(Some(Task::Audit)) => audit_record(alloc, source, sink),
+        Ok(Some(Task::Ship)) => ship_record(alloc, source, sink),
         Ok(Some(Task::Generate { commands })) => generate(alloc, commands, sink),
         Ok(None) => Status::Usage,
         Err(_) => Status::NoMemory,
@@ -91,28 +116,46 @@ fn replay<S: Source, K: Sink>(alloc: Global, source: &mut S, sink: &mut K) -> St
     ensures unwritten { IsTrue (writes_nothing result) → sink.new ≡ sink.old }
     ensures replayed { (bytes : List ℕ) → S.left source.old ≡ Some bytes → Replayed bytes result (K.written sink.old) (K.written sink.new) }
     ensures reads { result ≢ Status.NoMemory → Reads (S.left source.old) (S.left source.new) result }
+    ensures legal { (entry : ℕ) → result ≢ Status.Illegal entry }
     ensures read_count { S.faults source.old ≤ S.faults source.new }
     ensures read_fault { result ≡ Status.ReadFault → Rose (S.faults source.old) (S.faults source.new) }
     ensures write_count { K.faults sink.old ≤ K.faults sink.new }
     ensures write_fault { result ≡ Status.WriteFault → Rose (K.faults sink.old) (K.faults sink.new) }
 {
-    let bytes = match read_all(alloc, source) {
-        Ok(bytes) => bytes,
-        Err(ReadError::Fault) => return Status::ReadFault,
-        Err(ReadError::TooLong) => return Status::TooLong,
-        Err(ReadError::NoMemory) => return Status::NoMemory,
-    };
-    let session = match read_session(alloc, bytes.as_slice()) {
+    let session = match session_from(alloc, source) {
         Ok(session) => session,
-        Err(TextFault::BadSession { line }) => return Status::BadSession { line },
-        Err(TextFault::NoMemory) => return Status::NoMemory,
+        Err(status) => return status,
     };
-    let Ok(journal) = journal_of(alloc, session) else {
-        return Status::NoMemory;
+    match journal_of(alloc, session) {
+        Ok(journal) => write_to(alloc, &journal, sink),
+        Err(_) => Status::NoMemory,
+    }
+}
+
+// Reads a session, trades it and writes the journal.
+fn trade<R: Threads + Wait + Sync, S: Source, K: Sink, G: Gate>(
+    rt: &R,
+    alloc: Global,
+    source: &mut S,
+    sink: &mut K,
+    gate: &G,
+) -> Status
+    ensures usage { result ≢ Status.Usage }
+    ensures unwritten { IsTrue (writes_nothing result) → sink.new ≡ sink.old }
+    ensures traded { (bytes : List ℕ) → S.left source.old ≡ Some bytes → Traded bytes result (K.written sink.old) (K.written sink.new) }
+    ensures reads { result ≢ Status.NoMemory → Reads (S.left source.old) (S.left source.new) result }
+    ensures legal { (entry : ℕ) → result ≢ Status.Illegal entry }
+    ensures read_count { S.faults source.old ≤ S.faults source.new }
+    ensures read_fault { result ≡ Status.ReadFault → Rose (S.faults source.old) (S.faults source.new) }
+    ensures write_count { K.faults sink.old ≤ K.faults sink.new }
+    ensures write_fault { result ≡ Status.WriteFault → Rose (K.faults sink.old) (K.faults sink.new) }
+{
+    let session = match session_from(alloc, source) {
+        Ok(session) => session,
+        Err(status) => return status,
     };
-    match write_journal(alloc, journal.setup(), journal.entries(), sink) {
-        Ok(()) => Status::Done,
-        Err(WriteError::Fault) => Status::WriteFault,
-        Err(WriteError::NoMemory) => Status::NoMemory,
+    match trade_session(rt, alloc, gate, session) {
+        Ok(journal) => write_to(alloc, &journal, sink),
+        Err(_) => Status::NoMemory,
     }
 }

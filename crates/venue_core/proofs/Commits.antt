@@ -7,10 +7,10 @@ use Rattle.market_model.specs.declared.who.Who.TheVariants as who
 use Rattle.market_model.specs.Concerned.{IsCurrent, entries_by}
 use Rattle.market_model.specs.History.{events_of, journal_events}
 use Rattle.market_model.specs.Market.{IsLegal, reply_to}
-use Rattle.hour_desk.specs.Desk.{DeskState, carried}
+use Rattle.desk_locks.specs.Desk.{DeskState, carried}
 use Rattle.journal_front.specs.Fronts.{DeskSeatState, FrontState, IsDeskOf, IsPassOf, JournalSeatState, PassSeatState, touched_in_order, with_entries}
 use Rattle.journal_front.specs.Seats as seats
-use Rattle.joint_plan.specs.Rows.{planning_all}
+use Rattle.desk_locks.specs.Rows.{planning_all}
 use Rattle.trade_journal.specs.Journals.{IsJournal, JournalState, MayFollow, room_of_caller, with_entry}
 use Rattle.trader_pass.specs.Passes.{IsOf, PassState, pass_of_seat}
 use Rattle.desk_locks.specs.Held.{AllInPlace, HeldState, IsAllInPlace, without_desks, without_seats}

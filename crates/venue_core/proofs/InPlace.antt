@@ -21,11 +21,11 @@ use Rattle.market_laws.proofs.Journals.{journal_events-more}
 use Rattle.market_locality.proofs.Restrict.{filter-same}
 use Rattle.plain_orders.proofs.Found.{entered_in-few}
 use Rattle.plain_orders.proofs.LineLaws.{filter-map}
-use Rattle.hour_desk.specs.Desk.{DeskState, carried, planning, with_nothing_planned}
+use Rattle.desk_locks.specs.Desk.{DeskState, carried, planning, with_nothing_planned}
 use Rattle.journal_front.specs.Fronts.{DeskSeatState, FrontState, IsDeskOf, with_entries}
 use Rattle.journal_front.specs.Seats as seats
-use Rattle.joint_plan.specs.Rows as rows
-use Rattle.joint_plan.specs.Rows.{AreReady, IsJournalOf, dropped, planning_all}
+use Rattle.desk_locks.specs.Rows as rows
+use Rattle.desk_locks.specs.Rows.{AreReady, IsJournalOf, dropped, planning_all}
 use Rattle.trade_journal.proofs.Rooms.{entries-fit}
 use Rattle.desk_locks.specs.Held.{AllInPlace, AreHeld, HeldState}
 use Rattle.desk_locks.specs.Places.{AreInPlace, Place, place_at, row_of}

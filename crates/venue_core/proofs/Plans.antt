@@ -13,14 +13,14 @@ use Rattle.market_model.specs.Grid.{graph_of}
 use Rattle.market_model.specs.History.{events_of, journal_events}
 use Rattle.market_model.specs.Market.{reply_to}
 use Rattle.market_model.specs.Rules.{early_refusal, touched_hours}
-use Rattle.hour_desk.specs.Desk.{DeskState}
+use Rattle.desk_locks.specs.Desk.{DeskState}
 use Rattle.journal_front.specs.Fronts.{DeskSeatState, FrontState, IsDeskOf}
-use Rattle.joint_plan.specs.Rows as rows
-use Rattle.joint_plan.specs.Rows.{AreReady, IsJournalOf, dropped, planning_all}
+use Rattle.desk_locks.specs.Rows as rows
+use Rattle.desk_locks.specs.Rows.{AreReady, IsJournalOf, dropped, planning_all}
 use Rattle.desk_locks.specs.Held.{AllInPlace, HeldState, IsAllInPlace, without_desks}
 use Rattle.desk_locks.specs.Places.{Place, place_at}
-use Rattle.desk_market.proofs.Replying.{refused-early}
-use Rattle.desk_market.proofs.Touching.{filter-has, touched-hours}
+use Rattle.desk_locks.proofs.Commands.{refused-early}
+use Rattle.desk_locks.proofs.TouchedHours.{filter-has, touched-hours}
 use Rattle.venue_core.specs.Planning.{IsHeldFor, IsPlannedFor, hours_asked}
 use Rattle.venue_core.specs.Setups.{IsOpenSetup}
 use Rattle.venue_core.specs.Shared.{AreOfOneJournal}

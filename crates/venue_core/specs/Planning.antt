@@ -9,9 +9,9 @@ use Rattle.market_model.specs.declared.setup.Setup.{Setup}
 use Rattle.market_model.specs.History.{events_of, journal_events}
 use Rattle.market_model.specs.Market.{reply_to}
 use Rattle.market_model.specs.Rules.{touched_hours}
-use Rattle.hour_desk.specs.Desk.{DeskState}
+use Rattle.desk_locks.specs.Desk.{DeskState}
 use Rattle.journal_front.specs.Fronts.{FrontState}
-use Rattle.joint_plan.specs.Rows.{IsJournalOf, planning_all}
+use Rattle.desk_locks.specs.Rows.{IsJournalOf, planning_all}
 use Rattle.desk_locks.specs.Held.{AllInPlace, HeldState, IsAllInPlace}
 use Rattle.desk_locks.specs.Places.{place_at}
 

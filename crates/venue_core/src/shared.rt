@@ -13,8 +13,7 @@ ghost use Rattle.venue_core.specs.Setups.{IsOpenSetup};
 ghost use Rattle.venue_core.specs.Shared.{AreOfOneJournal, IsShared};
 ghost use Rattle.venue_core.specs.Submitting.{IsSubmitted};
 
-use desk_locks::Held;
-use joint_plan::carry_all;
+use desk_locks::{Held, carry_all};
 use journal_front::{Front, JournalSeat, PassSeat};
 use kept_lock::Kept;
 use market_model::Entry;

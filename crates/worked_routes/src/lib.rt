@@ -6,6 +6,8 @@
 #![tactic(auto)]
 
 #[cfg(test)]
+mod made;
+#[cfg(test)]
 mod pour_tests;
 #[cfg(test)]
 mod reach_tests;

@@ -1,13 +1,13 @@
 //! What routes carry and pours go over, and the rooms that they leave.
 
-ghost use Rattle.std.specs.Prelude.{◌≡◌, ◌<◌, IfOk, length, nat_lt};
+ghost use Rattle.std.specs.Prelude.{◌≡◌, ◌<◌, length, nat_lt};
 ghost use Rattle.std.specs.List.{list_all};
 
+use crate::made::{made, rooms_over};
 use route_carrying::{carried, carry};
 use route_choice::pour;
-use std::alloc::Global;
-use std::test::Fail;
-use worked_grids::{are_legs, diamond, grid_of, rooms_of, rooms_of_diamond};
+use std::process::Abort;
+use worked_grids::{are_legs, diamond, grid_of, rooms_of_diamond};
 use zone_graph::{Arc, Rooms};
 
 // The rooms of the two arcs of a border.
@@ -22,30 +22,30 @@ fn both(rooms: &Rooms, border: u32) -> (u32, u32)
 
 // Whether a pour on the diamond goes over these legs, with so many lots each, and leaves these rooms.
 fn is_poured(
-    alloc: Global,
+    rt: &(impl Abort + AllocGlobal),
     ends: (u32, u32),
     most: u32,
     legs: &[(&[Arc], u32)],
     left: [(u32, u32); 4],
-) -> Result<bool, Fail> {
-    let grid = diamond(alloc)?;
-    let mut rooms = rooms_of_diamond(&grid)?;
+) -> bool {
+    let grid = made(rt, diamond(rt.alloc()));
+    let mut rooms = made(rt, rooms_of_diamond(&grid));
     let (from, to) = ends;
     if from >= grid.zones() || to >= grid.zones() {
-        return Ok(false);
+        return false;
     }
-    let poured = pour(alloc, &grid, &mut rooms, from, to, most)?;
+    let poured = pour(rt.alloc(), &grid, &mut rooms, from, to, most).expect(rt, "memory");
     let after = [
         both(&rooms, 0),
         both(&rooms, 1),
         both(&rooms, 2),
         both(&rooms, 3),
     ];
-    Ok(are_legs(&poured, legs) && after == left)
+    are_legs(&poured, legs) && after == left
 }
 
 #[test]
-fn a_pour_goes_over_one_route_after_another(rt: HostRuntime) -> Result<(), Fail> {
+fn a_pour_goes_over_one_route_after_another(rt: HostRuntime) {
     let before = [(6, 0), (5, 1), (8, 0), (4, 3)];
     let after = [(0, 6), (1, 5), (2, 6), (0, 7)];
     let one_side = [Arc::over(0, true), Arc::over(2, true)];
@@ -53,29 +53,25 @@ fn a_pour_goes_over_one_route_after_another(rt: HostRuntime) -> Result<(), Fail>
     let both_sides = [(one_side.as_slice(), 6), (other_side.as_slice(), 4)];
     let back = [Arc::over(3, false), Arc::over(1, false)];
     for most in [10, 12, u32::MAX] {
-        assert!(rt;
-            is_poured(rt.alloc(), (0, 3), most, &both_sides, after)?,
-            "{most}"
-        );
+        assert!(rt; is_poured(&rt, (0, 3), most, &both_sides, after), "{most}");
     }
     // A part of the room, and the rest is left.
     let one_back = [(back.as_slice(), 1)];
     let rest = [(6, 0), (6, 0), (8, 0), (5, 2)];
-    assert!(rt; is_poured(rt.alloc(), (3, 0), 2, &one_back, rest)?);
+    assert!(rt; is_poured(&rt, (3, 0), 2, &one_back, rest));
     // From a zone to itself, which takes no room.
     let at_home = [([].as_slice(), 9)];
-    assert!(rt; is_poured(rt.alloc(), (1, 1), 9, &at_home, before)?);
+    assert!(rt; is_poured(&rt, (1, 1), 9, &at_home, before));
     // Nothing.
-    assert!(rt; is_poured(rt.alloc(), (0, 3), 0, &[], before)?);
-    Ok(())
+    assert!(rt; is_poured(&rt, (0, 3), 0, &[], before));
 }
 
 // The rooms of four zones in a row, for each border forward and backward.
-fn rooms_of_row(alloc: Global, pairs: [(u32, u32); 3]) -> Result<Rooms, Fail>
-    ensures { IfOk result (λ rooms. length rooms ≡ 3) }
+fn rooms_of_row(rt: &(impl Abort + AllocGlobal), pairs: [(u32, u32); 3]) -> Rooms
+    ensures { length result ≡ 3 }
 {
-    let grid = grid_of(alloc, 4, &[(0, 1), (1, 2), (2, 3)])?;
-    rooms_of(&grid, &pairs)
+    let grid = made(rt, grid_of(rt.alloc(), 4, &[(0, 1), (1, 2), (2, 3)]));
+    rooms_over(rt, &grid, &pairs)
 }
 
 // Whether each arc is over one of three borders.
@@ -96,8 +92,8 @@ fn carried_along(rooms: &Rooms, lots: u32, route: &[Arc]) -> Option<u32>
 }
 
 #[test]
-fn a_route_carries_the_least_of_the_lots_and_its_rooms(rt: HostRuntime) -> Result<(), Fail> {
-    let rooms = rooms_of_row(rt.alloc(), [(9, 1), (4, 8), (7, 6)])?;
+fn a_route_carries_the_least_of_the_lots_and_its_rooms(rt: HostRuntime) {
+    let rooms = rooms_of_row(&rt, [(9, 1), (4, 8), (7, 6)]);
     let ahead = [Arc::over(0, true), Arc::over(1, true), Arc::over(2, true)];
     let back = [Arc::over(2, false), Arc::over(1, false)];
     for (route, lots, want) in [
@@ -110,7 +106,6 @@ fn a_route_carries_the_least_of_the_lots_and_its_rooms(rt: HostRuntime) -> Resul
     ] {
         assert!(rt; carried_along(&rooms, lots, route) == Some(want), "{want}");
     }
-    Ok(())
 }
 
 // Carries few lots over two arcs, where both have room and few lots go back.
@@ -132,21 +127,19 @@ fn carry_over_both(rooms: &mut Rooms, first: Arc, second: Arc, lots: u32) -> boo
 
 // Whether lots that are carried over two arcs of the row leave these rooms.
 fn is_carried(
-    alloc: Global,
+    rt: &(impl Abort + AllocGlobal),
     arcs: (Arc, Arc),
     lots: u32,
     left: [(u32, u32); 3],
-) -> Result<bool, Fail> {
-    let mut rooms = rooms_of_row(alloc, [(9, 1), (4, 8), (7, 6)])?;
+) -> bool {
+    let mut rooms = rooms_of_row(rt, [(9, 1), (4, 8), (7, 6)]);
     let carried = carry_over_both(&mut rooms, arcs.0, arcs.1, lots);
     let after = [both(&rooms, 0), both(&rooms, 1), both(&rooms, 2)];
-    Ok(carried && after == left)
+    carried && after == left
 }
 
 #[test]
-fn lots_that_are_carried_go_from_the_rooms_of_arcs_to_the_opposite_ones(
-    rt: HostRuntime,
-) -> Result<(), Fail> {
+fn lots_that_are_carried_go_from_the_rooms_of_arcs_to_the_opposite_ones(rt: HostRuntime) {
     let ahead = (Arc::over(0, true), Arc::over(1, true));
     let back = (Arc::over(2, false), Arc::over(1, false));
     let nothing = (Arc::over(1, true), Arc::over(2, true));
@@ -155,7 +148,6 @@ fn lots_that_are_carried_go_from_the_rooms_of_arcs_to_the_opposite_ones(
         (back, 5, [(9, 1), (9, 3), (12, 1)]),
         (nothing, 0, [(9, 1), (4, 8), (7, 6)]),
     ] {
-        assert!(rt; is_carried(rt.alloc(), arcs, lots, left)?, "{lots}");
+        assert!(rt; is_carried(&rt, arcs, lots, left), "{lots}");
     }
-    Ok(())
 }

@@ -1,85 +1,114 @@
 //! Zones reached and bounds on small grids.
 
+use crate::made::rooms_over;
 use cut_proof::{border_bound, reach};
-use std::alloc::Global;
+use std::process::Abort;
 use std::test::Fail;
-use worked_grids::{diamond, ring_of_twelve, rooms_of};
+use worked_grids::{diamond, ring_of_twelve};
 use zone_graph::{Grid, Zones};
 
 // Whether the zones reached towards a zone, or from it, over these rooms are the wanted ones.
 fn is_reached(
-    alloc: Global,
+    rt: &(impl Abort + AllocGlobal),
     grid: &Grid,
     room: &[(u32, u32)],
     asked: (u32, bool),
     want: &[u32],
-) -> Result<bool, Fail> {
-    let rooms = rooms_of(grid, room)?;
+) -> bool {
+    let rooms = rooms_over(rt, grid, room);
     let (zone, towards) = asked;
     if zone >= grid.zones() {
-        return Ok(false);
+        return false;
     }
-    Ok(reach(alloc, grid, &rooms, zone, towards)?.as_slice() == want)
+    let reached = reach(rt.alloc(), grid, &rooms, zone, towards).expect(rt, "memory");
+    reached.as_slice() == want
 }
 
 // Whether the bounds of zones over these rooms are the wanted ones, into them and out of them.
 fn is_bound(
-    alloc: Global,
+    rt: &(impl Abort + AllocGlobal),
     grid: &Grid,
     room: &[(u32, u32)],
     zones: &[u32],
     want: (u64, u64),
-) -> Result<bool, Fail> {
-    let rooms = rooms_of(grid, room)?;
+) -> bool {
+    let rooms = rooms_over(rt, grid, room);
     let count = grid.zones();
-    let zones = Zones::from(Vec::from_slice(alloc, zones)?);
+    let zones = Zones::from(Vec::from_slice(rt.alloc(), zones).expect(rt, "memory"));
     if zones.as_slice().iter().any(|zone| *zone >= count) {
-        return Ok(false);
+        return false;
     }
     let entering = border_bound(grid, &rooms, &zones, true);
     let leaving = border_bound(grid, &rooms, &zones, false);
-    Ok((entering, leaving) == want)
+    (entering, leaving) == want
+}
+
+// The room of each border of the diamond, forward and backward.
+const SOME_ROOM: [(u32, u32); 4] = [(8, 0), (0, 0), (0, 9), (5, 4)];
+
+const MUCH_ROOM: [(u32, u32); 4] = [(1, 2), (10, 20), (100, 200), (1000, u32::MAX)];
+
+// A zone, whether towards it, and the zones reached.
+type Reached<'a> = ((u32, bool), &'a [u32]);
+
+const REACHED: [Reached; 6] = [
+    ((3, true), &[2, 3]),
+    ((1, true), &[0, 1, 2, 3]),
+    ((0, true), &[0]),
+    ((3, false), &[1, 2, 3]),
+    ((1, false), &[1]),
+    ((0, false), &[0, 1]),
+];
+
+// Each case reaches its zones over some rooms.
+fn expect_reached(
+    rt: &(impl Abort + AllocGlobal),
+    grid: &Grid,
+    room: &[(u32, u32)],
+    cases: &[Reached],
+) {
+    for (asked, want) in cases {
+        assert!(rt; is_reached(rt, grid, room, *asked, want), "{asked:?}");
+    }
 }
 
 #[test]
 fn routes_of_a_diamond_lead_to_zones_and_from_them(rt: HostRuntime) -> Result<(), Fail> {
     let grid = diamond(rt.alloc())?;
-    let room = [(8, 0), (0, 0), (0, 9), (5, 4)];
-    for (asked, want) in [
-        ((3, true), [2, 3].as_slice()),
-        ((1, true), &[0, 1, 2, 3]),
-        ((0, true), &[0]),
-        ((3, false), &[1, 2, 3]),
-        ((1, false), &[1]),
-        ((0, false), &[0, 1]),
-    ] {
-        assert!(rt;
-            is_reached(rt.alloc(), &grid, &room, asked, want)?,
-            "{asked:?}"
-        );
-    }
+    expect_reached(&rt, &grid, &SOME_ROOM, &REACHED);
     Ok(())
+}
+
+// Zones, and their bounds, into them and out of them.
+type Bounds<'a> = (&'a [u32], (u64, u64));
+
+const SOME_BOUNDS: [Bounds; 2] = [(&[2, 3], (0, 9)), (&[1, 2, 3], (8, 0))];
+
+const MUCH_BOUNDS: [Bounds; 5] = [
+    (&[2, 3], (110, 220)),
+    (&[3, 2], (110, 220)),
+    (&[3], (1100, 4294967495)),
+    (&[], (0, 0)),
+    (&[0, 1, 2, 3], (0, 0)),
+];
+
+// Each case has its bounds over some rooms.
+fn expect_bounds(
+    rt: &(impl Abort + AllocGlobal),
+    grid: &Grid,
+    room: &[(u32, u32)],
+    cases: &[Bounds],
+) {
+    for (zones, want) in cases {
+        assert!(rt; is_bound(rt, grid, room, zones, *want), "{zones:?}");
+    }
 }
 
 #[test]
 fn bounds_count_the_arcs_of_one_direction(rt: HostRuntime) -> Result<(), Fail> {
     let grid = diamond(rt.alloc())?;
-    let some = [(8, 0), (0, 0), (0, 9), (5, 4)];
-    let much = [(1, 2), (10, 20), (100, 200), (1000, u32::MAX)];
-    for (room, zones, want) in [
-        (some, [2, 3].as_slice(), (0, 9)),
-        (some, &[1, 2, 3], (8, 0)),
-        (much, &[2, 3], (110, 220)),
-        (much, &[3, 2], (110, 220)),
-        (much, &[3], (1100, 4294967495)),
-        (much, &[], (0, 0)),
-        (much, &[0, 1, 2, 3], (0, 0)),
-    ] {
-        assert!(rt;
-            is_bound(rt.alloc(), &grid, &room, zones, want)?,
-            "{want:?}"
-        );
-    }
+    expect_bounds(&rt, &grid, &SOME_ROOM, &SOME_BOUNDS);
+    expect_bounds(&rt, &grid, &MUCH_ROOM, &MUCH_BOUNDS);
     Ok(())
 }
 
@@ -93,26 +122,22 @@ fn rooms_of_ring(room: (u32, u32), is_cut: bool) -> [(u32, u32); 20] {
     rooms
 }
 
+const ALL_ZONES: [u32; 12] = [0, 1, 2, 3, 4, 5, 6, 7, 8, 9, 10, 11];
+
+const REACHED_ON_THE_RING: [Reached; 1] = [((9, true), &ALL_ZONES)];
+
+const REACHED_WHERE_IT_IS_CUT: [Reached; 2] = [
+    ((6, true), &[0, 1, 2, 3, 4, 5, 6]),
+    ((6, false), &[6, 7, 8, 9, 10, 11]),
+];
+
 #[test]
 fn a_ring_of_twelve_zones_with_eight_chords(rt: HostRuntime) -> Result<(), Fail> {
     let grid = ring_of_twelve(rt.alloc())?;
-    for (room, is_cut, asked, want) in [
-        (
-            (7, 5),
-            false,
-            (9, true),
-            [0, 1, 2, 3, 4, 5, 6, 7, 8, 9, 10, 11].as_slice(),
-        ),
-        ((7, 0), true, (6, true), &[0, 1, 2, 3, 4, 5, 6]),
-        ((7, 0), true, (6, false), &[6, 7, 8, 9, 10, 11]),
-    ] {
-        let rooms = rooms_of_ring(room, is_cut);
-        assert!(rt;
-            is_reached(rt.alloc(), &grid, &rooms, asked, want)?,
-            "{asked:?}"
-        );
-    }
     let all = rooms_of_ring((7, 5), false);
-    assert!(rt; is_bound(rt.alloc(), &grid, &all, &[0, 1, 2, 3, 4, 5], (32, 40))?);
+    let cut = rooms_of_ring((7, 0), true);
+    expect_reached(&rt, &grid, &all, &REACHED_ON_THE_RING);
+    expect_reached(&rt, &grid, &cut, &REACHED_WHERE_IT_IS_CUT);
+    assert!(rt; is_bound(&rt, &grid, &all, &[0, 1, 2, 3, 4, 5], (32, 40)));
     Ok(())
 }

@@ -1,14 +1,16 @@
 //! Distances and best routes on small grids.
 
-ghost use Rattle.std.specs.Prelude.{◌≡◌, ◌&&◌, IfOk, length, nat_lt};
+ghost use Rattle.std.specs.Prelude.{◌≡◌, ◌&&◌, length, nat_lt};
 ghost use Rattle.std.specs.List.{list_all};
-ghost use Rattle.zone_graph.specs.Graph.{border_count};
+ghost use Rattle.zone_graph.specs.Graph.{border_count, zone_count};
 
+use crate::made::rooms_over;
 use cut_proof::reach;
 use route_choice::best_route;
 use std::alloc::Global;
+use std::process::Abort;
 use std::test::Fail;
-use worked_grids::{diamond, grid_of, ring_of_twelve, rooms_of};
+use worked_grids::{diamond, grid_of, ring_of_twelve};
 use zone_graph::{Arc, Grid, Rooms};
 use zone_search::{Distances, distances};
 
@@ -20,48 +22,82 @@ fn join_zones(zones: u8, pairs: &[(u32, u32)]) -> bool
     pairs.iter().all(|ends| ends.0 < zones && ends.1 < zones)
 }
 
+// A border, and whether an arc goes over it forward.
+type Way = (u32, bool);
+
 // 7 lots, or none on an arc that is closed.
-fn room_but(arc: Arc, closed: &[Arc]) -> u32 {
-    if closed.contains(&arc) { 0 } else { 7 }
+fn room_but(way: Way, closed: &[Way]) -> u32 {
+    if closed.contains(&way) { 0 } else { 7 }
 }
 
 // Rooms of 7 lots on each arc, but for those that are closed.
-fn rooms_but(grid: &Grid, closed: &[Arc]) -> Result<Rooms, Fail>
-    ensures { IfOk result (λ rooms. length rooms ≡ border_count grid.now) }
+fn rooms_but(rt: &impl Abort, grid: &Grid, closed: &[Way]) -> Rooms
+    ensures { length result ≡ border_count grid.now }
 {
-    let mut rooms = Rooms::new(grid)?;
+    let mut rooms = Rooms::new(grid).expect(rt, "memory");
     let borders = grid.borders();
     for border in 0..borders {
-        rooms.set(
-            Arc::over(border, true),
-            room_but(Arc::over(border, true), closed),
-        );
-        rooms.set(
-            Arc::over(border, false),
-            room_but(Arc::over(border, false), closed),
-        );
+        rooms.set(Arc::over(border, true), room_but((border, true), closed));
+        rooms.set(Arc::over(border, false), room_but((border, false), closed));
     }
-    Ok(rooms)
+    rooms
+}
+
+// Whether a route goes over these arcs.
+fn goes_over(route: &[Arc], ways: &[Way]) -> bool {
+    if route.len() != ways.len() {
+        return false;
+    }
+    for (arc, way) in route.iter().zip(ways) {
+        if (arc.border, arc.forward) != *way {
+            return false;
+        }
+    }
+    true
 }
 
 // Whether the best route between two zones is the wanted one.
 fn is_best(
-    alloc: Global,
+    rt: &(impl Abort + AllocGlobal),
     grid: &Grid,
-    closed: &[Arc],
+    closed: &[Way],
     ends: (u32, u32),
-    want: Option<&[Arc]>,
-) -> Result<bool, Fail> {
-    let rooms = rooms_but(grid, closed)?;
+    want: Option<&[Way]>,
+) -> bool {
+    let rooms = rooms_but(rt, grid, closed);
     let (from, to) = ends;
     if from >= grid.zones() || to >= grid.zones() {
-        return Ok(false);
+        return false;
     }
-    Ok(match (best_route(alloc, grid, &rooms, from, to)?, want) {
-        (Some(route), Some(arcs)) => route.as_slice() == arcs,
+    let best = best_route(rt.alloc(), grid, &rooms, from, to).expect(rt, "memory");
+    match (best, want) {
+        (Some(route), Some(ways)) => goes_over(route.as_slice(), ways),
         (None, None) => true,
         _ => false,
-    })
+    }
+}
+
+// Arcs without room, two zones, and the best route from the first to the second.
+type Best<'a> = (&'a [Way], (u32, u32), Option<&'a [Way]>);
+
+const BEST: [Best; 6] = [
+    (&[], (0, 3), Some(&[(0, true), (2, true)])),
+    (&[(2, true)], (0, 3), Some(&[(1, true), (3, true)])),
+    (&[(2, true)], (3, 0), Some(&[(2, false), (0, false)])),
+    (
+        &[(0, true)],
+        (0, 1),
+        Some(&[(1, true), (3, true), (2, false)]),
+    ),
+    (&[(0, true), (1, true)], (0, 3), None),
+    (&[(0, true), (1, true)], (0, 0), Some(&[])),
+];
+
+// The best routes of some cases are those that are wanted.
+fn expect_best(rt: &(impl Abort + AllocGlobal), grid: &Grid, cases: &[Best]) {
+    for (closed, ends, want) in cases {
+        assert!(rt; is_best(rt, grid, closed, *ends, *want), "{ends:?}");
+    }
 }
 
 #[test]
@@ -69,55 +105,34 @@ fn ties_go_to_the_lesser_border_and_arcs_without_room_are_left_out(
     rt: HostRuntime,
 ) -> Result<(), Fail> {
     let grid = diamond(rt.alloc())?;
-    let there = [Arc::over(0, true), Arc::over(2, true)];
-    let other = [Arc::over(1, true), Arc::over(3, true)];
-    let back = [Arc::over(2, false), Arc::over(0, false)];
-    let round = [Arc::over(1, true), Arc::over(3, true), Arc::over(2, false)];
-    let second = [Arc::over(2, true)];
-    let first = [Arc::over(0, true)];
-    let all = [Arc::over(0, true), Arc::over(1, true)];
-    for (closed, ends, want) in [
-        ([].as_slice(), (0, 3), Some(there.as_slice())),
-        (&second, (0, 3), Some(&other)),
-        (&second, (3, 0), Some(&back)),
-        (&first, (0, 1), Some(&round)),
-        (&all, (0, 3), None),
-        (&all, (0, 0), Some(&[])),
-    ] {
-        assert!(rt; is_best(rt.alloc(), &grid, closed, ends, want)?, "{ends:?}");
-    }
+    expect_best(&rt, &grid, &BEST);
     Ok(())
 }
+
+const BEST_OF_THE_RING: [Best; 2] = [
+    (&[], (0, 6), Some(&[(0, true), (1, true), (14, true)])),
+    (&[], (9, 2), Some(&[(9, true), (18, false), (14, false)])),
+];
 
 #[test]
 fn routes_of_a_ring_of_twelve_zones_with_eight_chords(rt: HostRuntime) -> Result<(), Fail> {
     let grid = ring_of_twelve(rt.alloc())?;
-    let ahead = [Arc::over(0, true), Arc::over(1, true), Arc::over(14, true)];
-    let back = [
-        Arc::over(9, true),
-        Arc::over(18, false),
-        Arc::over(14, false),
-    ];
-    for (ends, want) in [((0, 6), ahead), ((9, 2), back)] {
-        let want = Some(want.as_slice());
-        assert!(rt; is_best(rt.alloc(), &grid, &[], ends, want)?, "{ends:?}");
-    }
+    expect_best(&rt, &grid, &BEST_OF_THE_RING);
     Ok(())
 }
 
 // How many zones are reached towards a zone, or from it.
 fn count_reached(
-    alloc: Global,
+    rt: &(impl Abort + AllocGlobal),
     grid: &Grid,
-    closed: &[Arc],
+    closed: &[Way],
     zone: u32,
     towards: bool,
-) -> Result<usize, Fail> {
-    if zone >= grid.zones() {
-        return Err(Fail::from("no zone"));
-    }
-    let rooms = rooms_but(grid, closed)?;
-    Ok(reach(alloc, grid, &rooms, zone, towards)?.len())
+) -> usize {
+    assert!(rt; zone < grid.zones());
+    let rooms = rooms_but(rt, grid, closed);
+    let reached = reach(rt.alloc(), grid, &rooms, zone, towards);
+    reached.expect(rt, "memory").len()
 }
 
 // Eight rows of eight zones each, of which each is joined with the next of its row and with the next of
@@ -135,60 +150,61 @@ fn sixty_four_zones(alloc: Global) -> Result<Grid, Fail> {
     grid_of(alloc, 64, &pairs)
 }
 
+const BEST_OF_SIXTY_FOUR: [Best; 1] = [(
+    &[],
+    (0, 36),
+    Some(&[
+        (0, true),
+        (2, true),
+        (4, true),
+        (6, true),
+        (9, true),
+        (25, true),
+        (41, true),
+        (57, true),
+    ]),
+)];
+
+// All arcs into the first zone.
+const INTO_THE_FIRST: [Way; 4] = [(0, false), (1, false), (14, true), (113, true)];
+
 #[test]
 fn a_route_through_a_grid_of_sixty_four_zones(rt: HostRuntime) -> Result<(), Fail> {
     let grid = sixty_four_zones(rt.alloc())?;
-    let want = [
-        Arc::over(0, true),
-        Arc::over(2, true),
-        Arc::over(4, true),
-        Arc::over(6, true),
-        Arc::over(9, true),
-        Arc::over(25, true),
-        Arc::over(41, true),
-        Arc::over(57, true),
-    ];
-    assert!(rt; is_best(rt.alloc(), &grid, &[], (0, 36), Some(want.as_slice()))?);
-
+    expect_best(&rt, &grid, &BEST_OF_SIXTY_FOUR);
+    assert_eq!(rt; count_reached(&rt, &grid, &[], 36, true), 64);
     // Over no arc into the first zone is it reached, yet it reaches all.
-    let closed = [
-        Arc::over(0, false),
-        Arc::over(1, false),
-        Arc::over(14, true),
-        Arc::over(113, true),
-    ];
-    for (closed, zone, towards, want) in [
-        ([].as_slice(), 36, true, 64),
-        (&closed, 0, true, 1),
-        (&closed, 0, false, 64),
-    ] {
-        let count = count_reached(rt.alloc(), &grid, closed, zone, towards)?;
-        assert!(rt; count == want, "{count}");
-    }
+    assert_eq!(rt; count_reached(&rt, &grid, &INTO_THE_FIRST, 0, true), 1);
+    assert_eq!(rt; count_reached(&rt, &grid, &INTO_THE_FIRST, 0, false), 64);
     Ok(())
 }
 
 // The distances, in one direction, of a diamond of four zones whose arcs have room along the way
 // 2 0 1 3 alone.
-fn on_the_diamond(alloc: Global, zone: u32, towards: bool) -> Result<Distances, Fail> {
-    let grid = diamond(alloc)?;
-    let rooms = rooms_of(&grid, &[(7, 0), (0, 7), (7, 0), (0, 0)])?;
-    if zone < grid.zones() {
-        Ok(distances(&grid, &rooms, zone, towards))
-    } else {
-        Err(Fail::from("no zone"))
-    }
+fn on_the_diamond(rt: &impl Abort, grid: &Grid, zone: u32, towards: bool) -> Distances
+    requires { zone_count grid.now ≡ 4 }
+{
+    let rooms = rooms_over(rt, grid, &[(7, 0), (0, 7), (7, 0), (0, 0)]);
+    assert!(rt; zone < 4);
+    distances(grid, &rooms, zone, towards)
+}
+
+// The distances of the four zones, and of none behind them, are those that are wanted.
+fn expect_distances(rt: &impl Abort, grid: &Grid, asked: (u32, bool), want: [Option<u32>; 5])
+    requires { zone_count grid.now ≡ 4 }
+{
+    let found = on_the_diamond(rt, grid, asked.0, asked.1);
+    assert!(rt; &found[..5] == want.as_slice(), "{asked:?}");
 }
 
 #[test]
 fn distances_follow_the_direction_of_the_arcs(rt: HostRuntime) -> Result<(), Fail> {
-    for (zone, towards, want) in [
-        (3, true, [Some(2), Some(1), Some(3), Some(0), None]),
-        (3, false, [None, None, None, Some(0), None]),
-        (2, false, [Some(1), Some(2), Some(0), Some(3), None]),
-    ] {
-        let found = on_the_diamond(rt.alloc(), zone, towards)?;
-        assert!(rt; &found[..5] == want.as_slice(), "{zone} {towards}");
-    }
+    let grid = diamond(rt.alloc())?;
+    let to_the_last = [Some(2), Some(1), Some(3), Some(0), None];
+    expect_distances(&rt, &grid, (3, true), to_the_last);
+    let from_the_last = [None, None, None, Some(0), None];
+    expect_distances(&rt, &grid, (3, false), from_the_last);
+    let from_the_third = [Some(1), Some(2), Some(0), Some(3), None];
+    expect_distances(&rt, &grid, (2, false), from_the_third);
     Ok(())
 }

@@ -3,21 +3,22 @@
 ghost use Rattle.std.specs.Prelude.{◌≡◌, ◌<◌, length};
 ghost use Rattle.zone_graph.specs.Graph.{border_count, zone_count};
 
+use crate::made::rooms_over;
 use route_choice::best_route;
 use route_tree::RouteTree;
-use std::alloc::Global;
+use std::process::Abort;
 use std::test::Fail;
-use worked_grids::{diamond, grid_of, ring_of_twelve, rooms_of};
+use worked_grids::{diamond, grid_of, ring_of_twelve};
 use zone_graph::{Arc, Grid, Rooms};
 
 // Whether a tree tells the best route between its zone and another one, and none where there is none.
 fn tells_the_best(
-    alloc: Global,
+    rt: &(impl Abort + AllocGlobal),
     grid: &Grid,
     rooms: &Rooms,
     tree: &RouteTree,
     other: u32,
-) -> Result<bool, Fail>
+) -> bool
     requires { length rooms.now ≡ border_count grid.now }
 {
     let (from, to) = if tree.towards() {
@@ -26,70 +27,70 @@ fn tells_the_best(
         (tree.zone(), other)
     };
     if from >= grid.zones() || to >= grid.zones() {
-        return Ok(false);
+        return false;
     }
-    let best = best_route(alloc, grid, rooms, from, to)?;
+    let best = best_route(rt.alloc(), grid, rooms, from, to).expect(rt, "memory");
     if !tree.reaches(other) {
-        return Ok(best.is_none());
+        return best.is_none();
     }
     let mut arcs = [Arc::over(0, false); 64];
     let count = tree.route_into(other, &mut arcs);
     match (best, arcs.get(..count)) {
-        (Some(route), Some(told)) => Ok(route.as_slice() == told),
-        _ => Ok(false),
+        (Some(route), Some(told)) => route.as_slice() == told,
+        _ => false,
     }
 }
 
 // Whether a tree is that of a zone in a direction, and tells the best routes between it and all zones.
 fn tells_all(
-    alloc: Global,
+    rt: &(impl Abort + AllocGlobal),
     grid: &Grid,
     rooms: &Rooms,
     tree: &RouteTree,
     asked: (u32, bool),
-) -> Result<bool, Fail>
+) -> bool
     requires { length rooms.now ≡ border_count grid.now }
 {
     if (tree.zone(), tree.towards()) != asked {
-        return Ok(false);
+        return false;
     }
     for other in 0..grid.zones() {
-        if !tells_the_best(alloc, grid, rooms, tree, other)? {
-            return Ok(false);
+        if !tells_the_best(rt, grid, rooms, tree, other) {
+            return false;
         }
     }
-    Ok(true)
+    true
 }
 
 // Whether the trees of each zone of a grid, in both directions, tell the best routes over these rooms.
-fn all_tell_the_best(alloc: Global, grid: &Grid, room: &[(u32, u32)]) -> Result<bool, Fail> {
-    let rooms = rooms_of(grid, room)?;
+fn all_tell_the_best(rt: &(impl Abort + AllocGlobal), grid: &Grid, room: &[(u32, u32)]) -> bool {
+    let rooms = rooms_over(rt, grid, room);
     let zones = grid.zones();
     for zone in 0..zones {
         let mut tree = RouteTree::new(grid, &rooms, zone, true);
-        if !tells_all(alloc, grid, &rooms, &tree, (zone, true))? {
-            return Ok(false);
+        if !tells_all(rt, grid, &rooms, &tree, (zone, true)) {
+            return false;
         }
         tree.remake(grid, &rooms, zone, false);
-        if !tells_all(alloc, grid, &rooms, &tree, (zone, false))? {
-            return Ok(false);
+        if !tells_all(rt, grid, &rooms, &tree, (zone, false)) {
+            return false;
         }
     }
-    Ok(true)
+    true
 }
 
 // Whether a tree of the diamond that was made over some rooms tells the routes over later ones after a
 // leg over its first arc and its third one.
-fn tells_over(grid: &Grid, before: &Rooms, later: &[(u32, u32)]) -> Result<bool, Fail>
+fn tells_over(rt: &impl Abort, grid: &Grid, before: &Rooms, later: &[(u32, u32)]) -> bool
     requires zones { zone_count grid.now ≡ 4 }
     requires borders { border_count grid.now ≡ 4 }
     requires size { length before.now ≡ border_count grid.now }
 {
-    let after = rooms_of(grid, later)?;
+    let after = rooms_over(rt, grid, later);
     let tree = RouteTree::new(grid, before, 3, true);
     let is_first_left = tree.tells_after(&after, &[Arc::over(0, true)]);
     let is_third_left = tree.tells_after(&after, &[Arc::over(2, true)]);
-    Ok(is_first_left && is_third_left)
+    is_first_left && is_third_left
 }
 
 // The room of an arc in the rooms of a number: some arcs of each have none.
@@ -115,50 +116,73 @@ fn drawn_rooms(number: u32) -> [(u32, u32); 24]
     room
 }
 
-#[test]
-fn trees_tell_the_best_routes(rt: HostRuntime) -> Result<(), Fail> {
-    // Nine zones in a square, of which neighbours in rows and columns are joined, with borders in no
-    // order: most routes are as short as others.
-    let square = [
-        (4, 5),
-        (7, 4),
-        (0, 1),
-        (8, 7),
-        (3, 6),
-        (1, 4),
-        (5, 2),
-        (6, 7),
-        (0, 3),
-        (2, 1),
-        (8, 5),
-        (4, 3),
-    ];
-    let line = [(2, 0), (1, 3), (3, 2)];
-    let grids = [
-        diamond(rt.alloc())?,
-        ring_of_twelve(rt.alloc())?,
-        grid_of(rt.alloc(), 9, &square)?,
-        grid_of(rt.alloc(), 5, &line)?,
-    ];
-    for grid in &grids {
-        assert!(rt; all_tell_the_best(rt.alloc(), grid, &[(1, 1); 24])?);
-        assert!(rt; all_tell_the_best(rt.alloc(), grid, &[(0, 1); 24])?);
-        assert!(rt; all_tell_the_best(rt.alloc(), grid, &[(1, 0); 24])?);
-        for number in 0..40 {
-            assert!(rt;
-                all_tell_the_best(rt.alloc(), grid, &drawn_rooms(number))?,
-                "{number}"
-            );
-        }
+// The trees of each zone of a grid tell the best routes over rooms on all arcs, on the arcs of one
+// direction, and over 40 drawn rows of rooms.
+fn expect_the_best(rt: &(impl Abort + AllocGlobal), grid: &Grid) {
+    for room in [(1, 1), (0, 1), (1, 0)] {
+        assert!(rt; all_tell_the_best(rt, grid, &[room; 24]), "{room:?}");
     }
+    for number in 0..40 {
+        assert!(rt;
+            all_tell_the_best(rt, grid, &drawn_rooms(number)),
+            "{number}"
+        );
+    }
+}
+
+// Nine zones in a square, of which neighbours in rows and columns are joined, with borders in no
+// order: most routes are as short as others.
+const SQUARE: [(u32, u32); 12] = [
+    (4, 5),
+    (7, 4),
+    (0, 1),
+    (8, 7),
+    (3, 6),
+    (1, 4),
+    (5, 2),
+    (6, 7),
+    (0, 3),
+    (2, 1),
+    (8, 5),
+    (4, 3),
+];
+
+// Four zones in a line, and one that is joined with none.
+const LINE: [(u32, u32); 3] = [(2, 0), (1, 3), (3, 2)];
+
+#[test]
+fn trees_of_the_diamond_tell_the_best_routes(rt: HostRuntime) -> Result<(), Fail> {
+    let grid = diamond(rt.alloc())?;
+    expect_the_best(&rt, &grid);
+    Ok(())
+}
+
+#[test]
+fn trees_of_the_ring_tell_the_best_routes(rt: HostRuntime) -> Result<(), Fail> {
+    let grid = ring_of_twelve(rt.alloc())?;
+    expect_the_best(&rt, &grid);
+    Ok(())
+}
+
+#[test]
+fn trees_of_a_square_tell_the_best_routes(rt: HostRuntime) -> Result<(), Fail> {
+    let grid = grid_of(rt.alloc(), 9, &SQUARE)?;
+    expect_the_best(&rt, &grid);
+    Ok(())
+}
+
+#[test]
+fn trees_of_a_line_tell_the_best_routes(rt: HostRuntime) -> Result<(), Fail> {
+    let grid = grid_of(rt.alloc(), 5, &LINE)?;
+    expect_the_best(&rt, &grid);
     Ok(())
 }
 
 #[test]
 fn a_tree_tells_no_more_after_an_arc_is_used_up(rt: HostRuntime) -> Result<(), Fail> {
     let grid = diamond(rt.alloc())?;
-    let before = rooms_of(&grid, &[(7, 0); 4])?;
-    assert!(rt; tells_over(&grid, &before, &[(1, 6), (7, 0), (1, 6), (7, 0)])?);
-    assert!(rt; !tells_over(&grid, &before, &[(1, 6), (7, 0), (0, 7), (7, 0)])?);
+    let before = rooms_over(&rt, &grid, &[(7, 0); 4]);
+    assert!(rt; tells_over(&rt, &grid, &before, &[(1, 6), (7, 0), (1, 6), (7, 0)]));
+    assert!(rt; !tells_over(&rt, &grid, &before, &[(1, 6), (7, 0), (0, 7), (7, 0)]));
     Ok(())
 }

@@ -4,6 +4,9 @@
 #![tactic(auto)]
 
 #[cfg(test)]
+mod record_tests;
+mod records;
+#[cfg(test)]
 mod run_tests;
 mod sessions;
 mod streams;

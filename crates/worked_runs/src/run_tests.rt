@@ -39,7 +39,10 @@ fn other_words_mean_nothing(rt: HostRuntime) -> Result<(), Fail> {
         &["repla"],
         &["replay "],
         &["--help"],
-        &["trade"],
+        &["trade", "trade"],
+        &["audit", "audit"],
+        &["audit", "ship"],
+        &["Ship"],
         &["generate"],
         &["generate", "0"],
         &["generate", "100001"],
@@ -253,6 +256,7 @@ fn each_status_has_its_message(rt: HostRuntime) -> Result<(), Fail> {
         (Status::WriteFault, b"sidc: write fault\n"),
         (Status::NoMemory, b"sidc: no memory\n"),
         (Status::TooLong, b"sidc: session too long\n"),
+        (Status::Illegal { entry: 2 }, b"sidc: illegal entry 2\n"),
     ] {
         assert_eq!(rt; message(rt.alloc(), &status)?.bytes(), text);
     }

@@ -18,6 +18,8 @@ fn words_that_ask_for_something(rt: HostRuntime) -> Result<(), Fail> {
     let generate = |commands| Task::Generate { commands };
     for (texts, task) in [
         ([b"replay".as_slice()].as_slice(), Task::Replay),
+        (&[b"audit"], Task::Audit),
+        (&[b"ship"], Task::Ship),
         (&[b"generate", b"1"], generate(1)),
         (&[b"generate", b"40"], generate(40)),
         (&[b"generate", b"2000"], generate(2000)),
@@ -38,6 +40,14 @@ fn all_other_words_ask_for_nothing(rt: HostRuntime) -> Result<(), Fail> {
         &[b"trade"],
         &[b"Replay"],
         &[b"repla"],
+        &[b"Audit"],
+        &[b"audit "],
+        &[b"audits"],
+        &[b"shi"],
+        &[b"audit", b"ship"],
+        &[b"ship", b"ship"],
+        &[b"ship", b"--help"],
+        &[b"audit", b"1"],
         &[b"replay "],
         &[b"replay\xff"],
         &[b"\xff"],

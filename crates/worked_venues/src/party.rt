@@ -4,6 +4,7 @@ ghost use Rattle.std.specs.Prelude.{◌<◌, length};
 ghost use Rattle.venue_core.specs.Setups.{IsVenueSetup};
 ghost use Rattle.venue_core.specs.Venues.{AreAllOf};
 
+use crate::commands::{Ask, command_of};
 use market_model::{Command, Setup};
 use outside::OpenGate;
 use std::alloc::Global;
@@ -43,6 +44,18 @@ impl Party {
         assert!(rt; caller < self.passes.len(), "there is such a caller");
         let passes = self.passes.as_mut_slice();
         submit(rt, alloc, &self.venue, passes, caller, command)
+    }
+
+    // Submits a command of a caller that is asked for.
+    pub(crate) fn ask<R: Wait + Abort>(
+        &mut self,
+        rt: &R,
+        alloc: Global,
+        caller: usize,
+        ask: Ask,
+    ) -> Result<Receipt, SubmitFault> {
+        let command = command_of(alloc, ask)?;
+        self.submit(rt, alloc, caller, command)
     }
 
     // How many entries a caller is told that the journal has.

@@ -3,7 +3,7 @@ use Rattle.order_kinds.specs.declared.contract.Part.TheVariants as part
 use Rattle.order_kinds.specs.declared.order.Kind.TheVariants as kind
 use Rattle.order_kinds.specs.declared.order.Order.{Order}
 use Rattle.order_kinds.specs.declared.side.Side.TheVariants.{Buy}
-use Rattle.hour_desk.specs.Desk.{planning, with_nothing_planned}
+use Rattle.joint_plan.specs.Desk.{planning, with_nothing_planned}
 use Rattle.market_model.specs.declared.reply.Reply.TheVariants as reply
 use Rattle.market_model.specs.History.{events_of}
 use Rattle.joint_plan.specs.Rows.{planning_all}

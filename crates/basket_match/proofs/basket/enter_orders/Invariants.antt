@@ -2,7 +2,7 @@ use Rattle.std.proofs.Common.{◌≡◌, List, drop, flat_map, take}
 use Rattle.market_model.specs.declared.event.Event.{Event}
 use Rattle.market_model.specs.Grid.{graph_of}
 use Rattle.market_model.specs.Sweep.{all_parts, first_answer}
-use Rattle.joint_laws.specs.Baskets.{entered_alone}
+use Rattle.joint_plan.specs.Baskets.{entered_alone}
 use Rattle.joint_plan.specs.Rows.{IsHistoryOf}
 use Rattle.joint_plan.proofs.Lists.{changed}
 use Rattle.basket_match.proofs.Baskets.{asks, part_of}

@@ -3,7 +3,7 @@ use Rattle.order_kinds.specs.declared.order.Order.{Order}
 use Rattle.market_model.specs.declared.command.Command.TheVariants as command
 use Rattle.market_model.specs.History.{events_of, journal_events}
 use Rattle.market_model.specs.Market.{reply_to}
-use Rattle.hour_desk.specs.Desk.{DeskState}
+use Rattle.joint_plan.specs.Desk.{DeskState}
 use Rattle.joint_plan.specs.Rows.{AreAsked, IsHistoryOf, dropped, planning_all}
 use Rattle.joint_plan.proofs.Dropped.{asked-dropped, journal-dropped, planning-dropped, twice-dropped}
 use Rattle.joint_plan.proofs.Histories.{journal-history}

@@ -3,7 +3,7 @@ use Rattle.market_model.specs.declared.command.Command.TheVariants as command
 use Rattle.market_model.specs.declared.event.Event.{Event}
 use Rattle.market_model.specs.History.{events_of}
 use Rattle.market_model.specs.Market.{reply_to}
-use Rattle.hour_desk.specs.Desk.{planning}
+use Rattle.joint_plan.specs.Desk.{planning}
 use Rattle.basket_match.specs.Orders.{of_basket}
 use Rattle.basket_match.proofs.OneOrder.{on-desk, same-events}
 use Rattle.basket_match.proofs.orders.enter_order.Goals as goal

@@ -1,6 +1,6 @@
 use Rattle.std.proofs.Common.{◌≡◌, drop, false, take}
 use Rattle.joint_laws.specs.MatchingBlocks.{legs_of}
-use Rattle.kept_hour.specs.Planned.{CanFollow, after_events}
+use Rattle.desk_changes.specs.Planned.{CanFollow, after_events}
 use Rattle.desk_changes.specs.Quiet.{HasNoLeg}
 use Rattle.desk_blocks.specs.Plans.{CloseInTurn}
 use Rattle.desk_blocks.proofs.dealing.make_all.Given as goal

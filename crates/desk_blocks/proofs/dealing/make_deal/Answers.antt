@@ -1,6 +1,6 @@
 use Rattle.std.proofs.Common.{◌∙◌, sym, ap, subst}
 use Rattle.joint_laws.specs.PeriodRooms.{hour_room}
-use Rattle.kept_hour.specs.State.{HourState}
+use Rattle.desk_changes.specs.State.{HourState}
 use Rattle.desk_changes.specs.Quiet.{HasNoLeg}
 use Rattle.desk_blocks.specs.Openings.{AreOver, may_open}
 use Rattle.desk_blocks.proofs.Hours.{legs-over}

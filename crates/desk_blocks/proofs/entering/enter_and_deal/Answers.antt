@@ -1,6 +1,6 @@
 use Rattle.std.proofs.Common.{◌∙◌, ◌++◌, [], ◌∷◌, sym, ap, subst}
 use Rattle.joint_laws.specs.PeriodRooms.{hour_room}
-use Rattle.kept_hour.specs.State.{HourState, block_entry_of}
+use Rattle.desk_changes.specs.State.{HourState, block_entry_of}
 use Rattle.desk_changes.specs.Quiet.{HasNoLeg}
 use Rattle.desk_changes.proofs.Planning.{settled-quiet}
 use Rattle.market_model.specs.Orders.{next_name}

@@ -6,7 +6,7 @@ use Rattle.block_match.specs.declared.deal.BlockDeal.{BlockDeal}
 use Rattle.block_match.specs.Deals.{deal_of_period}
 use Rattle.block_match.specs.Meeting.{HaveZones}
 use Rattle.joint_laws.specs.MatchingBlocks.{legs_of}
-use Rattle.kept_hour.specs.Planned.{after_events}
+use Rattle.desk_changes.specs.Planned.{after_events}
 use Rattle.desk_blocks.specs.Rooms.{CanCarryEach}
 use Rattle.zone_graph.specs.declared.route.Arc.{Arc}
 use Rattle.zone_graph.specs.declared.route.RouteLeg.{RouteLeg}

@@ -1,7 +1,7 @@
 use Rattle.std.proofs.Common.{◌≡◌, false, length}
 use Rattle.block_lines.specs.BlocksOf.{blocks_of}
 use Rattle.joint_laws.specs.MatchingBlocks.{legs_of}
-use Rattle.kept_hour.specs.Planned.{after_events}
+use Rattle.desk_changes.specs.Planned.{after_events}
 use Rattle.desk_changes.specs.Quiet.{HasNoLeg}
 use Rattle.desk_blocks.proofs.Periods.{FoundSoFar}
 use Rattle.desk_blocks.proofs.matching.deal_all.Given as goal

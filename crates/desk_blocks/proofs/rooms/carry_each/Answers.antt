@@ -3,7 +3,7 @@ use Rattle.zone_graph.specs.Rooms.{room_of}
 use Rattle.zone_graph.specs.Pour.{room_after}
 use Rattle.route_carrying.proofs.Carrying.{after_leg}
 use Rattle.route_choice.specs.Poured.{rooms_after}
-use Rattle.kept_hour.proofs.Carrying.{from-place}
+use Rattle.desk_changes.proofs.Carrying.{from-place}
 use Rattle.desk_blocks.specs.Rooms.{CanCarryEach}
 use Rattle.desk_blocks.proofs.rooms.carry_each.Goals as goal
 

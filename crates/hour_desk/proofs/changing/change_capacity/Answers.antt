@@ -4,8 +4,8 @@ use Rattle.market_model.specs.declared.command.Command.TheVariants as command
 use Rattle.market_model.specs.declared.event.Event.TheVariants as event
 use Rattle.market_model.specs.Market.{events_done}
 use Rattle.market_model.specs.Sweep.{all_parts}
-use Rattle.kept_hour.specs.Planned.{with_planned}
-use Rattle.desk_changes.proofs.Planning.{on-ok}
+use Rattle.desk_blocks.specs.Planned.{with_planned}
+use Rattle.desk_blocks.proofs.DeskPlanning.{on-ok}
 use Rattle.hour_desk.specs.Placed.{CanChange}
 use Rattle.hour_desk.proofs.Commands.{border-known, grant-done, offer-done, over, quiet, range-next, range-planned}
 use Rattle.hour_desk.proofs.changing.change_capacity.Goals as goal

@@ -1,6 +1,5 @@
 use Rattle.std.proofs.Common.{◌<◌, ◌≤◌, ◌+◌, ◌-◌, vec_len}
 use Rattle.std.specs.Io.KnownBytes.{Consumes}
-use Rattle.session_io.specs.Reading.{longest_session}
 use Rattle.session_io.proofs.reading.read_all.Given as goal
 
 -- the bytes so far are those that came
@@ -13,4 +12,4 @@ invariant-loop-source g l =
 
 -- each read but the last adds a byte at least
 abbrev pub decreases-loop-source : goal.decreases-loop-source
-decreases-loop-source g l = longest_session + 1 - vec_len l.bytes
+decreases-loop-source g l = l.most + 1 - vec_len l.bytes

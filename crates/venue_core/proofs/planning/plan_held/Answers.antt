@@ -5,8 +5,8 @@ use Rattle.market_model.specs.declared.reply.Reply.{Reply}
 use Rattle.market_model.specs.History.{journal_events}
 use Rattle.market_model.specs.Market.{reply_to}
 use Rattle.market_model.specs.Rules.{touched_hours}
-use Rattle.joint_plan.specs.Rows.{IsJournalOf}
-use Rattle.desk_market.proofs.Chosen.{is-no_basket}
+use Rattle.desk_locks.specs.Rows.{IsJournalOf}
+use Rattle.desk_locks.proofs.Commands.{is-no_basket}
 use Rattle.venue_core.proofs.Plans.{dropped-if, held-hours, held-ready, planned-if}
 use Rattle.venue_core.proofs.planning.plan_held.Goals as goal
 

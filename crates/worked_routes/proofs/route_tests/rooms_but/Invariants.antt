@@ -4,4 +4,4 @@ use Rattle.worked_routes.proofs.route_tests.rooms_but.Given as goal
 
 -- the rooms have the grid's size
 abbrev pub invariant-loop-border : goal.invariant-loop-border
-invariant-loop-border l = record { rooms : length l.rooms ≡ border_count l.grid; borders : l.borders ≡ border_count l.grid }
+invariant-loop-border g l = record { rooms : length l.rooms ≡ border_count l.grid; borders : l.borders ≡ border_count l.grid }

@@ -2,7 +2,7 @@ use Rattle.std.proofs.Common.{◌∙◌, ◌+◌, ◌++◌, ◌∷◌, [], List,
 use Rattle.std.specs.List.{range_with_len}
 use Rattle.std.proofs.lemmas.List.{length-map}
 use Rattle.std.proofs.lemmas.List.FromFn.{length-range_with_len, map-range_with_len_more}
-use Rattle.hour_desk.specs.Desk.{DeskState, empty_desk}
+use Rattle.basket_match.specs.Desk.{DeskState, empty_desk}
 use Rattle.day_desks.proofs.day.DayDesks.new.Goals as goal
 
 pub invariant_of-result : goal.invariant_of-result

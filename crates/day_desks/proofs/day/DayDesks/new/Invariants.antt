@@ -1,6 +1,6 @@
 use Rattle.std.proofs.Common.{◌≡◌, map}
 use Rattle.std.specs.List.{range_with_len}
-use Rattle.hour_desk.specs.Desk.{empty_desk}
+use Rattle.basket_match.specs.Desk.{empty_desk}
 use Rattle.day_desks.proofs.day.DayDesks.new.Given as goal
 
 -- the desks of the hours so far

@@ -1,0 +1,39 @@
+-- What holds of every audit.
+use Rattle.std.specs.Prelude.{◌≡◌, ◌≢◌, ℕ, ◌<◌, ◌==◌, ◌↔◌, List, count_by, length}
+use Rattle.std.specs.List.{concat}
+use Rattle.journal_print.specs.Line.{caller_name}
+use Rattle.market_model.specs.declared.setup.Setup.{Setup}
+use Rattle.market_model.specs.Market.{in_turn, run_of}
+use Rattle.market_text.specs.Commands.{commands_of}
+use Rattle.market_text.specs.Session.{IsSession}
+use Rattle.market_text.specs.declared.session.Session.{Session}
+use Rattle.session_io.specs.JournalText.{journal_text}
+use Rattle.journal_audit.specs.Audit.{IsComplete, IsFirstFault}
+use Rattle.journal_audit.specs.Lines.{journal_lines}
+
+-- the lines of a text, one behind the other, are the text
+abbrev pub LinesMakeTheText : Type 0
+LinesMakeTheText = (text : List ℕ) → concat (journal_lines text) ≡ text
+
+-- a journal has one first fault at most
+abbrev pub FirstFaultIsOne : Type 0
+FirstFaultIsOne = (session : Session) (journal : List ℕ) (place other : ℕ) → IsFirstFault session journal place → IsFirstFault session journal other → place ≡ other
+
+-- no two callers have one name
+abbrev pub AreNamedApart : Setup → Type 0
+AreNamedApart setup = (caller other : ℕ) → caller < other → other < length setup.callers → caller_name setup caller ≢ caller_name setup other
+
+-- callers are an order of a session's commands: each is among them as often as it has commands
+abbrev pub IsOrder : Session → (callers : List ℕ) → Type 0
+IsOrder session callers = (caller : ℕ) → count_by (λ other. other == caller) callers ≡ length (commands_of session.commands caller)
+
+-- a journal is that of an order of a session's commands: the text of what the market makes of them
+pub record IsJournalInOrder (session : Session) (journal : List ℕ) : Type 0 where
+  pub callers : List ℕ
+  pub order : IsOrder session callers
+  pub text : journal ≡ journal_text session.setup (run_of session.setup (in_turn session.commands callers))
+
+-- where no two callers have one name, the complete journals of a session are those of the orders of its commands
+abbrev pub CompleteJournalsAreInOrder : Type 0
+CompleteJournalsAreInOrder = (session : Session) (journal : List ℕ) → IsSession session → AreNamedApart session.setup
+    → (IsComplete session journal ↔ IsJournalInOrder session journal)

@@ -1,0 +1,6 @@
+-- What the contracts of this crate cite.
+pub mod Audit
+pub mod Course
+pub mod Laws
+pub mod Lines
+pub mod Verdict

@@ -1,0 +1,4 @@
+pub mod EarlyStops
+mod Markets
+pub mod Recorded
+pub mod Written

@@ -1,0 +1,4 @@
+-- What the contracts of this crate cite.
+pub mod Working
+pub mod Callers
+pub mod Trading
