@@ -18,7 +18,7 @@ use Rattle.market_model.specs.Certificate.{bound_of, unfilled_zones}
 use Rattle.market_model.specs.Entering.{enter, rest_of}
 use Rattle.market_model.specs.Grid.{graph_of}
 use Rattle.market_model.specs.History.{events_of}
-use Rattle.market_model.specs.Market.{answer, events_done, refused_or, reply_by, reply_to}
+use Rattle.market_model.specs.Market.{reply_let_in, events_done, refused_or, reply_by, reply_to}
 use Rattle.market_model.specs.Refusals.{basket_order_refusal, can_rest, is_filled, order_desk_refusal, refusal_of_command}
 use Rattle.market_model.specs.Room.{is_closed_phase, phase_of}
 use Rattle.market_model.specs.Rules.{early_refusal, first_broken, unless}
@@ -56,7 +56,7 @@ filling-alone graph events caller order kills =
 
 -- what it does where no rule refuses it
 entered : (setup : Setup) (events : List Event) (caller : ℕ) (order : Order)
-    → answer all_parts setup events caller (command.Enter order) ≡ reply.Done (enter all_parts (graph_of setup) caller order events)
+    → reply_let_in all_parts setup events caller (command.Enter order) ≡ reply.Done (enter all_parts (graph_of setup) caller order events)
 unfolding events_done
 entered setup events caller order = refl
 
@@ -75,7 +75,7 @@ module _ (setup : Setup) (events : List Event) (caller : ℕ) (order : Order) (e
       (λ _. reply.Done (enter all_parts (graph_of setup) caller order events))
   unfolding reply_by
   told =
-      ap (λ (o : Option Refusal). refused_or o (λ _. answer all_parts setup events caller (command.Enter order))) refused-alone
+      ap (λ (o : Option Refusal). refused_or o (λ _. reply_let_in all_parts setup events caller (command.Enter order))) refused-alone
       ∙ ap (λ (r : Reply). refused_or (unless (is_filled (graph_of setup) events caller order) (certified (graph_of setup) events caller order)) (λ _. r)) (entered setup events caller order)
 
   -- the basket is told so

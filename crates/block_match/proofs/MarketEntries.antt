@@ -31,14 +31,14 @@ use Rattle.market_laws.proofs.Placed.{from_picked-more, picked-stays}
 use Rattle.market_laws.proofs.Soundness.{block_fault-none, lots_in_range-bounds}
 use Rattle.market_laws.proofs.Unique.{enters-block_placed, times-some}
 use Rattle.market_laws.proofs.Wholes.{history-more, left-untouched, new_block-whole, other_name}
-use Rattle.market_locality.proofs.Moments.{block_moment-more}
+use Rattle.market_laws.proofs.LocalMoments.{block_moment-more}
 use Rattle.zone_graph.specs.Pour.{lots_if}
 use Rattle.block_match.specs.Deals.{deal_with}
-use Rattle.block_lines.specs.BlocksOf.{blocks_of, rests_from, resting_block}
+use Rattle.book_lines.specs.BlocksOf.{blocks_of, rests_from, resting_block}
 use Rattle.block_match.specs.Market.{EnteringBlocksDealAsInTheMarket, IsMarketDeal, deal_events, entered_block, rooms_over}
 use Rattle.block_match.specs.Meeting.{can_trade}
-use Rattle.block_lines.proofs.Kept.{resting-same}
-use Rattle.block_lines.proofs.MarketBooks.{book-differ, from-book, line-same, rests-named, to-book}
+use Rattle.book_lines.proofs.BlocksKept.{resting-same}
+use Rattle.book_lines.proofs.MarketBooks.{book-differ, from-book, line-same, rests-named, to-book}
 use Rattle.block_match.proofs.MarketDeals.{open-deal}
 
 not-opposite : (side : Side) → side ≢ opposite side

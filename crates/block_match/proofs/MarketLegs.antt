@@ -22,7 +22,7 @@ use Rattle.market_laws.proofs.Pours.{ArePair, PourKeeps, pour-run}
 use Rattle.market_laws.proofs.Repeats.{fold-and_then}
 use Rattle.route_choice.specs.Poured.{lots_of}
 use Rattle.route_choice.proofs.Pours.{Poured, pour-run as poured-run, pour-within}
-use Rattle.block_lines.specs.BlocksOf.{resting_block}
+use Rattle.book_lines.specs.BlocksOf.{resting_block}
 use Rattle.block_match.specs.Market.{rooms_over}
 use Rattle.block_match.specs.Meeting.{carries_whole, legs_between}
 

@@ -34,8 +34,8 @@ use Rattle.market_laws.proofs.Tests.{same_name-eq, same_name-refl}
 use Rattle.market_laws.proofs.Trades.{IsInLine, IsOpen, from_line}
 use Rattle.market_laws.proofs.Unique.{one_order}
 use Rattle.market_laws.proofs.Wholes.{names-other}
-use Rattle.market_locality.proofs.Lines.{line-agree}
-use Rattle.queue_order.proofs.Kept.{moment-most}
+use Rattle.market_laws.proofs.LocalLines.{line-agree}
+use Rattle.market_laws.proofs.MomentsKept.{moment-most}
 use Rattle.book_lines.specs.BookOf.{next_moment, resting_of}
 use Rattle.book_lines.proofs.ChangedOrders.{hour_of}
 use Rattle.book_lines.proofs.LegFills.{record-filled}
@@ -43,7 +43,7 @@ use Rattle.book_lines.proofs.LegsInBooks.{opposite-differs}
 use Rattle.book_lines.proofs.LineOrders.{line-strict, resting-apart}
 use Rattle.book_lines.proofs.SoundRecords.{record-sound}
 use Rattle.book_lines.proofs.Untouched.{left-kept, standing-kept}
-use Rattle.taking_walk.proofs.Filling.{not_before-old, put-behind}
+use Rattle.board_laws.proofs.Filling.{not_before-old, put-behind}
 use Rattle.board_laws.specs.Takers.{LegsStayBehind, StandsInFront}
 use Rattle.board_laws.proofs.Legs.{made-agrees, made-fits, next_legs}
 use Rattle.board_laws.proofs.Shared.{board-agrees}

@@ -16,15 +16,15 @@ use Rattle.market_model.specs.Orders.{Placed}
 use Rattle.market_model.specs.Room.{room}
 use Rattle.market_model.specs.WellFormed.{FitAfter, IsMarketSetup, OrderEnters}
 use Rattle.market_laws.proofs.Growing.{fit-back, fit-front}
-use Rattle.market_locality.proofs.Answers.{bound_of-agree, unfilled_zones-agree}
-use Rattle.market_locality.proofs.Entries.{legs_taken-agree, with_order-agree}
-use Rattle.market_locality.proofs.Lines.{contract-hours, line-agree}
-use Rattle.market_locality.proofs.States.{Agree, room-agree}
+use Rattle.market_laws.proofs.LocalAnswers.{bound_of-agree, unfilled_zones-agree}
+use Rattle.market_laws.proofs.LocalEntries.{legs_taken-agree, with_order-agree}
+use Rattle.market_laws.proofs.LocalLines.{contract-hours, line-agree}
+use Rattle.market_laws.proofs.LocalStates.{Agree, room-agree}
 use Rattle.certified_maximum.specs.FlowPlan.{FlowPlan, IsFlowPlan, IsPlanFor, orders_met, value_of}
 use Rattle.certified_maximum.specs.Takings.{lots_traded, obtained}
 use Rattle.certified_maximum.proofs.BestPlans.{obtain-most}
 use Rattle.certified_maximum.proofs.Obtained.{reach-bound}
-use Rattle.hour_lists.proofs.OfHours.{one-agrees}
+use Rattle.market_laws.proofs.OfHours.{one-agrees}
 use Rattle.board_laws.specs.Takers.{BoardTakingsObtainTheMost, ObtainsTheMost}
 
 -- where what passes a test ends with an item, the list goes on from what passes before it with the item

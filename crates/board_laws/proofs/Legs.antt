@@ -26,10 +26,10 @@ use Rattle.market_laws.proofs.Members.{from_first_answer}
 use Rattle.market_laws.proofs.Placed.{picked-same}
 use Rattle.market_laws.proofs.Repeats.{fit-more}
 use Rattle.market_laws.proofs.Trades.{from_line}
-use Rattle.market_locality.proofs.Lines.{left_in_hour-agree, next_leg-agree, placed-named, sweep_leg-agree}
-use Rattle.market_locality.proofs.Moments.{hour-more}
-use Rattle.market_locality.proofs.Named.{history-named}
-use Rattle.market_locality.proofs.States.{Agree, agree-more}
+use Rattle.market_laws.proofs.LocalLines.{left_in_hour-agree, next_leg-agree, placed-named, sweep_leg-agree}
+use Rattle.market_laws.proofs.LocalMoments.{hour-more}
+use Rattle.market_laws.proofs.NamedByHour.{history-named}
+use Rattle.market_laws.proofs.LocalStates.{Agree, agree-more}
 use Rattle.certified_maximum.proofs.Obtained.{fit-can_take}
 use Rattle.certified_maximum.proofs.Takers.{takers-leg}
 use Rattle.board_laws.specs.Boards.{IsLegOf, LegsLeaveABoard, LegsLowerTheHour, NextLegsCanBeMade, SweepLegsCanBeMade}

@@ -5,3 +5,5 @@ pub mod Passing
 pub mod Runs
 pub mod Shared
 pub mod Walks
+pub mod Filling
+pub mod PassedOver

@@ -8,9 +8,9 @@ use Rattle.market_model.specs.History.{and_then}
 use Rattle.market_model.specs.Lines.{can_trade, rooms_for}
 use Rattle.market_model.specs.Orders.{Placed, Standing, standing}
 use Rattle.market_model.specs.Taking.{next_leg}
-use Rattle.market_locality.proofs.Lines.{next_leg-agree, next_leg-named, placed-named, rooms_for-agree, standing-agree}
-use Rattle.market_locality.proofs.States.{Agree, agree-more}
-use Rattle.taking_walk.proofs.Passing.{pass_for_good}
+use Rattle.market_laws.proofs.LocalLines.{next_leg-agree, next_leg-named, placed-named, rooms_for-agree, standing-agree}
+use Rattle.market_laws.proofs.LocalStates.{Agree, agree-more}
+use Rattle.board_laws.proofs.PassedOver.{pass_for_good}
 use Rattle.board_laws.specs.Takers.{BoardTakersPassForGood}
 use Rattle.board_laws.proofs.Shared.{board-agrees, placed-shared}
 

@@ -7,9 +7,9 @@ use Rattle.market_model.specs.History.{and_then}
 use Rattle.market_model.specs.Sweep.{IsSweep, sweep, sweep_leg}
 use Rattle.market_model.specs.Taking.{IsTaking, next_leg, take}
 use Rattle.market_laws.proofs.Falls.{sweep-run, take-run}
-use Rattle.market_locality.proofs.Lines.{next_leg-agree, next_leg-named, sweep-agree, sweep_leg-agree, sweep_leg-named, take-agree}
-use Rattle.market_locality.proofs.Named.{AreNamedByHour, IsNamedByHour}
-use Rattle.market_locality.proofs.States.{Agree, agree-more}
+use Rattle.market_laws.proofs.LocalLines.{next_leg-agree, next_leg-named, sweep-agree, sweep_leg-agree, sweep_leg-named, take-agree}
+use Rattle.market_laws.proofs.NamedByHour.{AreNamedByHour, IsNamedByHour}
+use Rattle.market_laws.proofs.LocalStates.{Agree, agree-more}
 use Rattle.board_laws.specs.Boards.{BoardSweepsAreRuns, BoardTakingsAreRuns}
 use Rattle.board_laws.proofs.Shared.{board-agrees}
 

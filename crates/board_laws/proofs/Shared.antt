@@ -16,9 +16,9 @@ use Rattle.market_model.specs.Lines.{buyer_zone, seller_zone}
 use Rattle.market_model.specs.Orders.{Placed, Standing, placed, standing}
 use Rattle.market_model.specs.Room.{room}
 use Rattle.market_model.specs.WellFormed.{IsOpenOrder, LegFits}
-use Rattle.market_locality.proofs.Lines.{contract-hours, placed-named, standing-agree}
-use Rattle.market_locality.proofs.States.{Agree, is_open-agree, placed-agree, room-agree}
-use Rattle.hour_lists.proofs.OfHours.{one-agrees}
+use Rattle.market_laws.proofs.LocalLines.{contract-hours, placed-named, standing-agree}
+use Rattle.market_laws.proofs.LocalStates.{Agree, is_open-agree, placed-agree, room-agree}
+use Rattle.market_laws.proofs.OfHours.{one-agrees}
 
 -- histories that agree the one way agree the other way
 pub agree-turned : (hours : List ℕ) (a b : List Event) → Agree hours a b → Agree hours b a

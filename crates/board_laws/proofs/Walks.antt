@@ -20,7 +20,7 @@ use Rattle.market_laws.proofs.Lines.{priority_weak}
 use Rattle.market_laws.proofs.Names.{names-once}
 use Rattle.market_laws.proofs.Trades.{from_line}
 use Rattle.market_laws.proofs.Unique.{one_order}
-use Rattle.market_locality.proofs.Lines.{line-agree}
+use Rattle.market_laws.proofs.LocalLines.{line-agree}
 use Rattle.book_lines.proofs.ChangedOrders.{hour_of}
 use Rattle.book_lines.proofs.LineOrders.{line-strict, same_names}
 use Rattle.board_laws.specs.Boards.{WalksGoOn}

@@ -37,7 +37,7 @@ use Rattle.market_laws.proofs.Soundness.{lots_in_range-bounds, order_fault-none}
 use Rattle.market_laws.proofs.States.{entered-more, filled-more, taken_off-more}
 use Rattle.market_laws.proofs.Tests.{same_name-refl, same_part-eq, same_side-eq}
 use Rattle.market_laws.proofs.Wholes.{new-untouched, other_name}
-use Rattle.market_locality.proofs.Moments.{moment-more}
+use Rattle.market_laws.proofs.LocalMoments.{moment-more}
 use Rattle.book_lines.specs.BookOf.{book_of, contract_of, entered_resting, next_moment, resting_line, resting_of}
 use Rattle.book_lines.proofs.Elsewhere.{named}
 use Rattle.book_lines.proofs.LineOrders.{StandsIn, entered-other, from_resting, in_resting, resting-apart, resting-strict, resting_weak, same_names}

@@ -17,10 +17,10 @@ use Rattle.market_model.specs.Taking.{standing_order}
 use Rattle.market_model.specs.WellFormed.{FitAfter}
 use Rattle.market_laws.proofs.Legs.{open_order-is}
 use Rattle.market_laws.proofs.Tests.{same_name-refl}
-use Rattle.market_locality.proofs.Lines.{line-agree}
-use Rattle.market_locality.proofs.Named.{history-named}
-use Rattle.market_locality.proofs.Restrict.{filter-filter}
-use Rattle.market_locality.proofs.States.{Agree}
+use Rattle.market_laws.proofs.LocalLines.{line-agree}
+use Rattle.market_laws.proofs.NamedByHour.{history-named}
+use Rattle.market_laws.proofs.Restrict.{filter-filter}
+use Rattle.market_laws.proofs.LocalStates.{Agree}
 use Rattle.book_lines.specs.BookOf.{book_by, book_of, contract_of, resting_line, resting_of}
 use Rattle.book_lines.proofs.ChangedOrders.{hour_of}
 use Rattle.book_lines.proofs.LineOrders.{from_resting, same_names}

@@ -17,7 +17,7 @@ use Rattle.market_model.specs.WellFormed.{FitAfter, Fits}
 use Rattle.market_laws.proofs.Balances.{left-leg}
 use Rattle.market_laws.proofs.Repeats.{fit-more}
 use Rattle.market_laws.proofs.States.{filled-more}
-use Rattle.market_locality.proofs.Moments.{filled-hour, moment-more}
+use Rattle.market_laws.proofs.LocalMoments.{filled-hour, moment-more}
 use Rattle.book_lines.specs.BookOf.{next_moment, resting_of}
 use Rattle.book_lines.proofs.Untouched.{standing_at}
 use Rattle.book_lines.proofs.Updates.{Change}

@@ -11,3 +11,11 @@ pub mod LegsInBooks
 pub mod SoundRecords
 pub mod WholeBooks
 pub mod FoundOrders
+pub mod MarketBooks
+pub mod BlocksKept
+pub mod BlocksElsewhere
+pub mod EnteredAndWithdrawn
+pub mod DealsInBooks
+pub mod Partners
+pub mod WholeBlockBooks
+pub mod BlocksBesideLegs

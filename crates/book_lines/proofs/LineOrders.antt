@@ -33,7 +33,7 @@ use Rattle.market_laws.proofs.Placed.{all_are_sound, picked-same}
 use Rattle.market_laws.proofs.Repeats.{fit-more}
 use Rattle.market_laws.proofs.Tests.{same_contract-eq}
 use Rattle.market_laws.proofs.Trades.{IsOpen, from_line}
-use Rattle.queue_order.proofs.Kept.{given_order}
+use Rattle.market_laws.proofs.MomentsKept.{given_order}
 use Rattle.book_lines.specs.BookOf.{resting_line, resting_of}
 
 -- what stands in a line is the record of an open order of its contract and side

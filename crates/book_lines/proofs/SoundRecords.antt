@@ -27,7 +27,7 @@ use Rattle.market_laws.proofs.States.{left-more, taken_off-more}
 use Rattle.market_laws.proofs.Tests.{same_name-eq}
 use Rattle.market_laws.proofs.Unique.{entered-order, one_order}
 use Rattle.market_laws.proofs.Wholes.{new-untouched, other_name}
-use Rattle.history_bounds.proofs.Prices.{prices-in-range}
+use Rattle.market_laws.proofs.Prices.{prices-in-range}
 use Rattle.book_lines.specs.BookOf.{ice_of, resting_of}
 use Rattle.book_lines.proofs.LineOrders.{entered-other}
 

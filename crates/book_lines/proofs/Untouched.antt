@@ -14,7 +14,7 @@ use Rattle.market_model.specs.Orders.{Placed, Standing, ends_peak, entered_by, f
 use Rattle.market_laws.proofs.Placed.{picked-stays}
 use Rattle.market_laws.proofs.States.{filled-more}
 use Rattle.market_laws.proofs.Wholes.{left-untouched}
-use Rattle.market_locality.proofs.Moments.{hour-same, moment-more}
+use Rattle.market_laws.proofs.LocalMoments.{hour-same, moment-more}
 use Rattle.book_lines.specs.BookOf.{resting_of}
 use Rattle.book_lines.proofs.LineOrders.{StandsIn}
 

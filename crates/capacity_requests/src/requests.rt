@@ -16,7 +16,7 @@ pub fn test_offer(flows: &HourFlows, arc: Arc, set: QuarterSet, lots: u32) -> Op
     ensures { result ≡ first_flow_above flows.now arc set lots }
 {
     for number in 1..5 {
-        if set.has(number) {
+        if set.contains(number) {
             if let Some(refused) = offer_in(flows, arc, number, lots) {
                 return Some(refused);
             }
@@ -34,7 +34,7 @@ pub fn test_request(flows: &HourFlows, arc: Arc, set: QuarterSet, lots: u32) -> 
     ensures { result ≡ first_room_below flows.now arc set lots }
 {
     for number in 1..5 {
-        if set.has(number) {
+        if set.contains(number) {
             if let Some(refused) = request_in(flows, arc, number, lots) {
                 return Some(refused);
             }

@@ -16,7 +16,7 @@ use Rattle.market_model.specs.declared.setup.Setup.{Setup}
 use Rattle.market_model.specs.Blocks.{StandingBlock, partner_found}
 use Rattle.market_model.specs.Entering.{rest_of}
 use Rattle.market_model.specs.Grid.{graph_of}
-use Rattle.market_model.specs.Market.{answer, refused_or, reply_by, reply_to}
+use Rattle.market_model.specs.Market.{reply_let_in, refused_or, reply_by, reply_to}
 use Rattle.market_model.specs.Refusals.{basket_refusal, below_flow, block_desk_refusal, can_rest, closed_hour, desk_refusal, gate_refusal, no_room, offer_refusal, order_desk_refusal, order_is_known, reduces, refusal_of_command, request_refusal, unfilled_refusal}
 use Rattle.market_model.specs.Rules.{first_broken, naming_refusal, naming_rules, numbers_refusal, numbers_rules, unless}
 use Rattle.market_model.specs.Sweep.{all_parts, first_answer, or_else}
@@ -25,7 +25,7 @@ use Rattle.market_laws.proofs.Members.{from_first_answer}
 -- ---- the refusal of a reply
 
 -- an answer is no refusal
-answered : (setup : Setup) (events : List Event) (caller : ℕ) (given : Command) (broken : Refusal) → answer all_parts setup events caller given ≡ reply.Refused broken → ⊥
+answered : (setup : Setup) (events : List Event) (caller : ℕ) (given : Command) (broken : Refusal) → reply_let_in all_parts setup events caller given ≡ reply.Refused broken → ⊥
 answered setup events caller (command.View contract side zone) broken e = cc
 answered setup events caller (command.Enter order) broken e = cc
 answered setup events caller (command.EnterBlock order) broken e = cc
@@ -44,7 +44,7 @@ pub refused-by : (setup : Setup) (events : List Event) (caller : ℕ) (given : C
 unfolding reply_by
 refused-by setup events caller given broken e = go (refusal_of_command setup events caller given) refl e
   where
-    go : (o : Option Refusal) → refusal_of_command setup events caller given ≡ o → refused_or o (λ _. answer all_parts setup events caller given) ≡ reply.Refused broken
+    go : (o : Option Refusal) → refusal_of_command setup events caller given ≡ o → refused_or o (λ _. reply_let_in all_parts setup events caller given) ≡ reply.Refused broken
         → refusal_of_command setup events caller given ≡ Some broken
     go None is k = absurd (answered setup events caller given broken k)
     go (Some other) is k = let same : other ≡ broken = cc in is ∙ ap Some same

@@ -1,4 +1,5 @@
-// The clock of Central European time: when a date's midnight is, and how many hours a date has.
+//! The clock of Central European time: when a date's midnight is, and how many hours a date has.
+
 ghost use Rattle.std.specs.Prelude.{◌≡◌, ◌+◌, ◌-◌, ◌≤◌, ◌-ℤ◌, pos, nat_le};
 ghost use Rattle.jiff_core.specs.Calendar.{IsWithin};
 ghost use Rattle.jiff_core.specs.Date.{epoch_day, weekday_of};

@@ -1,4 +1,5 @@
-// A delivery day: its hours and quarters by instants, and the phases of its hours.
+//! A delivery day: its hours and quarters by instants, and the phases of its hours.
+
 ghost use Rattle.std.specs.Prelude.{◌≡◌, ℤ, ◌*◌, ◌<◌, ◌≤◌, ◌↔◌, pos, ◌+ℤ◌, ◌-ℤ◌, ◌*ℤ◌, IsOk, IfOk, IfSome, is_some};
 ghost use Rattle.jiff_core.specs.Date.{epoch_day};
 ghost use Rattle.jiff_core.specs.declared.civil.date.Date.{Date as PlainDate};

@@ -26,8 +26,8 @@ pub fn border_bound(grid: &Grid, rooms: &Rooms, zones: &Zones, towards: bool) ->
             border,
             forward: true,
         });
-        let starts_inside = inside.has(first);
-        let ends_inside = inside.has(second);
+        let starts_inside = inside.contains(first);
+        let ends_inside = inside.contains(second);
         if starts_inside != ends_inside {
             let forward = ends_inside == towards;
             sum += u64::from(rooms.at(Arc { border, forward }));

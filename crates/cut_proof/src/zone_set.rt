@@ -23,7 +23,7 @@ impl ZoneSet {
     }
 
     /// Whether a zone is in the set.
-    pub(crate) fn has(self, zone: u32) -> bool
+    pub(crate) fn contains(self, zone: u32) -> bool
         requires { zone < 64 }
         ensures { result ≡ holds self.bits zone }
     {

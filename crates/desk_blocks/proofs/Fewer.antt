@@ -9,8 +9,8 @@ use Rattle.block_book.specs.declared.block.RestingBlock.{RestingBlock}
 use Rattle.block_book.specs.Blocks.{block_cmp}
 use Rattle.block_book.specs.Book.{has_number, is_of, line_of, without}
 use Rattle.block_book.proofs.Lists.{from_ordered}
-use Rattle.block_lines.specs.BlocksOf.{blocks_of}
-use Rattle.block_lines.specs.LegLaws.{without_both}
+use Rattle.book_lines.specs.BlocksOf.{blocks_of}
+use Rattle.book_lines.specs.LegLaws.{without_both}
 use Rattle.block_match.specs.declared.deal.BlockDeal.{BlockDeal}
 use Rattle.block_match.specs.Deals.{deal_of_buy, deal_of_period, deal_with, is_earlier, partner_of, resting_deal}
 use Rattle.block_match.specs.Market.{deal_events}

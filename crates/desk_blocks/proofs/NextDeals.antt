@@ -5,7 +5,7 @@ use Rattle.zone_graph.specs.Graph.{Graph, border_count}
 use Rattle.zone_graph.specs.Rooms.{room_of}
 use Rattle.route_carrying.specs.Carrying.{FitTogether}
 use Rattle.route_choice.specs.Poured.{rooms_after}
-use Rattle.block_lines.specs.BlocksOf.{blocks_of}
+use Rattle.book_lines.specs.BlocksOf.{blocks_of}
 use Rattle.block_match.specs.declared.deal.BlockDeal.{BlockDeal}
 use Rattle.block_match.specs.Deals.{deal_of_period}
 use Rattle.block_match.specs.Market.{deal_events}

@@ -21,7 +21,7 @@ use Rattle.market_model.specs.declared.event.Event.{Event}
 use Rattle.market_model.specs.declared.event.Event.TheVariants as event
 use Rattle.market_model.specs.Board.{IsHourOf}
 use Rattle.market_laws.proofs.Uses.{room-le}
-use Rattle.quiet_parts.specs.Quiet.{IsAside}
+use Rattle.line_fronts.specs.Quiet.{IsAside}
 use Rattle.joint_laws.specs.PeriodRooms.{hour_room}
 use Rattle.desk_changes.specs.Quiet.{HasNoLeg}
 use Rattle.desk_blocks.specs.Openings.{is_shut_back, may_open, opens}

@@ -13,8 +13,8 @@ use Rattle.zone_graph.specs.Route.{IsIn}
 use Rattle.zone_graph.proofs.Membership.{has-IsIn}
 use Rattle.route_carrying.specs.Carrying.{FitTogether}
 use Rattle.route_choice.specs.Poured.{rooms_after}
-use Rattle.block_lines.specs.BlocksOf.{blocks_of}
-use Rattle.block_lines.proofs.MarketBooks.{from-book}
+use Rattle.book_lines.specs.BlocksOf.{blocks_of}
+use Rattle.book_lines.proofs.MarketBooks.{from-book}
 use Rattle.block_match.specs.declared.deal.BlockDeal.{BlockDeal}
 use Rattle.block_match.specs.Deals.{deal_of_period}
 use Rattle.block_match.specs.Market.{deal_events, rooms_over}
@@ -29,7 +29,7 @@ use Rattle.market_model.specs.Room.{least}
 use Rattle.market_model.specs.WellFormed.{IsHistory}
 use Rattle.market_laws.proofs.Growing.{fit-back}
 use Rattle.market_laws.proofs.Placed.{all_are_sound}
-use Rattle.market_locality.proofs.Restrict.{map-same}
+use Rattle.market_laws.proofs.Restrict.{map-same}
 use Rattle.hour_changes.proofs.NextEvents.{blocks-are}
 use Rattle.joint_laws.specs.ByHour.{hour_events}
 use Rattle.joint_laws.specs.EnteringBlocks.{AreClosed}

@@ -23,13 +23,13 @@ use Rattle.market_model.specs.Lines.{line}
 use Rattle.market_model.specs.Orders.{Standing}
 use Rattle.market_model.specs.Room.{least, quarter_room}
 use Rattle.market_model.specs.Sweep.{leg_in}
-use Rattle.market_locality.proofs.Lines.{line-agree}
-use Rattle.market_locality.proofs.States.{Agree, room-agree}
+use Rattle.market_laws.proofs.LocalLines.{line-agree}
+use Rattle.market_laws.proofs.LocalStates.{Agree, room-agree}
 use Rattle.line_fronts.specs.Fronts.{StandInFor}
 use Rattle.line_fronts.proofs.Unopened.{unopened}
-use Rattle.quiet_parts.specs.Quiet.{IsAside, raises}
-use Rattle.quiet_parts.proofs.Aside.{no_better, stand_as_before}
-use Rattle.quiet_parts.proofs.Rises.{rise-alone}
+use Rattle.line_fronts.specs.Quiet.{IsAside, raises}
+use Rattle.line_fronts.proofs.Aside.{no_better, stand_as_before}
+use Rattle.line_fronts.proofs.Rises.{rise-alone}
 use Rattle.hour_changes.specs.NextEvents.{IsNext}
 use Rattle.hour_changes.proofs.NextEvents.{after, agrees, before as before_it, next}
 use Rattle.desk_blocks.proofs.Hours.{first-follows, others-follow}

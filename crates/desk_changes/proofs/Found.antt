@@ -24,13 +24,13 @@ use Rattle.market_model.specs.Orders.{Placed, PlacedBlock, block_placed_by, bloc
 use Rattle.market_laws.proofs.Members.{IsIn-filter_map, from_filter_map}
 use Rattle.market_laws.proofs.Placed.{all_are_sound}
 use Rattle.market_laws.proofs.Tests.{same_name-eq, same_name-refl}
-use Rattle.market_locality.proofs.States.{left-agree}
+use Rattle.market_laws.proofs.LocalStates.{left-agree}
 use Rattle.book_lines.specs.BookLaws.{IsOfBlock}
 use Rattle.book_lines.specs.BookOf.{book_of, resting_of}
 use Rattle.book_lines.proofs.FoundOrders.{order-found}
-use Rattle.block_lines.specs.BlockLaws.{IsOfOrder}
-use Rattle.block_lines.specs.BlocksOf.{blocks_of, resting_block}
-use Rattle.block_lines.proofs.Whole.{block-found}
+use Rattle.book_lines.specs.BlockLaws.{IsOfOrder}
+use Rattle.book_lines.specs.BlocksOf.{blocks_of, resting_block}
+use Rattle.book_lines.proofs.WholeBlockBooks.{block-found}
 use Rattle.hour_changes.specs.OrderEvents.{without_hand}
 use Rattle.hour_changes.proofs.NextEvents.{agrees, blocks-are, book-is}
 use Rattle.desk_changes.specs.declared.still_open.StillOpen.{StillOpen}

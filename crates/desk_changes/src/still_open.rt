@@ -2,7 +2,7 @@
 
 ghost use Rattle.std.specs.Prelude.{◌≡◌, None, IfOk};
 ghost use Rattle.zone_graph.specs.Route.{IsIn};
-ghost use Rattle.block_lines.specs.BlockLaws.{IsOfOrder};
+ghost use Rattle.book_lines.specs.BlockLaws.{IsOfOrder};
 ghost use Rattle.book_lines.specs.BookLaws.{IsOfBlock};
 ghost use Rattle.market_model.specs.Board.{IsBoard};
 ghost use Rattle.desk_changes.specs.StillOpen as listed;

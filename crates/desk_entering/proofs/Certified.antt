@@ -21,9 +21,9 @@ use Rattle.market_model.specs.Certificate.{bound_of, crossing_inside, room_acros
 use Rattle.market_model.specs.Entering.{after_taking}
 use Rattle.market_model.specs.Grid.{graph_of}
 use Rattle.market_model.specs.Room.{room}
-use Rattle.market_locality.proofs.Answers.{bound_of-agree}
-use Rattle.market_locality.proofs.Lines.{contract-hours, line-agree}
-use Rattle.market_locality.proofs.States.{Agree, room-agree}
+use Rattle.market_laws.proofs.LocalAnswers.{bound_of-agree}
+use Rattle.market_laws.proofs.LocalLines.{contract-hours, line-agree}
+use Rattle.market_laws.proofs.LocalStates.{Agree, room-agree}
 use Rattle.book_lines.specs.BookOf.{book_of, resting_line}
 use Rattle.book_lines.proofs.PartLines.{line_of-book, parts_of-book}
 use Rattle.board_laws.proofs.Shared.{hour-agrees}
@@ -32,7 +32,7 @@ use Rattle.kept_certificate.specs.Crossing.{bound_in}
 use Rattle.kept_certificate.proofs.Entries.{entries-leave}
 use Rattle.kept_certificate.proofs.Records.{bounds-are}
 use Rattle.kept_certificate.proofs.RoomBounds.{rooms-fit}
-use Rattle.plain_unfilled.proofs.Reaches.{reach-same}
+use Rattle.plain_certificate.proofs.Reaches.{reach-same}
 use Rattle.match_core.specs.Walks.{AreRoomsOf}
 use Rattle.hour_changes.specs.OrderEvents.{without_hand}
 use Rattle.kept_hour.specs.Planned.{IsUnplanned}

@@ -14,7 +14,7 @@ use Rattle.market_model.specs.Grid.{graph_of}
 use Rattle.market_model.specs.History.{and_then}
 use Rattle.market_model.specs.Orders.{left, next_name}
 use Rattle.market_model.specs.WellFormed.{OrderEnters}
-use Rattle.market_locality.proofs.States.{Agree, next_name-agree}
+use Rattle.market_laws.proofs.LocalStates.{Agree, next_name-agree}
 use Rattle.desk_laws.specs.Hours.{IsHourIn}
 use Rattle.desk_laws.proofs.Fitting.{hour-in-agrees}
 use Rattle.desk_laws.proofs.Stepping.{withdrawn}

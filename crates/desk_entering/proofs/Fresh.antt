@@ -26,9 +26,9 @@ use Rattle.market_laws.proofs.Names.{names-once, order_name-new}
 use Rattle.market_laws.proofs.States.{entered-more, filled-more, taken_off-more}
 use Rattle.market_laws.proofs.Tests.{same_name-refl}
 use Rattle.market_laws.proofs.Wholes.{new-untouched}
-use Rattle.market_locality.proofs.Entries.{with_order-agree}
-use Rattle.market_locality.proofs.Moments.{moment-more}
-use Rattle.market_locality.proofs.States.{filled-agree, left-agree}
+use Rattle.market_laws.proofs.LocalEntries.{with_order-agree}
+use Rattle.market_laws.proofs.LocalMoments.{moment-more}
+use Rattle.market_laws.proofs.LocalStates.{filled-agree, left-agree}
 use Rattle.match_core.specs.declared.taker.Taker.{Taker}
 use Rattle.match_core.specs.Takers.{price_at, taker_at, taker_of}
 use Rattle.match_core.specs.Takings.{HasEntered}

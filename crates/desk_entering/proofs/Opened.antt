@@ -38,9 +38,9 @@ use Rattle.market_laws.proofs.Uses.{contract_has-is, room-le}
 use Rattle.certified_maximum.proofs.Obtained.{fit-can_take}
 use Rattle.certified_maximum.proofs.Takers.{takers-leg}
 use Rattle.sweep_core.specs.Sweeping.{may_open}
-use Rattle.quiet_parts.specs.Quiet.{IsAside, IsQuiet}
-use Rattle.quiet_parts.proofs.Stays.{never-quiet}
-use Rattle.quiet_parts.proofs.Taking.{taker-quiet}
+use Rattle.line_fronts.specs.Quiet.{IsAside, IsQuiet}
+use Rattle.line_fronts.proofs.Stays.{never-quiet}
+use Rattle.line_fronts.proofs.Taking.{taker-quiet}
 use Rattle.desk_entering.specs.Opening.{opens}
 use Rattle.desk_entering.proofs.Staying.{HadRoom, stays-quiet}
 

@@ -27,9 +27,9 @@ use Rattle.market_model.specs.Sweep.{all_parts, first_answer, left_in_hour, leg_
 use Rattle.market_model.specs.WellFormed.{FitAfter, IsMarketSetup, OrderEnters}
 use Rattle.market_laws.proofs.Lines.{same_contract-refl}
 use Rattle.market_laws.proofs.Tests.{same_contract-eq}
-use Rattle.market_locality.proofs.Entries.{before_sweep-named, legs_taken-agree, rest_of-agree}
-use Rattle.market_locality.proofs.Lines.{contract-hours, sweep_leg-agree}
-use Rattle.market_locality.proofs.States.{Agree, agree-append, room-agree}
+use Rattle.market_laws.proofs.LocalEntries.{before_sweep-named, legs_taken-agree, rest_of-agree}
+use Rattle.market_laws.proofs.LocalLines.{contract-hours, sweep_leg-agree}
+use Rattle.market_laws.proofs.LocalStates.{Agree, agree-append, room-agree}
 use Rattle.desk_laws.specs.Settled.{IsSettled}
 use Rattle.sweep_core.specs.Sweeping.{hour_sweep}
 use Rattle.kept_hour.specs.State.{HourState}

@@ -26,12 +26,12 @@ use Rattle.market_model.specs.WellFormed.{OrderEnters}
 use Rattle.market_laws.proofs.Members.{IsIn-filter_map}
 use Rattle.market_laws.proofs.Placed.{picked-stays}
 use Rattle.market_laws.proofs.Repeats.{fit-more}
-use Rattle.market_locality.proofs.Answers.{has_desk_room-agree, open_names-agree, open_names-hour}
-use Rattle.market_locality.proofs.Entries.{after_taking-agree}
-use Rattle.market_locality.proofs.Restrict.{filter-same}
+use Rattle.market_laws.proofs.LocalAnswers.{has_desk_room-agree, open_names-agree, open_names-hour}
+use Rattle.market_laws.proofs.LocalEntries.{after_taking-agree}
+use Rattle.market_laws.proofs.Restrict.{filter-same}
 use Rattle.certified_maximum.proofs.Obtained.{fit-can_take}
-use Rattle.history_bounds.proofs.OpenNames.{few-rests, order-entry}
-use Rattle.history_bounds.proofs.Quiet.{take-quiet}
+use Rattle.market_laws.proofs.OpenNames.{few-rests, order-entry}
+use Rattle.market_laws.proofs.Closing.{take-quiet}
 use Rattle.book_lines.specs.BookOf.{book_of, contract_of, ice_of, resting_of}
 use Rattle.book_lines.proofs.LineOrders.{StandsIn, in_resting}
 use Rattle.book_lines.proofs.PartLines.{line_of-book}

@@ -24,9 +24,9 @@ use Rattle.market_model.specs.WellFormed.{FitAfter, Fits, IsMarketSetup}
 use Rattle.market_laws.proofs.Repeats.{fit-more}
 use Rattle.line_fronts.specs.Fronts.{StandInFor}
 use Rattle.line_fronts.proofs.Unopened.{unopened}
-use Rattle.quiet_parts.specs.Quiet.{IsAside, IsQuiet, raises}
-use Rattle.quiet_parts.proofs.Aside.{no_better, stand_as_before}
-use Rattle.quiet_parts.proofs.Rises.{rise-alone}
+use Rattle.line_fronts.specs.Quiet.{IsAside, IsQuiet, raises}
+use Rattle.line_fronts.proofs.Aside.{no_better, stand_as_before}
+use Rattle.line_fronts.proofs.Rises.{rise-alone}
 
 -- who stands in for one that stands in for a former order stands in for that order
 stand-on : (side : Side) (former now then : List Standing) → StandInFor side former now → StandInFor side now then → StandInFor side former then

@@ -19,8 +19,8 @@ use Rattle.market_model.specs.History.{of_hour, touches}
 use Rattle.market_model.specs.WellFormed.{FitAfter, Fits}
 use Rattle.market_laws.proofs.Repeats.{fit-more}
 use Rattle.market_laws.proofs.Uses.{not_after-hours}
-use Rattle.market_locality.proofs.States.{Agree, allocated-agree, is_open-agree, left-agree, next_name-agree, phase-agree, quarter_room-agree}
-use Rattle.hour_lists.proofs.OfHours.{one-agrees}
+use Rattle.market_laws.proofs.LocalStates.{Agree, allocated-agree, is_open-agree, left-agree, next_name-agree, phase-agree, quarter_room-agree}
+use Rattle.market_laws.proofs.OfHours.{one-agrees}
 use Rattle.board_laws.proofs.Shared.{leg-shared, placed-shared}
 use Rattle.desk_laws.specs.Hours.{FitsInItsHour, GoesOn, IsHourIn, IsOfHour}
 

@@ -22,11 +22,11 @@ use Rattle.market_laws.proofs.Lines.{IsIn-line}
 use Rattle.market_laws.proofs.Members.{from_first_answer}
 use Rattle.market_laws.proofs.Repeats.{bind-some}
 use Rattle.market_laws.proofs.Trades.{IsInLine, from_line, partner-is}
-use Rattle.market_locality.proofs.Lines.{line-agree, rooms_for-agree}
-use Rattle.hour_lists.proofs.OfHours.{one-agrees}
-use Rattle.uncrossed_book.specs.Book.{IsUncrossedBook}
-use Rattle.uncrossed_book.proofs.Commands.{run-uncrossed}
-use Rattle.uncrossed_book.proofs.Whole.{book_of_hours}
+use Rattle.market_laws.proofs.LocalLines.{line-agree, rooms_for-agree}
+use Rattle.market_laws.proofs.OfHours.{one-agrees}
+use Rattle.market_laws.specs.UncrossedBook.{IsUncrossedBook}
+use Rattle.market_laws.proofs.Commands.{run-uncrossed}
+use Rattle.market_laws.proofs.UncrossedReplies.{book_of_hours}
 use Rattle.desk_laws.specs.Settled.{IsSettled, SettledHoursAreQuiet, UncrossedHoursAreSettled}
 
 -- who stands in a line for a contract and side is in that line

@@ -25,12 +25,12 @@ use Rattle.market_laws.proofs.Growing.{fit-append, fit-back, fit-front}
 use Rattle.market_laws.proofs.Legs.{sweep-fits, take-fits}
 use Rattle.market_laws.proofs.Replies.{reply-history}
 use Rattle.market_laws.proofs.Uses.{not_after-hours}
-use Rattle.market_locality.proofs.Lines.{sweep-agree, take-agree}
-use Rattle.market_locality.proofs.Named.{AreNamedByHour, IsNamedByHour, history-named}
-use Rattle.market_locality.proofs.Replies.{reply-local}
-use Rattle.market_locality.proofs.States.{Agree}
-use Rattle.market_locality.proofs.Within.{AreWithinHours, reply-within, sweep-within, take-within}
-use Rattle.hour_lists.proofs.OfHours.{hour-agrees}
+use Rattle.market_laws.proofs.LocalLines.{sweep-agree, take-agree}
+use Rattle.market_laws.proofs.NamedByHour.{AreNamedByHour, IsNamedByHour, history-named}
+use Rattle.market_laws.proofs.LocalReplies.{reply-local}
+use Rattle.market_laws.proofs.LocalStates.{Agree}
+use Rattle.market_laws.proofs.WithinHours.{AreWithinHours, reply-within, sweep-within, take-within}
+use Rattle.market_laws.proofs.OfHours.{hour-agrees}
 use Rattle.desk_laws.specs.Hours.{EntriesStayHours, GoesOn, IsHourIn, PrefixesAreHours, RepliesStayHours, SweepsStayHours, TakingsStayHours, WithdrawalsStayHours}
 use Rattle.desk_laws.proofs.Fitting.{event-goes-on, go-on-again, goes-on, hour-goes-on, hour-in-agrees}
 

@@ -15,7 +15,7 @@ use Rattle.market_model.specs.Market.{IsLegal}
 use Rattle.market_model.specs.Orders.{Standing}
 use Rattle.market_model.specs.Sweep.{leg_in, sweep}
 use Rattle.market_model.specs.WellFormed.{FitAfter, IsMarketSetup}
-use Rattle.uncrossed_book.specs.Book.{IsUncrossedBook}
+use Rattle.market_laws.specs.UncrossedBook.{IsUncrossedBook}
 
 -- an hour is settled after some events: no part of it has a leg in a sweep, no two of its open orders can
 -- trade, and its sweep has no leg

@@ -13,6 +13,3 @@ pub use basket_match::{Desks, HourDesk, carry_all, plan_basket, plan_joint, refu
 pub use held::Held;
 pub use row::DeskRow;
 pub use zone_graph::NoMemory;
-
-#[cfg(test)]
-mod tests;

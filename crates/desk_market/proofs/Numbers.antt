@@ -10,7 +10,7 @@ use Rattle.market_model.specs.History.{entered_count, enters, enters_in, events_
 use Rattle.market_model.specs.Market.{IsLegal, Turn, entry_of, run_after, run_of, turn_of}
 use Rattle.market_model.specs.Sweep.{all_parts}
 use Rattle.plain_orders.proofs.Found.{entered_in-few}
-use Rattle.reply_bounds.proofs.Entered.{reply-enters-few}
+use Rattle.market_laws.proofs.ReplyEntries.{reply-enters-few}
 
 -- each entry enters at most eight
 run-few : (setup : Setup) (before : List Entry) (turns : List Turn) → entered_count (journal_events (run_after all_parts setup before turns)) ≤ 8 * length turns

@@ -18,7 +18,7 @@ use Rattle.market_model.specs.HourSet.{IsSetOf, has_hour}
 use Rattle.market_model.specs.Market.{IsLegal}
 use Rattle.market_model.specs.WellFormed.{IsMarketSetup}
 use Rattle.market_laws.proofs.Journals.{journal_events-more}
-use Rattle.market_locality.proofs.Restrict.{filter-same, map-same}
+use Rattle.market_laws.proofs.Restrict.{filter-same, map-same}
 use Rattle.trade_journal.specs.Journals.{all_rooms}
 use Rattle.day_desks.specs.Desk.{DeskState, carried, planning, with_nothing_planned}
 use Rattle.day_desks.specs.Rows.{AreReady, IsJournalOf, dropped, hours_of, planning_all}

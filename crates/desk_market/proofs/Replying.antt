@@ -16,8 +16,8 @@ use Rattle.market_model.specs.Rules.{early_refusal, touched_hours}
 use Rattle.market_model.specs.Sweep.{all_parts}
 use Rattle.market_model.specs.WellFormed.{IsHistory, IsMarketSetup}
 use Rattle.market_laws.proofs.Journals.{run-history}
-use Rattle.market_locality.proofs.Named.{history-named}
-use Rattle.market_locality.proofs.Within.{reply-within}
+use Rattle.market_laws.proofs.NamedByHour.{history-named}
+use Rattle.market_laws.proofs.WithinHours.{reply-within}
 use Rattle.day_desks.proofs.Touching.{none-elsewhere}
 use Rattle.day_desks.proofs.Commands.{refused-early}
 use Rattle.desk_market.specs.Standing.{planned_hours}

@@ -18,16 +18,16 @@ use Rattle.market_model.specs.Orders.{Placed, PlacedBlock, blocks_placed, is_ope
 use Rattle.market_laws.proofs.Legs.{open_order-is}
 use Rattle.market_laws.proofs.Placed.{OrderIsSound, all_are_sound}
 use Rattle.market_laws.proofs.Tests.{same_name-eq}
-use Rattle.market_locality.proofs.Blocks.{open_block-agree, standing_block-agree}
-use Rattle.market_locality.proofs.Lines.{open_order-agree, standing-agree}
-use Rattle.market_locality.proofs.States.{Agree}
+use Rattle.market_laws.proofs.LocalBlocks.{open_block-agree, standing_block-agree}
+use Rattle.market_laws.proofs.LocalLines.{open_order-agree, standing-agree}
+use Rattle.market_laws.proofs.LocalStates.{Agree}
 use Rattle.book_lines.specs.BookOf.{book_of, contract_of, resting_of}
 use Rattle.book_lines.proofs.FoundOrders as orders
 use Rattle.book_lines.proofs.LineOrders.{in_resting}
 use Rattle.book_lines.proofs.PartLines.{line_of-book}
-use Rattle.block_lines.specs.BlocksOf.{blocks_of, resting_block}
-use Rattle.block_lines.proofs.Kept.{resting-same}
-use Rattle.block_lines.proofs.Whole as blocks
+use Rattle.book_lines.specs.BlocksOf.{blocks_of, resting_block}
+use Rattle.book_lines.proofs.BlocksKept.{resting-same}
+use Rattle.book_lines.proofs.WholeBlockBooks as blocks
 use Rattle.hour_changes.proofs.NextEvents.{agrees, blocks-are, book-is, placed-too}
 use Rattle.hour_store.specs.Contents.{IsOfPart}
 use Rattle.desk_refusals.specs.Found.{own_block, own_order, record_of}

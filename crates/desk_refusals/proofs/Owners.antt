@@ -18,10 +18,10 @@ use Rattle.market_laws.proofs.Legs.{open_order-is}
 use Rattle.market_laws.proofs.Names.{names-once}
 use Rattle.market_laws.proofs.Tests.{same_name-eq}
 use Rattle.market_laws.proofs.Unique.{order_is_no_block}
-use Rattle.market_locality.proofs.Blocks.{open_block-agree}
-use Rattle.market_locality.proofs.Lines.{open_order-agree}
+use Rattle.market_laws.proofs.LocalBlocks.{open_block-agree}
+use Rattle.market_laws.proofs.LocalLines.{open_order-agree}
 use Rattle.book_lines.specs.BookOf.{book_of}
-use Rattle.block_lines.specs.BlocksOf.{resting_block}
+use Rattle.book_lines.specs.BlocksOf.{resting_block}
 use Rattle.hour_changes.proofs.NextEvents.{agrees}
 use Rattle.hour_store.specs.Contents.{IsOfPart}
 use Rattle.desk_refusals.specs.declared.owning.Own.{Own}

@@ -15,7 +15,7 @@ use Rattle.local_view.specs.Boards.{AreRoomsOf}
 use Rattle.local_view.specs.Kept.{Views, line_of, views_forgotten}
 use Rattle.local_view.specs.Nearness.{WereViews, zones_touched}
 use Rattle.local_view.specs.Rows.{LineRows}
-use Rattle.near_changes.specs.Changes.{RoomsDifferWithin}
+use Rattle.view_near.specs.Changes.{RoomsDifferWithin}
 use Rattle.desk_views.specs.Desk.{DeskState, views_with_made}
 use Rattle.desk_views.specs.Insides.{planned_if}
 use Rattle.desk_views.specs.Moved.{AreMoved, touched_of}

@@ -13,9 +13,9 @@ use Rattle.market_model.specs.Lines.{line}
 use Rattle.market_model.specs.Orders.{Standing}
 use Rattle.market_model.specs.Room.{room}
 use Rattle.market_model.specs.View.{view}
-use Rattle.market_locality.proofs.Answers.{view-agree}
-use Rattle.market_locality.proofs.Lines.{contract-hours, line-agree}
-use Rattle.market_locality.proofs.States.{room-agree}
+use Rattle.market_laws.proofs.LocalAnswers.{view-agree}
+use Rattle.market_laws.proofs.LocalLines.{contract-hours, line-agree}
+use Rattle.market_laws.proofs.LocalStates.{room-agree}
 use Rattle.hour_changes.proofs.NextEvents.{agrees}
 use Rattle.plain_view.specs.declared.filling.Fill.{Fill}
 use Rattle.plain_view.specs.declared.maker.Maker.{Maker}

@@ -17,7 +17,7 @@ use Rattle.zone_graph.proofs.Membership.{IsIn-has, IsIn-range, has-IsIn}
 use Rattle.contract_book.proofs.BookShapes.{any-some}
 use Rattle.market_model.specs.declared.event.Event.{Event}
 use Rattle.market_model.specs.Room.{room}
-use Rattle.near_changes.specs.Changes.{AreAmong, RoomsDifferWithin}
+use Rattle.view_near.specs.Changes.{AreAmong, RoomsDifferWithin}
 use Rattle.view_near.specs.Nearby.{DifferWithin, is_within, seen_elsewhere}
 use Rattle.local_view.specs.Nearness.{zones_touched}
 use Rattle.desk_views.specs.Moved.{AreMoved, has_moved, is_moved, moves_in}

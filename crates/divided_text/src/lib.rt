@@ -7,8 +7,6 @@ mod dividing;
 mod laws;
 mod lines;
 mod reading;
-#[cfg(test)]
-mod reading_tests;
 
 pub use laws::{
     bad_lines_are_by_grammar, divided_inputs_are_read, good_inputs_are_by_grammar,

@@ -4,3 +4,6 @@ pub mod Ranges
 pub mod OtherEvents
 pub mod InTurn
 pub mod Callable
+pub mod RequestRooms
+pub mod Answering
+pub mod Refused

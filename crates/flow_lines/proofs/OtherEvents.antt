@@ -16,9 +16,9 @@ use Rattle.market_model.specs.Room.{halt_by, phase_by}
 use Rattle.market_model.specs.History.{and_then, of_hour, touches}
 use Rattle.market_model.specs.WellFormed.{FitAfter, Fits}
 use Rattle.market_laws.proofs.Repeats.{fit-more}
-use Rattle.market_locality.proofs.Named.{history-named}
-use Rattle.market_locality.proofs.States.{Agree, allocated-agree, halted-agree, offered-agree, phase-agree}
-use Rattle.hour_lists.proofs.OfHours.{one-agrees}
+use Rattle.market_laws.proofs.NamedByHour.{history-named}
+use Rattle.market_laws.proofs.LocalStates.{Agree, allocated-agree, halted-agree, offered-agree, phase-agree}
+use Rattle.market_laws.proofs.OfHours.{one-agrees}
 use Rattle.flow_netting.specs.Flows.{Flows}
 use Rattle.flow_netting.specs.Flows as kept
 use Rattle.flow_lines.specs.FlowLaws.{HoursHaveTheirFlows, OtherEventsLeaveTheFlows}

@@ -2,3 +2,4 @@
 pub mod Standing
 pub mod FlowLaws
 pub mod CallLaws
+pub mod Refusing

@@ -99,7 +99,7 @@ impl BorderFlows {
         ensures halted { self.new.halted ≡ self.old.halted }
     {
         for number in 1..5 {
-            self.take_if(set.has(number), forward, number, lots);
+            self.take_if(set.contains(number), forward, number, lots);
         }
     }
 
@@ -135,7 +135,11 @@ impl BorderFlows {
     {
         let mut least = None;
         for number in 1..5 {
-            least = lesser(least, set.has(number), self.row(number).remaining(forward));
+            least = lesser(
+                least,
+                set.contains(number),
+                self.row(number).remaining(forward),
+            );
         }
         least.unwrap_or(0)
     }

@@ -10,7 +10,7 @@ pub struct QuarterSet(pub u8);
 
 impl QuarterSet {
     /// Whether the quarter of this number is in the set.
-    pub fn has(self, number: u32) -> bool
+    pub fn contains(self, number: u32) -> bool
         requires first { 1 ≤ number }
         requires last { number ≤ 4 }
         ensures { result ≡ sets.has self number }

@@ -16,13 +16,13 @@ use Rattle.market_model.specs.Orders.{is_open, left, name_given, open_names}
 use Rattle.market_model.specs.WellFormed.{BlockEnters, FitAfter, Fits}
 use Rattle.market_laws.proofs.Counts.{fewer-le}
 use Rattle.market_laws.proofs.States.{left-more}
-use Rattle.market_locality.proofs.Answers.{open_names-agree}
-use Rattle.market_locality.proofs.States.{next_name-agree}
-use Rattle.history_bounds.proofs.OpenNames.{IsEntry, block-entry}
+use Rattle.market_laws.proofs.LocalAnswers.{open_names-agree}
+use Rattle.market_laws.proofs.LocalStates.{next_name-agree}
+use Rattle.market_laws.proofs.OpenNames.{IsEntry, block-entry}
 use Rattle.book_lines.proofs.Elsewhere as books
-use Rattle.block_lines.specs.BlocksOf.{blocks_of, entered_resting_block}
-use Rattle.block_lines.proofs.EnteredAndWithdrawn.{book-entered, number-free}
-use Rattle.block_lines.proofs.Whole.{few-in_book}
+use Rattle.book_lines.specs.BlocksOf.{blocks_of, entered_resting_block}
+use Rattle.book_lines.proofs.EnteredAndWithdrawn.{book-entered, number-free}
+use Rattle.book_lines.proofs.WholeBlockBooks.{few-in_book}
 use Rattle.flow_lines.proofs.OtherEvents.{others}
 use Rattle.hour_changes.specs.NextEvents.{IsNext}
 use Rattle.hour_changes.specs.BlockEvents.{BlocksEnter, RestsAsBlock}

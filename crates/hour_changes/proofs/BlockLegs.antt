@@ -9,12 +9,12 @@ use Rattle.market_model.specs.declared.event.Leg.{Leg}
 use Rattle.market_model.specs.Board.{IsHourOf}
 use Rattle.market_model.specs.History.{and_then}
 use Rattle.market_model.specs.Orders.{is_open}
-use Rattle.market_locality.proofs.States.{is_open-agree}
+use Rattle.market_laws.proofs.LocalStates.{is_open-agree}
 use Rattle.book_lines.proofs.Elsewhere as books
-use Rattle.block_lines.specs.BlocksOf.{blocks_of}
-use Rattle.block_lines.specs.LegLaws.{without_both}
-use Rattle.block_lines.proofs.BlocksBesideLegs as beside
-use Rattle.block_lines.proofs.Elsewhere as blocks
+use Rattle.book_lines.specs.BlocksOf.{blocks_of}
+use Rattle.book_lines.specs.LegLaws.{without_both}
+use Rattle.book_lines.proofs.BlocksBesideLegs as beside
+use Rattle.book_lines.proofs.BlocksElsewhere as blocks
 use Rattle.flow_lines.specs.Standing.{Stands}
 use Rattle.flow_lines.proofs.Callable as callable
 use Rattle.flow_lines.proofs.Ranges as ranges

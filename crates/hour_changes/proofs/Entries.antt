@@ -31,14 +31,14 @@ use Rattle.market_laws.proofs.Counts.{fewer-le}
 use Rattle.market_laws.proofs.Names.{names-once, order_name-new}
 use Rattle.market_laws.proofs.States.{left-more}
 use Rattle.market_laws.proofs.Wholes.{other_name}
-use Rattle.market_locality.proofs.Answers.{open_names-agree}
-use Rattle.market_locality.proofs.States.{next_name-agree}
-use Rattle.history_bounds.proofs.OpenNames.{IsEntry, order-entry}
+use Rattle.market_laws.proofs.LocalAnswers.{open_names-agree}
+use Rattle.market_laws.proofs.LocalStates.{next_name-agree}
+use Rattle.market_laws.proofs.OpenNames.{IsEntry, order-entry}
 use Rattle.book_lines.specs.BookOf.{book_of, resting_of}
 use Rattle.book_lines.proofs.ComesToRest.{book-entered}
 use Rattle.book_lines.proofs.FoundOrders.{order-found}
 use Rattle.book_lines.proofs.LineOrders.{entered-other}
-use Rattle.block_lines.proofs.Elsewhere as blocks
+use Rattle.book_lines.proofs.BlocksElsewhere as blocks
 use Rattle.flow_lines.proofs.OtherEvents.{others}
 use Rattle.hour_changes.specs.NextEvents.{IsNext}
 use Rattle.hour_changes.specs.OrderEvents.{IsInHand, OrdersEnterInHand, resting_count}

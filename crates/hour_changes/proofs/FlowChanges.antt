@@ -8,8 +8,8 @@ use Rattle.market_model.specs.History.{and_then, enters, enters_in}
 use Rattle.market_model.specs.WellFormed.{BorderFits}
 use Rattle.book_lines.specs.BookLaws as books
 use Rattle.book_lines.proofs.Elsewhere.{book-elsewhere}
-use Rattle.block_lines.specs.BlockLaws as block_books
-use Rattle.block_lines.proofs.Elsewhere as blocks
+use Rattle.book_lines.specs.BlockLaws as block_books
+use Rattle.book_lines.proofs.BlocksElsewhere as blocks
 use Rattle.flow_lines.specs.Standing.{Stands}
 use Rattle.flow_lines.proofs.Callable.{grants, offers}
 use Rattle.hour_changes.specs.FlowEvents.{FlowEventsLeaveTheBooks, GrantsFitTheFlows, HaltsFitTheFlows, OffersFitTheFlows, ResumptionsFitTheFlows, changes_flows}

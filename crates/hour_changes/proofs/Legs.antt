@@ -30,7 +30,7 @@ use Rattle.book_lines.proofs.LineOrders.{from_resting, in_resting, resting-stric
 use Rattle.book_lines.proofs.PartLines.{from_book, line_of-book}
 use Rattle.book_lines.proofs.TakenOff.{order_of-open}
 use Rattle.book_lines.proofs.Updates.{Change, in_after, in_less, line_after}
-use Rattle.block_lines.proofs.Elsewhere as blocks
+use Rattle.book_lines.proofs.BlocksElsewhere as blocks
 use Rattle.flow_lines.specs.Standing.{Stands}
 use Rattle.flow_lines.proofs.Callable as callable
 use Rattle.flow_lines.proofs.Noted as noted

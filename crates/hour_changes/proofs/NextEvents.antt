@@ -12,13 +12,13 @@ use Rattle.market_model.specs.Orders.{Placed, placed}
 use Rattle.market_model.specs.WellFormed.{FitAfter}
 use Rattle.market_laws.proofs.Growing.{fit-back, fit-front}
 use Rattle.market_laws.proofs.Repeats.{fit-more}
-use Rattle.market_locality.proofs.Moments.{hour-more}
-use Rattle.market_locality.proofs.States.{Agree, placed-agree}
-use Rattle.hour_lists.proofs.OfHours.{one-agrees}
+use Rattle.market_laws.proofs.LocalMoments.{hour-more}
+use Rattle.market_laws.proofs.LocalStates.{Agree, placed-agree}
+use Rattle.market_laws.proofs.OfHours.{one-agrees}
 use Rattle.book_lines.specs.BookOf.{book_of, next_moment}
 use Rattle.book_lines.proofs.FoundOrders as books
-use Rattle.block_lines.specs.BlocksOf.{blocks_of}
-use Rattle.block_lines.proofs.Whole as blocks
+use Rattle.book_lines.specs.BlocksOf.{blocks_of}
+use Rattle.book_lines.proofs.WholeBlockBooks as blocks
 use Rattle.flow_lines.specs.Standing.{Stands}
 use Rattle.flow_lines.proofs.OtherEvents.{hours_have}
 use Rattle.hour_changes.specs.NextEvents.{FirstOfManyAreHours, FirstPartsAreHours, HoursBeginEmpty, IsNext, NextEventsFit}

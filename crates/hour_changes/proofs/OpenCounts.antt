@@ -26,14 +26,14 @@ use Rattle.market_laws.proofs.Counts.{length-in_order}
 use Rattle.market_laws.proofs.Names.{names-once}
 use Rattle.market_laws.proofs.Placed.{all_are_sound}
 use Rattle.market_laws.proofs.Unique.{order_is_no_block}
-use Rattle.market_locality.proofs.Answers.{open_names-agree}
-use Rattle.market_locality.proofs.Restrict.{filter-same}
+use Rattle.market_laws.proofs.LocalAnswers.{open_names-agree}
+use Rattle.market_laws.proofs.Restrict.{filter-same}
 use Rattle.std.proofs.lemmas.List.{length-map}
 use Rattle.book_lines.specs.BookOf.{book_of, contract_of, numbered_parts, resting_line, resting_of}
 use Rattle.book_lines.proofs.LineOrders.{same_names}
 use Rattle.book_lines.proofs.PartLines.{each-part}
-use Rattle.block_lines.specs.BlockLaws.{IsOfOrder}
-use Rattle.block_lines.specs.BlocksOf.{blocks_of, resting_block, rests_from}
+use Rattle.book_lines.specs.BlockLaws.{IsOfOrder}
+use Rattle.book_lines.specs.BlocksOf.{blocks_of, resting_block, rests_from}
 use Rattle.hour_changes.specs.OpenCounts.{AllThatRestIsInTheBooks}
 use Rattle.hour_changes.specs.OrderEvents.{without_hand}
 use Rattle.hour_changes.proofs.NextEvents.{agrees, blocks-are, book-is, placed-too}

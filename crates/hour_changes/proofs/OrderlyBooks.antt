@@ -17,7 +17,7 @@ use Rattle.contract_book.specs.Book.{filled, has_number, line_without, order_of,
 use Rattle.contract_book.specs.Resting.{order_after, resting_cmp}
 use Rattle.contract_book.proofs.BookShapes.{find-only, has-number, has_not-number}
 use Rattle.contract_book.proofs.Told.{filled-emptied, filled-rest}
-use Rattle.market_locality.proofs.Restrict.{find-filter, map-same}
+use Rattle.market_laws.proofs.Restrict.{find-filter, map-same}
 use Rattle.book_lines.proofs.LegFills.{fill_of, next_record}
 use Rattle.book_lines.proofs.Updates.{Change, IsOfNumber, IsOfSide, after-strict, from_after, in_after, from_less, from_stands, less-both, line_after, stands}
 use Rattle.hour_changes.specs.OrderEvents.{filled_beside, holds, without_hand}

@@ -12,7 +12,7 @@ use Rattle.market_model.specs.Orders.{filled, is_open, left, standing}
 use Rattle.market_model.specs.WellFormed.{ReductionFits}
 use Rattle.book_lines.specs.BookOf.{book_of, ice_of, resting_of}
 use Rattle.book_lines.proofs.TakenOff.{book-reduced, order_of-open}
-use Rattle.block_lines.proofs.Elsewhere as blocks
+use Rattle.book_lines.proofs.BlocksElsewhere as blocks
 use Rattle.flow_lines.proofs.OtherEvents.{others}
 use Rattle.hour_changes.specs.NextEvents.{IsNext}
 use Rattle.hour_changes.specs.OrderEvents.{IsReduced, ReductionsAreMade}

@@ -19,15 +19,15 @@ use Rattle.market_model.specs.Orders.{Placed, is_open, left, name_given, open_na
 use Rattle.market_laws.proofs.Members.{from_filter_map}
 use Rattle.market_laws.proofs.Placed.{picked-same}
 use Rattle.market_laws.proofs.Tests.{same_name-eq}
-use Rattle.market_locality.proofs.States.{is_open-agree}
-use Rattle.history_bounds.proofs.OpenNames.{fewer-quiet, opens-before}
-use Rattle.history_bounds.proofs.Quiet.{quiet-one}
+use Rattle.market_laws.proofs.LocalStates.{is_open-agree}
+use Rattle.market_laws.proofs.OpenNames.{fewer-quiet, opens-before}
+use Rattle.market_laws.proofs.Closing.{quiet-one}
 use Rattle.book_lines.specs.BookOf.{book_of, resting_of}
 use Rattle.book_lines.proofs.FoundOrders.{order-found}
 use Rattle.book_lines.proofs.LineOrders.{same_names}
 use Rattle.book_lines.proofs.TakenOff.{book-withdrawn, left-gone}
-use Rattle.block_lines.proofs.EnteredAndWithdrawn as blocks
-use Rattle.block_lines.proofs.Elsewhere as elsewhere
+use Rattle.book_lines.proofs.EnteredAndWithdrawn as blocks
+use Rattle.book_lines.proofs.BlocksElsewhere as elsewhere
 use Rattle.flow_lines.proofs.OtherEvents.{others}
 use Rattle.hour_changes.specs.NextEvents.{IsNext}
 use Rattle.hour_changes.specs.OrderEvents.{ClosedOrdersAreGone, IsWithdrawn, WithdrawalsAreMade, resting_count}

@@ -11,7 +11,7 @@ use Rattle.market_model.specs.Board.{IsHourOf}
 use Rattle.market_model.specs.History.{and_then}
 use Rattle.market_model.specs.Orders.{next_name, open_names}
 use Rattle.book_lines.specs.BookOf.{book_of}
-use Rattle.block_lines.specs.BlocksOf.{blocks_of, entered_resting_block}
+use Rattle.book_lines.specs.BlocksOf.{blocks_of, entered_resting_block}
 use Rattle.flow_lines.specs.Standing.{Stands}
 
 -- a block has entered an hour: it rests in the book of the blocks, whole, under a number that was free, and

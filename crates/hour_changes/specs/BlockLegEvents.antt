@@ -14,8 +14,8 @@ use Rattle.market_model.specs.Board.{IsHourOf}
 use Rattle.market_model.specs.History.{and_then}
 use Rattle.market_model.specs.Orders.{is_open, next_name}
 use Rattle.book_lines.specs.BookOf.{book_of}
-use Rattle.block_lines.specs.BlocksOf.{blocks_of}
-use Rattle.block_lines.specs.LegLaws.{without_both}
+use Rattle.book_lines.specs.BlocksOf.{blocks_of}
+use Rattle.book_lines.specs.LegLaws.{without_both}
 use Rattle.flow_lines.specs.CallLaws.{CanCarry}
 use Rattle.flow_lines.specs.Standing.{IsCarried, IsSetOf, Stands}
 use Rattle.hour_changes.specs.OrderEvents.{resting_count}

@@ -11,7 +11,7 @@ use Rattle.market_model.specs.Board.{IsHourOf}
 use Rattle.market_model.specs.History.{and_then}
 use Rattle.market_model.specs.Orders.{next_name}
 use Rattle.book_lines.specs.BookOf.{book_of}
-use Rattle.block_lines.specs.BlocksOf.{blocks_of}
+use Rattle.book_lines.specs.BlocksOf.{blocks_of}
 use Rattle.flow_lines.specs.CallLaws.{CanGrant, CanOffer}
 use Rattle.flow_lines.specs.Standing.{Stands}
 use Rattle.hour_changes.specs.OrderEvents.{resting_count}

@@ -5,8 +5,8 @@ use Rattle.contract_book.specs.Book.{order_count}
 use Rattle.market_model.specs.declared.event.Event.{Event}
 use Rattle.market_model.specs.Board.{IsHourOf}
 use Rattle.book_lines.specs.BookOf.{book_of}
-use Rattle.block_lines.specs.BlockLaws.{IsOfOrder}
-use Rattle.block_lines.specs.BlocksOf.{blocks_of}
+use Rattle.book_lines.specs.BlockLaws.{IsOfOrder}
+use Rattle.book_lines.specs.BlocksOf.{blocks_of}
 use Rattle.hour_changes.specs.OrderEvents.{resting_count, without_hand}
 
 -- what is open and not in hand is an order of the book or a block of the book of blocks; what is in hand

@@ -20,8 +20,8 @@ use Rattle.market_model.specs.Board.{IsHourOf, is_in_hand}
 use Rattle.market_model.specs.History.{and_then}
 use Rattle.market_model.specs.Orders.{is_open, next_name, open_names}
 use Rattle.book_lines.specs.BookOf.{book_of}
-use Rattle.block_lines.specs.BlockLaws.{IsOfOrder}
-use Rattle.block_lines.specs.BlocksOf.{blocks_of}
+use Rattle.book_lines.specs.BlockLaws.{IsOfOrder}
+use Rattle.book_lines.specs.BlocksOf.{blocks_of}
 use Rattle.flow_lines.specs.CallLaws.{CanCarry}
 use Rattle.flow_lines.specs.Standing.{IsCarried, IsSetOf, Stands}
 

@@ -106,12 +106,12 @@ fn reply_in(
 {
     match refuse_by_state(hour, grid, caller, command) {
         Some(refusal) => Ok(Reply::Refused(refusal)),
-        None => answer(alloc, hour, views, grid, setup, caller, command),
+        None => reply_let_in(alloc, hour, views, grid, setup, caller, command),
     }
 }
 
 // The same, for a command that no rule on the state refuses.
-fn answer(
+fn reply_let_in(
     alloc: Global,
     hour: &mut KeptHour,
     views: &DeskViews,

@@ -17,7 +17,7 @@ pub fn grant_in(flows: &mut HourFlows, arc: Arc, set: QuarterSet, lots: u32)
     ensures { IsCarried (same_arc arc) (has set) lots flows.old flows.new }
 {
     for number in 1..5 {
-        grant_if(flows, set.has(number), arc, number, lots);
+        grant_if(flows, set.contains(number), arc, number, lots);
     }
 }
 

@@ -305,7 +305,7 @@ impl HourStore {
         ensures back { StillLeadsBack self.old self.new }
     {
         for number in 1..5 {
-            self.offer_if(set.has(number), arc, number, lots);
+            self.offer_if(set.contains(number), arc, number, lots);
         }
     }
 

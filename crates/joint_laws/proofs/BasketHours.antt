@@ -24,16 +24,16 @@ use Rattle.market_model.specs.Certificate.{bound_of, unfilled_zones}
 use Rattle.market_model.specs.Entering.{enter, enter_all, legs_taken, name_of_next, rest_of, rest_withdrawn}
 use Rattle.market_model.specs.Grid.{graph_of}
 use Rattle.market_model.specs.History.{of_hour, touches}
-use Rattle.market_model.specs.Market.{answer, events_done}
+use Rattle.market_model.specs.Market.{reply_let_in, events_done}
 use Rattle.market_model.specs.Refusals.{basket_order_refusal}
 use Rattle.market_model.specs.Rules.{ascends, unless}
 use Rattle.market_laws.proofs.Admitted.{refusal-none}
-use Rattle.market_locality.proofs.Answers.{bound_of-agree, unfilled_zones-agree}
-use Rattle.market_locality.proofs.Blocks.{agree-itself}
-use Rattle.market_locality.proofs.Entries.{before_sweep-named, enter-agree, enter-named, enter_all-agree, rest_of-agree, with_order-agree}
-use Rattle.market_locality.proofs.Lines.{first_answer-same}
-use Rattle.market_locality.proofs.Named.{AreNamedByHour, history-named, named-append}
-use Rattle.market_locality.proofs.Within.{AreWithinHours, enter-within, enter_all-within}
+use Rattle.market_laws.proofs.LocalAnswers.{bound_of-agree, unfilled_zones-agree}
+use Rattle.market_laws.proofs.LocalBlocks.{agree-itself}
+use Rattle.market_laws.proofs.LocalEntries.{before_sweep-named, enter-agree, enter-named, enter_all-agree, rest_of-agree, with_order-agree}
+use Rattle.market_laws.proofs.LocalLines.{first_answer-same}
+use Rattle.market_laws.proofs.NamedByHour.{AreNamedByHour, history-named, named-append}
+use Rattle.market_laws.proofs.WithinHours.{AreWithinHours, enter-within, enter_all-within}
 use Rattle.joint_laws.specs.Baskets.{BasketsAreDoneHourByHour, BasketsAreRefusedHourByHour, OrdersEnterHourByHour, OrdersHaveTheirHours, OrdersLeaveOtherHours, hours_of}
 use Rattle.joint_laws.proofs.SharedEvents.{unrefused}
 use Rattle.joint_laws.proofs.SweptHours.{ascends-different, aside-agrees, flat_map-same, own-agrees}
@@ -153,7 +153,7 @@ leave_others setup parts graph history caller orders hour fit apart =
 -- ---- baskets
 
 entered : (setup : Setup) (parts : List Part) (history : List Event) (caller : ℕ) (orders : List Order)
-    → answer parts setup history caller (command.EnterBasket orders) ≡ reply.Done (enter_all parts (graph_of setup) caller orders history)
+    → reply_let_in parts setup history caller (command.EnterBasket orders) ≡ reply.Done (enter_all parts (graph_of setup) caller orders history)
 unfolding events_done
 entered setup parts history caller orders = refl
 

@@ -18,8 +18,8 @@ use Rattle.market_model.specs.Orders.{PlacedBlock, is_open, left}
 use Rattle.market_model.specs.WellFormed.{IsHistory, IsMarketSetup}
 use Rattle.market_laws.proofs.BlockDeals.{IsOpenNow, deal-dealt, pour-start}
 use Rattle.market_laws.proofs.Pours.{ArePair, pour-keeps}
-use Rattle.market_locality.proofs.Blocks.{IsMade, block_leg-made}
-use Rattle.block_lines.specs.DealLaws.{IsDeal, with_deal}
+use Rattle.market_laws.proofs.LocalBlocks.{IsMade, block_leg-made}
+use Rattle.book_lines.specs.DealLaws.{IsDeal, with_deal}
 use Rattle.block_match.specs.declared.deal.BlockDeal.{BlockDeal}
 use Rattle.block_match.specs.Market.{deal_events, leg_event}
 

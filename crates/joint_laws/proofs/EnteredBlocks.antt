@@ -24,7 +24,7 @@ use Rattle.market_model.specs.declared.setup.Setup.{Setup}
 use Rattle.market_model.specs.Blocks.{StandingBlock, block_legs, enter_block, entering_block, legs_with, partner_found, standing_block, with_block}
 use Rattle.market_model.specs.Grid.{graph_of}
 use Rattle.market_model.specs.History.{events_of, of_hour, touches}
-use Rattle.market_model.specs.Market.{answer, events_done, reply_by}
+use Rattle.market_model.specs.Market.{reply_let_in, events_done, reply_by}
 use Rattle.market_model.specs.Orders.{PlacedBlock, block_placed_by, enters_block, is_open, last_place, left, next_name}
 use Rattle.market_model.specs.Refusals.{block_desk_refusal, has_desk_room, refusal_of_command}
 use Rattle.market_model.specs.Rules.{early_refusal, unless}
@@ -34,14 +34,14 @@ use Rattle.market_laws.proofs.Members.{IsIn-filter_map}
 use Rattle.market_laws.proofs.Repeats.{map-some}
 use Rattle.market_laws.proofs.Soundness.{block_fault-none, lots_in_range-bounds}
 use Rattle.market_laws.proofs.Wholes.{history-more, new_block-whole}
-use Rattle.market_locality.proofs.Answers.{has_desk_room-agree}
-use Rattle.market_locality.proofs.Named.{AreNamedByHour, history-named}
-use Rattle.market_locality.proofs.States.{Agree, agree-more, is_open-agree, left-agree, next_name-agree}
+use Rattle.market_laws.proofs.LocalAnswers.{has_desk_room-agree}
+use Rattle.market_laws.proofs.NamedByHour.{AreNamedByHour, history-named}
+use Rattle.market_laws.proofs.LocalStates.{Agree, agree-more, is_open-agree, left-agree, next_name-agree}
 use Rattle.plain_refusals.proofs.Rules.{state_comes_second}
-use Rattle.block_lines.specs.BlocksOf.{blocks_of, resting_block}
-use Rattle.block_lines.proofs.Kept.{resting-same}
-use Rattle.block_lines.proofs.Partners.{make_deals}
-use Rattle.block_lines.proofs.Whole.{hour-book}
+use Rattle.book_lines.specs.BlocksOf.{blocks_of, resting_block}
+use Rattle.book_lines.proofs.BlocksKept.{resting-same}
+use Rattle.book_lines.proofs.Partners.{make_deals}
+use Rattle.book_lines.proofs.WholeBlockBooks.{hour-book}
 use Rattle.block_match.specs.declared.deal.BlockDeal.{BlockDeal}
 use Rattle.block_match.specs.Deals.{deal_of_block}
 use Rattle.block_match.specs.Market.{IsMarketDeal, deal_events, entered_block, rooms_over}
@@ -334,7 +334,7 @@ module _ (setup : Setup) (parts : List Part) (history : List Event) (caller : �
   may : BlockEnters setup history (next_name history order.first) caller order
   may = admitting.blocks setup history caller order (early-free setup history caller order free)
 
-  replied : answer parts setup history caller (command.EnterBlock order) ≡ reply.Done (enter_block parts (graph_of setup) caller order history)
+  replied : reply_let_in parts setup history caller (command.EnterBlock order) ≡ reply.Done (enter_block parts (graph_of setup) caller order history)
   unfolding events_done
   replied = refl
 

@@ -6,9 +6,9 @@ use Rattle.zone_graph.specs.declared.route.Arc.{Arc}
 use Rattle.zone_graph.proofs.Membership.{from_map}
 use Rattle.market_model.specs.declared.event.Event.{Event}
 use Rattle.market_model.specs.Room.{least, quarter_room, room}
-use Rattle.market_locality.proofs.Named.{AreNamedByHour, history-named}
-use Rattle.market_locality.proofs.Restrict.{map-same}
-use Rattle.market_locality.proofs.States.{room-agree}
+use Rattle.market_laws.proofs.NamedByHour.{AreNamedByHour, history-named}
+use Rattle.market_laws.proofs.Restrict.{map-same}
+use Rattle.market_laws.proofs.LocalStates.{room-agree}
 use Rattle.joint_laws.specs.ByHour.{hour_events}
 use Rattle.joint_laws.specs.PeriodRooms.{PeriodRoomsAreTheLeastOfHours, hour_room, period_room}
 use Rattle.joint_laws.proofs.SweptHours.{own-agrees}

@@ -24,7 +24,7 @@ use Rattle.market_model.specs.declared.setup.Setup.{Setup}
 use Rattle.market_model.specs.Blocks.{AreBlockDeals, StandingBlock, block_deal, block_deals, block_legs, block_line, block_partner, block_time_cmp, deal_of_buy, match_blocks, resting_block_legs, standing_block}
 use Rattle.market_model.specs.Grid.{graph_of}
 use Rattle.market_model.specs.History.{of_hour, touches}
-use Rattle.market_model.specs.Market.{answer, events_done}
+use Rattle.market_model.specs.Market.{reply_let_in, events_done}
 use Rattle.market_model.specs.Orders.{PlacedBlock, is_open, left}
 use Rattle.market_model.specs.Room.{least}
 use Rattle.market_model.specs.Sweep.{sweep, sweeps}
@@ -34,14 +34,14 @@ use Rattle.market_laws.proofs.BlockDeals.{from_block_line}
 use Rattle.market_laws.proofs.BlockEntries.{deals-run}
 use Rattle.market_laws.proofs.Members.{from_first_answer}
 use Rattle.market_laws.proofs.Repeats.{map-some}
-use Rattle.market_locality.proofs.Blocks.{block-named, first-in}
-use Rattle.market_locality.proofs.Named.{AreNamedByHour, history-named}
-use Rattle.market_locality.proofs.Restrict.{map-same}
-use Rattle.market_locality.proofs.States.{is_open-agree}
-use Rattle.block_lines.specs.BlocksOf.{blocks_of}
-use Rattle.block_lines.specs.DealLaws.{IsDeal, with_deal}
-use Rattle.block_lines.proofs.Partners.{make_deals}
-use Rattle.block_lines.proofs.Whole.{hour-book}
+use Rattle.market_laws.proofs.LocalBlocks.{block-named, first-in}
+use Rattle.market_laws.proofs.NamedByHour.{AreNamedByHour, history-named}
+use Rattle.market_laws.proofs.Restrict.{map-same}
+use Rattle.market_laws.proofs.LocalStates.{is_open-agree}
+use Rattle.book_lines.specs.BlocksOf.{blocks_of}
+use Rattle.book_lines.specs.DealLaws.{IsDeal, with_deal}
+use Rattle.book_lines.proofs.Partners.{make_deals}
+use Rattle.book_lines.proofs.WholeBlockBooks.{hour-book}
 use Rattle.block_match.specs.declared.deal.BlockDeal.{BlockDeal}
 use Rattle.block_match.specs.Deals.{deal_of_period}
 use Rattle.block_match.specs.Market.{deal_events}
@@ -304,7 +304,7 @@ match_of_hour setup parts history first last deals hour is_setup is_history orde
     matched-of_hour setup is_setup first last ordered history is_history deals are parts hour
 
 replied : (setup : Setup) (parts : List Part) (history : List Event) (caller first last : ℕ)
-    → answer parts setup history caller (command.Blocks first last) ≡ reply.Done (match_blocks parts (graph_of setup) first last history)
+    → reply_let_in parts setup history caller (command.Blocks first last) ≡ reply.Done (match_blocks parts (graph_of setup) first last history)
 unfolding events_done
 replied setup parts history caller first last = refl
 

@@ -28,11 +28,11 @@ use Rattle.market_model.specs.Rules.{first_broken, hours_concerned, unless}
 use Rattle.market_model.specs.Sweep.{first_answer, or_else}
 use Rattle.market_model.specs.WellFormed.{FitAfter}
 use Rattle.market_laws.proofs.Legs.{open_order-is}
-use Rattle.market_locality.proofs.Blocks.{open_block-agree}
-use Rattle.market_locality.proofs.Lines.{first_answer-same, open_order-agree}
-use Rattle.market_locality.proofs.Restrict.{find-same}
-use Rattle.market_locality.proofs.States.{Agree, allocated-agree, left-agree, phase-agree, quarter_room-agree}
-use Rattle.hour_lists.proofs.OfHours.{one-agrees}
+use Rattle.market_laws.proofs.LocalBlocks.{open_block-agree}
+use Rattle.market_laws.proofs.LocalLines.{first_answer-same, open_order-agree}
+use Rattle.market_laws.proofs.Restrict.{find-same}
+use Rattle.market_laws.proofs.LocalStates.{Agree, allocated-agree, left-agree, phase-agree, quarter_room-agree}
+use Rattle.market_laws.proofs.OfHours.{one-agrees}
 use Rattle.plain_refusals.specs.State.{state_refusal}
 use Rattle.plain_refusals.proofs.Rules.{first_answer-append}
 use Rattle.joint_laws.specs.ByHour.{hour_events}

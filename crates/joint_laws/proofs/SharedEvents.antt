@@ -17,13 +17,13 @@ use Rattle.market_model.specs.declared.reply.Reply.TheVariants as reply
 use Rattle.market_model.specs.declared.setup.Setup.{Setup}
 use Rattle.market_model.specs.Grid.{graph_of}
 use Rattle.market_model.specs.History.{and_then, events_of, of_hour, touches}
-use Rattle.market_model.specs.Market.{answer, events_done, on_arc, refused_or, reply_by, then_sweeps}
+use Rattle.market_model.specs.Market.{reply_let_in, events_done, on_arc, refused_or, reply_by, then_sweeps}
 use Rattle.market_model.specs.Refusals.{refusal_of_command}
 use Rattle.market_model.specs.Rules.{ascends, hours_concerned}
 use Rattle.market_model.specs.Sweep.{sweep}
 use Rattle.market_model.specs.WellFormed.{FitAfter}
 use Rattle.market_laws.proofs.Repeats.{map-some}
-use Rattle.market_locality.proofs.Named.{AreNamedByHour, IsNamedByHour, history-named}
+use Rattle.market_laws.proofs.NamedByHour.{AreNamedByHour, IsNamedByHour, history-named}
 use Rattle.joint_laws.specs.Ranges.{RangesAreDoneHourByHour, RangesOfAnHour, RangesTouchTheirHours, SharedEventsAreSweptHourByHour, SharedEventsOfAnHour, TouchesJust, shared_event, swept_after}
 use Rattle.joint_laws.proofs.SweptHours.{ascends-different, flat_map-same, hours-ascend, then-of_hour, then-swept}
 
@@ -130,7 +130,7 @@ module _ (parts : List Part) (setup : Setup) (history : List Event) (caller : �
   over first last shared = then_sweeps parts (graph_of setup) (hours_from first last) history shared
 
   range-done : (given : Command) (shared : Event) → shared_event (graph_of setup) given ≡ Some shared
-      → answer parts setup history caller given ≡ reply.Done (then_sweeps parts (graph_of setup) (hours_concerned given) history shared)
+      → reply_let_in parts setup history caller given ≡ reply.Done (then_sweeps parts (graph_of setup) (hours_concerned given) history shared)
   unfolding events_done
   range-done (command.Offer from to first last lots) shared is =
       let found = map-some (λ (arc : Arc). event.Offered arc first last lots) (arc_between (graph_of setup) from to) shared is in
@@ -158,9 +158,9 @@ module _ (parts : List Part) (setup : Setup) (history : List Event) (caller : �
   range-done (command.View contract side zone) shared is = absurd (cc)
 
   -- a command that no rule refuses is answered
-  pub unrefused : (given : Command) → refusal_of_command setup history caller given ≡ None → reply_by parts setup history caller given ≡ answer parts setup history caller given
+  pub unrefused : (given : Command) → refusal_of_command setup history caller given ≡ None → reply_by parts setup history caller given ≡ reply_let_in parts setup history caller given
   unfolding reply_by
-  unrefused given is = ap (λ (o : Option Refusal). refused_or o (λ _. answer parts setup history caller given)) is
+  unrefused given is = ap (λ (o : Option Refusal). refused_or o (λ _. reply_let_in parts setup history caller given)) is
 
 pub touch_ranges : RangesTouchTheirHours
 touch_ranges graph given shared is = let range = range-event graph given shared is in (range.just, range.up)

@@ -13,12 +13,12 @@ use Rattle.market_model.specs.declared.event.Event.{Event}
 use Rattle.market_model.specs.History.{of_hour, touches}
 use Rattle.market_model.specs.Rules.{ascends}
 use Rattle.market_model.specs.Sweep.{sweep, sweeps}
-use Rattle.market_locality.proofs.Entries.{sweeps-agree}
-use Rattle.market_locality.proofs.Lines.{sweep-agree, sweep-named}
-use Rattle.market_locality.proofs.Named.{AreNamedByHour, history-named, named-append}
-use Rattle.market_locality.proofs.Restrict.{filter-filter}
-use Rattle.market_locality.proofs.States.{Agree}
-use Rattle.market_locality.proofs.Within.{AreWithinHours, sweep-within}
+use Rattle.market_laws.proofs.LocalEntries.{sweeps-agree}
+use Rattle.market_laws.proofs.LocalLines.{sweep-agree, sweep-named}
+use Rattle.market_laws.proofs.NamedByHour.{AreNamedByHour, history-named, named-append}
+use Rattle.market_laws.proofs.Restrict.{filter-filter}
+use Rattle.market_laws.proofs.LocalStates.{Agree}
+use Rattle.market_laws.proofs.WithinHours.{AreWithinHours, sweep-within}
 use Rattle.joint_laws.proofs.Touching.{none-elsewhere, sweep-own}
 use Rattle.joint_laws.specs.Sweeps.{SweepsAreHourByHour, SweepsOfAnHour}
 

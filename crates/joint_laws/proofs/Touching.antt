@@ -15,8 +15,8 @@ use Rattle.market_model.specs.Sweep.{left_in_hour, sweep, sweep_leg}
 use Rattle.market_model.specs.Taking.{next_leg, standing_order, take}
 use Rattle.market_laws.proofs.Falls.{IsLegIn, sweep_leg-hour, trade-leg}
 use Rattle.market_laws.proofs.Repeats.{bind-some}
-use Rattle.market_locality.proofs.Named.{AreNamedByHour}
-use Rattle.market_locality.proofs.Within.{AreWithinHours, IsWithinHours, sweep-within, take-within}
+use Rattle.market_laws.proofs.NamedByHour.{AreNamedByHour}
+use Rattle.market_laws.proofs.WithinHours.{AreWithinHours, IsWithinHours, sweep-within, take-within}
 
 -- ---- lists by the hours that they touch
 

@@ -22,7 +22,7 @@ use Rattle.market_model.specs.Refusals.{block_desk_refusal, has_desk_room, refus
 use Rattle.market_model.specs.Rules.{early_refusal, unless}
 use Rattle.market_model.specs.Sweep.{sweep}
 use Rattle.market_model.specs.WellFormed.{IsHistory, IsMarketSetup}
-use Rattle.block_lines.specs.BlocksOf.{blocks_of, resting_block}
+use Rattle.book_lines.specs.BlocksOf.{blocks_of, resting_block}
 use Rattle.block_match.specs.Deals.{deal_of_block}
 use Rattle.block_match.specs.Market.{deal_events, entered_block}
 use Rattle.joint_laws.specs.ByHour.{hour_events}

@@ -18,7 +18,7 @@ use Rattle.market_model.specs.Market.{reply_by}
 use Rattle.market_model.specs.Refusals.{refusal_of_command}
 use Rattle.market_model.specs.Sweep.{sweep}
 use Rattle.market_model.specs.WellFormed.{IsHistory, IsMarketSetup}
-use Rattle.block_lines.specs.BlocksOf.{blocks_of}
+use Rattle.book_lines.specs.BlocksOf.{blocks_of}
 use Rattle.block_match.specs.Deals.{deal_of_period}
 use Rattle.block_match.specs.Market.{deal_events}
 use Rattle.joint_laws.specs.ByHour.{hour_events}

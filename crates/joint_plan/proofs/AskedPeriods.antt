@@ -14,7 +14,7 @@ use Rattle.market_model.specs.History.{events_of, of_hour}
 use Rattle.market_model.specs.Market.{reply_to}
 use Rattle.market_model.specs.Sweep.{or_else}
 use Rattle.market_laws.proofs.Admitted.{naming-none}
-use Rattle.market_locality.proofs.Restrict.{map-same}
+use Rattle.market_laws.proofs.Restrict.{map-same}
 use Rattle.joint_laws.specs.ByHour.{hour_events}
 use Rattle.joint_laws.specs.MatchingBlocks.{ArePeriodDeals, legs_of}
 use Rattle.hour_desk.specs.Periods.{AreDealsOf}

@@ -7,7 +7,7 @@ use Rattle.market_model.specs.declared.event.Event.{Event}
 use Rattle.market_model.specs.declared.refusal.Refusal.{Refusal}
 use Rattle.market_model.specs.declared.reply.Reply.TheVariants as reply
 use Rattle.market_model.specs.declared.setup.Setup.{Setup}
-use Rattle.market_model.specs.Market.{answer, refused_or, reply_by, reply_to}
+use Rattle.market_model.specs.Market.{reply_let_in, refused_or, reply_by, reply_to}
 use Rattle.market_model.specs.Rules.{early_refusal}
 use Rattle.market_model.specs.Sweep.{all_parts}
 use Rattle.hour_desk.proofs.Admitting.{early-some}
@@ -22,4 +22,4 @@ module _ (setup : Setup) (caller : ℕ) (given : Command) where
   -- a command that a rule refuses by itself
   pub refused-early : (history : List Event) (broken : Refusal) → early_refusal setup caller given ≡ Some broken → reply_to setup history caller given ≡ reply.Refused broken
   unfolding reply_by
-  refused-early history broken early = ap (λ (o : Option Refusal). refused_or o (λ _. answer all_parts setup history caller given)) (early-some setup history caller given broken early)
+  refused-early history broken early = ap (λ (o : Option Refusal). refused_or o (λ _. reply_let_in all_parts setup history caller given)) (early-some setup history caller given broken early)

@@ -9,7 +9,7 @@ use Rattle.order_kinds.specs.declared.order.OrderName.{OrderName}
 use Rattle.order_kinds.specs.Same.{same_name}
 use Rattle.zone_graph.specs.Route.{IsIn}
 use Rattle.zone_graph.proofs.Membership.{from_filter}
-use Rattle.block_lines.specs.BlocksOf.{entered_resting_block, resting_block}
+use Rattle.book_lines.specs.BlocksOf.{entered_resting_block, resting_block}
 use Rattle.block_match.specs.Market.{entered_block}
 use Rattle.market_model.specs.declared.event.Event.{Event}
 use Rattle.market_model.specs.declared.event.Event.TheVariants as event
@@ -23,10 +23,10 @@ use Rattle.market_laws.proofs.Members.{IsIn-filter_map, from_filter_map}
 use Rattle.market_laws.proofs.States.{left-more}
 use Rattle.market_laws.proofs.Tests.{same_name-refl}
 use Rattle.market_laws.proofs.Wholes.{new_block-whole, other_name}
-use Rattle.market_locality.proofs.Moments.{block_moment-more}
-use Rattle.market_locality.proofs.Named.{history-named}
-use Rattle.market_locality.proofs.States.{Agree, agree-more, left-agree, next_name-agree}
-use Rattle.history_bounds.proofs.OpenNames.{IsEntry, block-entry}
+use Rattle.market_laws.proofs.LocalMoments.{block_moment-more}
+use Rattle.market_laws.proofs.NamedByHour.{history-named}
+use Rattle.market_laws.proofs.LocalStates.{Agree, agree-more, left-agree, next_name-agree}
+use Rattle.market_laws.proofs.OpenNames.{IsEntry, block-entry}
 use Rattle.joint_laws.proofs.SweptHours.{own-agrees}
 
 -- two tests, one after the other, of which the first passes all and the second is a third

@@ -11,7 +11,7 @@ use Rattle.market_model.specs.declared.setup.Setup.{Setup}
 use Rattle.market_model.specs.Board.{IsHourOf}
 use Rattle.market_model.specs.Grid.{graph_of}
 use Rattle.market_model.specs.History.{events_of, journal_events, of_hour}
-use Rattle.market_model.specs.Market.{answer, refused_or, reply_by, reply_to, turn_of}
+use Rattle.market_model.specs.Market.{reply_let_in, refused_or, reply_by, reply_to, turn_of}
 use Rattle.market_model.specs.Refusals.{refusal_of_command}
 use Rattle.market_model.specs.Rules.{early_refusal, first_broken, hours_concerned, naming_refusal, numbers_refusal, touched_hours}
 use Rattle.market_model.specs.Sweep.{all_parts, or_else}
@@ -55,7 +55,7 @@ split setup history caller given early =
 pub refused : (setup : Setup) (history : List Event) (caller : ℕ) (given : Command) (broken : Refusal) → refusal_of_command setup history caller given ≡ Some broken
     → reply_to setup history caller given ≡ reply.Refused broken
 unfolding reply_by
-refused setup history caller given broken is = ap (λ o. refused_or o (λ _. answer all_parts setup history caller given)) is
+refused setup history caller given broken is = ap (λ o. refused_or o (λ _. reply_let_in all_parts setup history caller given)) is
 
 module _ (setup : Setup) (history : List Event) (desks : List DeskState) (caller : ℕ) (given : Command) (is : IsHistoryOf setup desks history) where
   -- the hour of a desk goes on with each first part of what it shares, where it has that of the reply, and then more

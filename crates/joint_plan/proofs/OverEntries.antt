@@ -11,9 +11,9 @@ use Rattle.zone_graph.specs.Rooms.{room_of}
 use Rattle.zone_graph.specs.Route.{IsIn}
 use Rattle.route_carrying.specs.Carrying.{FitTogether}
 use Rattle.block_book.specs.declared.block.RestingBlock.{RestingBlock}
-use Rattle.block_lines.specs.BlocksOf.{blocks_of, entered_resting_block}
-use Rattle.block_lines.proofs.MarketBooks.{from-book}
-use Rattle.block_lines.proofs.Whole.{hour-book}
+use Rattle.book_lines.specs.BlocksOf.{blocks_of, entered_resting_block}
+use Rattle.book_lines.proofs.MarketBooks.{from-book}
+use Rattle.book_lines.proofs.WholeBlockBooks.{hour-book}
 use Rattle.block_match.specs.declared.deal.BlockDeal.{BlockDeal}
 use Rattle.block_match.specs.Deals.{deal_of_block, deal_with, partner_of}
 use Rattle.block_match.specs.Market.{deal_events}

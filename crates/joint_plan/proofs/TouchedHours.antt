@@ -13,8 +13,8 @@ use Rattle.market_model.specs.declared.refusal.Refusal.{Refusal}
 use Rattle.market_model.specs.declared.setup.Setup.{Setup}
 use Rattle.market_model.specs.Rules.{ascends, basket_is_good, early_refusal, hours_concerned, hours_named, touched_hours}
 use Rattle.market_laws.proofs.Admitted.{NamesWhatIs, naming-none}
-use Rattle.history_bounds.proofs.Desk.{ascends-later, ascends-rest}
-use Rattle.market_locality.proofs.Restrict.{filter-same}
+use Rattle.market_laws.proofs.HoursAlone.{ascends-later, ascends-rest}
+use Rattle.market_laws.proofs.Restrict.{filter-same}
 use Rattle.joint_laws.proofs.SweptHours.{hours-ascend}
 use Rattle.hour_desk.proofs.Admitting.{early-none}
 

@@ -25,8 +25,8 @@ use Rattle.market_laws.proofs.Journals.{journal_events-more, run-history}
 use Rattle.market_text.specs.Commands.{commands_of}
 use Rattle.market_text.specs.Session.{IsSession}
 use Rattle.market_text.specs.declared.session.Session.{Session}
-use Rattle.reply_bounds.proofs.Entered.{reply-enters-few}
-use Rattle.reply_bounds.proofs.Named.{reply-names}
+use Rattle.market_laws.proofs.ReplyEntries.{reply-enters-few}
+use Rattle.market_laws.proofs.ReplyNames.{reply-names}
 use Rattle.session_journal.proofs.Once.{as-many}
 use Rattle.trade_journal.specs.Journals.{all_rooms, room_of_caller}
 use Rattle.trade_journal.proofs.Rooms.{entries-fit}

@@ -16,7 +16,7 @@ use crate::lines::caller_named;
 use journal_print::print_entry;
 use market_model::{Command, Commands, Duplicate, Entries, Entry, Events, Setup};
 use market_text::Session;
-use plain_market::answer;
+use plain_market::reply_and_append;
 use std::alloc::Global;
 use trade_journal::Counts;
 use zone_graph::{Grid, NoMemory};
@@ -109,7 +109,7 @@ impl Course {
         ensures history { OnOk result (self.new.history ≡ self.old.history ++ events_of (reply_to setup.now self.old.history caller command.now)) }
         ensures entries { self.new.entries ≡ self.old.entries }
     {
-        let reply = answer(alloc, grid, setup, &mut self.history, caller, command)?;
+        let reply = reply_and_append(alloc, grid, setup, &mut self.history, caller, command)?;
         let nth = self.given.count(caller as usize) + 1;
         let command = command.copy()?;
         Ok(Entry {

@@ -115,7 +115,7 @@ abbrev pub view_rows : List ViewRow → List (List ℕ)
 view_rows rows = map (λ offer. row (quote (price_text offer.price) ∷ quote (quantity_text offer.lots) ∷ [])) rows
 
 -- the members of the line of an entry whose command was done, by their keys in the order of bytes:
--- the caller, the how manieth entry of this caller it is, the events, and its place in the journal
+-- the caller, which of the caller's entries it is, the events, and its place in the journal
 abbrev pub done_members : (caller : List ℕ) (nth place : ℕ) (events : List (List ℕ)) → List (List ℕ × List ℕ)
 done_members caller nth place events =
     (codes "caller", quote caller) ∷ (codes "command", decimal nth) ∷ (codes "done", row events) ∷ (codes "entry", decimal place)

@@ -18,7 +18,7 @@ pub record Sends (bytes : List ℕ) (old new : Log) : Type 0 where
 abbrev pub SendsMember : (member : List ℕ × List ℕ) → Log → Log → Type 0
 SendsMember member old new = (named : Log) × Logs old named (field_key member.0 AsIs) × Sends member.1 named new
 
--- an object of four members is begun, and its first two are sent: the caller, and the how manieth entry of this caller it is
+-- an object of four members is begun, and its first two are sent: the caller, and which of the caller's entries it is
 abbrev pub BeginsLine : (caller : List ℕ) (nth : ℕ) → Log → Log → Type 0
 BeginsLine caller nth old new =
     (first named : Log) × Logs old first (map_begins (Some 4)) × SendsMember (codes "caller", quote caller) first named

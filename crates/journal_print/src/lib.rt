@@ -1,6 +1,6 @@
 //! The text of the journal: an entry becomes its line of compact JSON.
 //!
-//! A line is an object with the caller's name, the how manieth entry of this caller it is, the
+//! A line is an object with the caller's name, which of the caller's entries it is, the
 //! entry's place in the journal, and the reply. These two numbers are numbers; everything else is
 //! a text, or an array of texts.
 #![tactic(auto)]

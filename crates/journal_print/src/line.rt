@@ -147,7 +147,7 @@ fn write_refused<S: Serializer>(
     out.end_map()
 }
 
-// The first half of a line's object: the caller, and the how manieth entry of this caller it is.
+// The first half of a line's object: the caller, and which of the caller's entries it is.
 fn begin_line<S: Serializer>(caller: &str, nth: u32, out: &mut S) -> Result<(), S::Error>
     requires { IsPlain caller.now }
     ensures { OnOk result (BeginsLine caller.now nth (S.written out.old) (S.written out.new)) }

@@ -13,7 +13,7 @@ use serde::Serializer;
 use std::str;
 use zone_graph::{Arc, Word};
 
-// A name as text: it has letters, digits, low lines and hyphens of ASCII alone.
+// A name as text: it has letters, digits, underscores and hyphens of ASCII alone.
 fn as_text(name: &Word) -> &str
     requires { IsName name.now }
     ensures text { result.now ≡ name.now }

@@ -4,7 +4,7 @@ use Rattle.zone_graph.specs.Graph.{Graph, IsGraph}
 use Rattle.market_model.specs.declared.event.Event.{Event}
 use Rattle.market_model.specs.Board.{IsBoard}
 use Rattle.book_lines.proofs.FoundOrders as books
-use Rattle.block_lines.proofs.Whole as blocks
+use Rattle.book_lines.proofs.WholeBlockBooks as blocks
 use Rattle.flow_lines.specs.Standing.{IsIdle}
 use Rattle.flow_lines.proofs.Ranges.{idle}
 use Rattle.hour_changes.proofs.NextEvents.{empty}

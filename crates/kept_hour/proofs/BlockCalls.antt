@@ -10,7 +10,7 @@ use Rattle.market_model.specs.declared.event.Event.TheVariants as event
 use Rattle.market_model.specs.History.{and_then}
 use Rattle.market_model.specs.Orders.{next_name, open_names}
 use Rattle.market_model.specs.Refusals.{desk_room}
-use Rattle.block_lines.specs.BlocksOf.{blocks_of, entered_resting_block}
+use Rattle.book_lines.specs.BlocksOf.{blocks_of, entered_resting_block}
 use Rattle.flow_lines.specs.Standing.{Stands}
 use Rattle.hour_changes.specs.BlockEvents.{RestsAsBlock}
 use Rattle.hour_changes.proofs.BlockEntries.{enters}

@@ -23,8 +23,8 @@ use Rattle.market_model.specs.Room.{room}
 use Rattle.market_laws.proofs.Placed.{all_are_sound}
 use Rattle.market_laws.proofs.Rooms.{kept_part-is}
 use Rattle.market_laws.proofs.Trades.{from_line}
-use Rattle.market_locality.proofs.Lines.{line-agree}
-use Rattle.market_locality.proofs.Restrict.{filter-filter, map-same}
+use Rattle.market_laws.proofs.LocalLines.{line-agree}
+use Rattle.market_laws.proofs.Restrict.{filter-filter, map-same}
 use Rattle.book_lines.specs.BookOf.{book_of, resting_of}
 use Rattle.book_lines.proofs.PartLines.{line_of-book}
 use Rattle.flow_lines.specs.Standing.{Stands}

@@ -9,8 +9,8 @@ use Rattle.contract_book.specs.Book.{order_count}
 use Rattle.block_book.specs.declared.block.RestingBlock.{RestingBlock}
 use Rattle.block_book.specs.Blocks.{number_cmp}
 use Rattle.block_book.specs.Book.{has_number, with_block, without}
-use Rattle.block_lines.specs.BlocksOf.{blocks_of, entered_resting_block}
-use Rattle.block_lines.specs.LegLaws.{without_both}
+use Rattle.book_lines.specs.BlocksOf.{blocks_of, entered_resting_block}
+use Rattle.book_lines.specs.LegLaws.{without_both}
 use Rattle.block_match.specs.declared.deal.BlockDeal.{BlockDeal}
 use Rattle.block_match.specs.Market.{deal_events}
 use Rattle.book_lines.specs.BookOf.{book_of}

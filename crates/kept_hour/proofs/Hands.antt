@@ -7,7 +7,7 @@ use Rattle.market_model.specs.declared.event.Event.{Event}
 use Rattle.market_model.specs.declared.event.Event.TheVariants as event
 use Rattle.market_model.specs.Orders.{is_open, open_names}
 use Rattle.market_model.specs.Refusals.{desk_room}
-use Rattle.market_locality.proofs.Answers.{open_names-agree}
+use Rattle.market_laws.proofs.LocalAnswers.{open_names-agree}
 use Rattle.book_lines.specs.BookOf.{book_of}
 use Rattle.book_lines.proofs.PartLines.{parts_of-book}
 use Rattle.book_lines.proofs.WholeBooks.{book-is_book}

@@ -8,7 +8,7 @@ use Rattle.market_model.specs.declared.event.Event.{Event}
 use Rattle.market_model.specs.Board.{BoardState, IsBoard}
 use Rattle.market_model.specs.History.{and_then}
 use Rattle.market_model.specs.Refusals.{desk_room}
-use Rattle.block_lines.specs.BlockLaws.{IsOfOrder}
+use Rattle.book_lines.specs.BlockLaws.{IsOfOrder}
 use Rattle.flow_lines.specs.Standing.{Stands}
 use Rattle.hour_changes.specs.OrderEvents.{resting_count}
 use Rattle.hour_store.specs.Contents.{AreAlike, AreSame, Contents}

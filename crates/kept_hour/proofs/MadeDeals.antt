@@ -6,8 +6,8 @@ use Rattle.order_kinds.specs.declared.order.OrderName.{OrderName}
 use Rattle.zone_graph.specs.declared.route.RouteLeg.{RouteLeg}
 use Rattle.zone_graph.specs.Graph.{Graph}
 use Rattle.block_book.specs.Book as block_books
-use Rattle.block_lines.specs.BlocksOf.{blocks_of}
-use Rattle.block_lines.specs.LegLaws.{without_both}
+use Rattle.book_lines.specs.BlocksOf.{blocks_of}
+use Rattle.book_lines.specs.LegLaws.{without_both}
 use Rattle.block_match.specs.declared.deal.BlockDeal.{BlockDeal}
 use Rattle.block_match.specs.Market.{deal_events, leg_event}
 use Rattle.book_lines.specs.BookOf.{book_of}

@@ -14,7 +14,7 @@ use Rattle.market_model.specs.History.{and_then}
 use Rattle.market_model.specs.Orders.{next_name, placed, placed_by}
 use Rattle.board_laws.proofs.Legs.{leaves}
 use Rattle.book_lines.specs.BookOf.{book_of}
-use Rattle.block_lines.specs.BlockLaws.{IsOfOrder}
+use Rattle.book_lines.specs.BlockLaws.{IsOfOrder}
 use Rattle.hour_changes.specs.OrderEvents.{CanFill, IsMade, filled_beside, without_hand}
 use Rattle.hour_changes.proofs.Legs.{made}
 use Rattle.hour_store.specs.Store.{StillLeadsBack, Store}

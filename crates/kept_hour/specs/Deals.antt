@@ -5,7 +5,7 @@ use Rattle.order_kinds.specs.declared.contract.Part.TheVariants as part
 use Rattle.order_kinds.specs.declared.order.BlockOrder.{BlockOrder}
 use Rattle.zone_graph.specs.declared.route.RouteLeg.{RouteLeg}
 use Rattle.zone_graph.specs.Pour.{uses}
-use Rattle.block_lines.specs.LegLaws.{without_both}
+use Rattle.book_lines.specs.LegLaws.{without_both}
 use Rattle.block_match.specs.declared.deal.BlockDeal.{BlockDeal}
 use Rattle.block_match.specs.Market.{deal_events}
 use Rattle.flow_netting.specs.declared.quarter_set.QuarterSet.{QuarterSet}

@@ -2,8 +2,8 @@
 use Rattle.std.specs.Prelude.{◌≡◌, ℕ, ◌≤◌, List, Option, Some, count_by, length, take}
 use Rattle.zone_graph.specs.Graph.{Graph}
 use Rattle.book_lines.specs.BookOf.{book_of}
-use Rattle.block_lines.specs.BlockLaws.{IsOfOrder}
-use Rattle.block_lines.specs.BlocksOf.{blocks_of}
+use Rattle.book_lines.specs.BlockLaws.{IsOfOrder}
+use Rattle.book_lines.specs.BlocksOf.{blocks_of}
 use Rattle.flow_lines.specs.Standing.{Stands}
 use Rattle.market_model.specs.declared.event.Event.{Event}
 use Rattle.market_model.specs.Board.{BoardState, IsBoard}

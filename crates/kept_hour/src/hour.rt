@@ -2,7 +2,7 @@
 
 ghost use Rattle.std.specs.Prelude.{◌≡◌, ◌+◌, ◌-◌, ◌^◌, ◌<◌, ◌≤◌, ℕ, [], None, Some, length, take, false, IsSome, IfOk, OnOk, OnErr};
 ghost use Rattle.book_lines.specs.BookOf.{book_of};
-ghost use Rattle.block_lines.specs.BlocksOf.{blocks_of};
+ghost use Rattle.book_lines.specs.BlocksOf.{blocks_of};
 ghost use Rattle.flow_lines.specs.Standing.{Stands};
 ghost use Rattle.market_model.specs.Board.{IsBoard, resting_names};
 ghost use Rattle.market_model.specs.Orders.{is_open, next_name, open_names};

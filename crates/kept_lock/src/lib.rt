@@ -15,6 +15,3 @@ mod rule;
 pub use lock::{Duty, KeptLock};
 pub use memory::NoMemory;
 pub use rule::{Kept, each_step_keeps_the_rule};
-
-#[cfg(test)]
-mod tests;

@@ -24,7 +24,7 @@ use Rattle.market_model.specs.Sweep.{first_answer, leg_in, leg_of_buy, or_else, 
 use Rattle.market_laws.proofs.Ascending.{Ascends, itself}
 use Rattle.market_laws.proofs.Lines.{line-ascends, no_partner, priority_weak}
 use Rattle.market_laws.proofs.Trades.{from_line}
-use Rattle.market_locality.proofs.Lines.{first_answer-same}
+use Rattle.market_laws.proofs.LocalLines.{first_answer-same}
 use Rattle.line_fronts.specs.Fronts.{FirstBuysDecide, PartnersStandInFront, UncrossedContractsHaveNoLeg, firsts_cross, front_partner, fronts}
 use Rattle.line_fronts.proofs.Deciding.{WorseBehind, found-in_fronts, fronts-decide, if_passes}
 

@@ -19,10 +19,10 @@ use Rattle.market_model.specs.Room.{room}
 use Rattle.market_model.specs.View.{view}
 use Rattle.market_laws.proofs.Placed.{all_are_sound}
 use Rattle.market_laws.proofs.Trades.{from_line}
-use Rattle.market_locality.proofs.Answers.{view-agree}
-use Rattle.market_locality.proofs.Lines.{contract-hours, line-agree}
-use Rattle.market_locality.proofs.States.{Agree, room-agree}
-use Rattle.hour_lists.proofs.OfHours.{one-agrees}
+use Rattle.market_laws.proofs.LocalAnswers.{view-agree}
+use Rattle.market_laws.proofs.LocalLines.{contract-hours, line-agree}
+use Rattle.market_laws.proofs.LocalStates.{Agree, room-agree}
+use Rattle.market_laws.proofs.OfHours.{one-agrees}
 use Rattle.plain_capacity.specs.Hour.{IsLegalOver}
 use Rattle.plain_view.specs.Depth.{AreInZones, maker_of}
 use Rattle.plain_view.specs.Filled.{rows_with}

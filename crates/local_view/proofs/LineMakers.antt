@@ -25,7 +25,7 @@ use Rattle.market_laws.proofs.Names.{names-once}
 use Rattle.market_laws.proofs.Tests.{same_name-refl}
 use Rattle.market_laws.proofs.Trades.{IsInLine, from_line}
 use Rattle.market_laws.proofs.Unique.{entered-order}
-use Rattle.history_bounds.proofs.Prices.{prices-in-range}
+use Rattle.market_laws.proofs.Prices.{prices-in-range}
 use Rattle.plain_view.specs.declared.maker.Maker.{Maker}
 use Rattle.plain_view.specs.Depth.{crosses_any, maker_of}
 use Rattle.local_view.proofs.Makers.{AllCross, AreOnce}

@@ -19,11 +19,11 @@ use Rattle.market_model.specs.Lines.{line}
 use Rattle.market_model.specs.Orders.{Standing}
 use Rattle.market_model.specs.View.{hidden_withdrawn, unlimited_taker, view, without_hidden}
 use Rattle.market_model.specs.WellFormed.{IsHistory, IsMarketSetup}
-use Rattle.market_locality.proofs.Answers.{unfilled_zones-agree}
-use Rattle.market_locality.proofs.Named.{AreNamedByHour, IsNamedByHour}
-use Rattle.market_locality.proofs.States.{Agree, agree-append}
-use Rattle.view_maximum.specs.Views.{bound_shown, zones_viewed}
-use Rattle.view_maximum.proofs.Viewed.{add_up}
+use Rattle.market_laws.proofs.LocalAnswers.{unfilled_zones-agree}
+use Rattle.market_laws.proofs.NamedByHour.{AreNamedByHour, IsNamedByHour}
+use Rattle.market_laws.proofs.LocalStates.{Agree, agree-append}
+use Rattle.view_near.specs.Views.{bound_shown, zones_viewed}
+use Rattle.view_near.proofs.Viewed.{add_up}
 use Rattle.local_view.specs.Kept.{AreAllNext, AreNext, Views, line_of}
 use Rattle.local_view.specs.Rows.{LineRows}
 use Rattle.local_view.specs.Sums.{AddUp, AllNextAddUp, NextAddUp}

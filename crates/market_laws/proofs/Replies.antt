@@ -31,7 +31,7 @@ use Rattle.market_model.specs.Grid.{graph_of}
 use Rattle.zone_graph.specs.Grid.{arc_between}
 use Rattle.zone_graph.proofs.Finding.{from_find}
 use Rattle.market_model.specs.History.{events_of}
-use Rattle.market_model.specs.Market.{answer, events_done, on_arc, refused_or, reply_by}
+use Rattle.market_model.specs.Market.{reply_let_in, events_done, on_arc, refused_or, reply_by}
 use Rattle.market_model.specs.Orders.{Placed, PlacedBlock, is_open, left, open_block, open_order}
 use Rattle.market_model.specs.Refusals.{below_flow, has_own, if_limit, if_own, if_own_block, is_below_left, no_room, own_limit, refusal_of_command}
 use Rattle.market_model.specs.Room.{phase_of}
@@ -279,7 +279,7 @@ module _ (setup : Setup) (is_setup : IsMarketSetup setup) (parts : List Part) (e
   done-history (command.View contract side zone) may = subst (IsHistory setup) (sym (append-nil events)) history
 
   -- so do those of its answer
-  answer-history : (given : Command) → IsAdmitted setup events caller given → IsHistory setup (events ++ events_of (answer parts setup events caller given))
+  answer-history : (given : Command) → IsAdmitted setup events caller given → IsHistory setup (events ++ events_of (reply_let_in parts setup events caller given))
   answer-history (command.View contract side zone) may = subst (IsHistory setup) (sym (append-nil events)) history
   answer-history (command.Enter order) may = done-history (command.Enter order) may
   answer-history (command.EnterBlock order) may = done-history (command.EnterBlock order) may
@@ -299,6 +299,6 @@ module _ (setup : Setup) (is_setup : IsMarketSetup setup) (parts : List Part) (e
   reply-history given = go (refusal_of_command setup events caller given) refl
     where
       go : (o : Option Refusal) → refusal_of_command setup events caller given ≡ o
-          → IsHistory setup (events ++ events_of (refused_or o (λ _. answer parts setup events caller given)))
+          → IsHistory setup (events ++ events_of (refused_or o (λ _. reply_let_in parts setup events caller given)))
       go (Some broken) is = subst (IsHistory setup) (sym (append-nil events)) history
       go None is = answer-history given (refusal-none setup events caller given is)

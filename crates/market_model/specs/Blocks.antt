@@ -1,5 +1,5 @@
 -- How blocks trade: wholly or not at all, with one other block of the same period and quantity. That
--- blocks are matched whole is the public description's; the choice of the partner is this profile's.
+-- blocks are matched whole is the public description's; the choice of the partner is this market's own.
 use Rattle.std.specs.Prelude.{ℕ, Bool, false, ◌==◌, ◌&&◌, List, [], ◌∷◌, ◌++◌, map, filter, flat_map, length, Option, Some, None, if◌then◌else◌}
 use Rattle.std.specs.List.{find}
 use Rattle.std.specs.Option.{option_map}

@@ -1,5 +1,5 @@
 -- What happens as an order enters. The kinds of execution are in the public description; the names
--- of orders are this profile's.
+-- of orders are this market's own.
 use Rattle.std.specs.Prelude.{ℕ, suc, List, [], ◌∷◌, ◌++◌}
 use Rattle.order_kinds.specs.declared.order.Kind.{Kind}
 use Rattle.order_kinds.specs.declared.order.Kind.TheVariants as kind

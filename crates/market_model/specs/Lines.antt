@@ -1,5 +1,5 @@
 -- The lines of the order book, and who trades with whom. Price then time is the public
--- description's; ties are settled by this profile.
+-- description's; ties are settled by this market.
 use Rattle.std.specs.Prelude.{ℕ, Bool, ◌&&◌, List, map, filter, Option}
 use Rattle.std.specs.List.{find}
 use Rattle.std.specs.Ordering.{nat_cmp, ordering_then}

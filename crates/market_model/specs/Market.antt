@@ -69,10 +69,10 @@ events_done parts setup events caller (command.Gate hour asked) = gate parts (gr
 events_done parts setup events caller (command.View contract side zone) = []
 
 -- the answer to a command that no rule refuses: the rows of a view, else the events
-abbrev pub answer : List Part → Setup → List Event → (caller : ℕ) → Command → Reply
-answer parts setup events caller (command.View contract side zone) =
+abbrev pub reply_let_in : List Part → Setup → List Event → (caller : ℕ) → Command → Reply
+reply_let_in parts setup events caller (command.View contract side zone) =
     reply.Seen (view (graph_of setup) events contract side zone)
-answer parts setup events caller given = reply.Done (events_done parts setup events caller given)
+reply_let_in parts setup events caller given = reply.Done (events_done parts setup events caller given)
 
 -- the refusal, where there is one, else an answer; only what is asked for is computed, so the answer
 -- is a function
@@ -83,7 +83,7 @@ refused_or None answered = answered tt
 -- the reply to a caller's command after some events, in a market whose sweeps try these parts
 unfoldable pub reply_by : List Part → Setup → List Event → (caller : ℕ) → Command → Reply
 reply_by parts setup events caller given =
-    refused_or (refusal_of_command setup events caller given) (λ _. answer parts setup events caller given)
+    refused_or (refusal_of_command setup events caller given) (λ _. reply_let_in parts setup events caller given)
 
 -- the reply of the market
 abbrev pub reply_to : Setup → List Event → (caller : ℕ) → Command → Reply

@@ -1,6 +1,6 @@
 -- The state of orders and blocks, from the events that name them. Icebergs, and trades by price and
 -- then time, are in the public description of continuous matching; the exact moments are this
--- profile's. Lots are tenths of a MW.
+-- market's own. Lots are tenths of a MW.
 use Rattle.std.specs.Prelude.{ℕ, ◌+◌, ◌-◌, ◌%◌, Bool, false, ◌==◌, ◌&&◌, ◌||◌, List, [], ◌∷◌, filter, count_by, sum_by, length, nat_lt, Option, Some, None, if◌then◌else◌}
 use Rattle.std.specs.List.{filter_map, find}
 use Rattle.order_kinds.specs.declared.order.BlockOrder.{BlockOrder}

@@ -1,5 +1,5 @@
 -- Why a command is refused: the first rule that it breaks, in one fixed order. The rules are this
--- profile's.
+-- market's own.
 use Rattle.std.specs.Prelude.{ℕ, zero, suc, ◌==◌, ◌&&◌, not, Bool, true, false, List, [], ◌∷◌, filter, length, nat_le, nat_lt, pos, int_lt, Option, Some, None, is_none, if◌then◌else◌}
 use Rattle.std.specs.List.{find}
 use Rattle.std.specs.Option.{option_map, option_and_then}

@@ -1,5 +1,5 @@
 -- The room of an arc: what a trade or a request can still use of it. The phases and their meaning
--- are this profile's.
+-- are this market's own.
 use Rattle.std.specs.Prelude.{ℕ, Bool, true, false, ◌==◌, ◌&&◌, not, List, [], ◌∷◌, map, fold, min, ℤ, pos, negsuc, Option, Some, None, if◌then◌else◌}
 use Rattle.order_kinds.specs.declared.contract.Quarter.{Quarter}
 use Rattle.order_kinds.specs.declared.phase.Phase.{Phase}

@@ -1,5 +1,5 @@
 -- What a command names, and the rules that it can break by itself, whatever happened before. The
--- rules, their order and their limits are this profile's.
+-- rules, their order and their limits are this market's own.
 use Rattle.std.specs.Prelude.{ℕ, ◌+◌, ◌-◌, Bool, true, false, ◌&&◌, List, [], ◌∷◌, map, length, nat_le, nat_lt, Option, Some, None, is_some, is_none, slice_get, if◌then◌else◌}
 use Rattle.std.specs.List.{list_all}
 use Rattle.std.specs.Option.{option_map, option_map_or}

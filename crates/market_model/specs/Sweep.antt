@@ -1,5 +1,5 @@
 -- The sweep of an hour: resting orders that can trade do, until none can. The order of parts is this
--- profile's.
+-- market's own.
 use Rattle.std.specs.Prelude.{ℕ, ◌==◌, List, [], ◌∷◌, ◌++◌, filter, sum_by, Option, Some, None, if◌then◌else◌}
 use Rattle.std.specs.Ordering.{is_lt}
 use Rattle.order_kinds.specs.declared.contract.Contract.{Contract}

@@ -1,5 +1,5 @@
 -- How an order that comes in takes from the book, leg by leg, each at the resting order's price. That
--- trades are at the resting price is the public description's; the legs are this profile's.
+-- trades are at the resting price is the public description's; the legs are this market's own.
 use Rattle.std.specs.Prelude.{ℕ, List, min, Option}
 use Rattle.std.specs.Option.{option_and_then, option_map}
 use Rattle.order_kinds.specs.declared.order.OrderName.{OrderName}

@@ -1,6 +1,6 @@
 -- The view of a contract, a side and a zone: what a taker of any quantity at any price in that zone
 -- would take of the resting orders of that side, of what they show. Local views are in the public
--- description; their rows are this profile's.
+-- description; their rows are this market's own.
 use Rattle.std.specs.Prelude.{ℕ, ◌-◌, List, [], ◌∷◌, ◌++◌, map, filter, fold, sum_by, pos, neg_ℤ, nat_lt, Option, Some, None, if◌then◌else◌}
 use Rattle.std.specs.List.{filter_map, list_any}
 use Rattle.order_kinds.specs.declared.contract.Contract.{Contract}

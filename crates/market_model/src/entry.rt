@@ -9,7 +9,7 @@ use zone_graph::Sequence;
 pub struct Entry {
     /// Who gave the command.
     pub caller: u32,
-    /// The how manieth entry of this caller it is, counted from 1.
+    /// Which of the caller's entries it is, counted from 1.
     pub nth: u32,
     /// What was asked.
     pub command: Command,

@@ -82,7 +82,7 @@ parts_around byte bytes = do
   place ← position (λ other. other == byte) bytes
   Some (take place bytes, drop (place + 1) bytes)
 
--- bytes are a name: 1 to 16 letters, digits, low lines and hyphens
+-- bytes are a name: 1 to 16 letters, digits, underscores and hyphens
 unfoldable pub is_name : List ℕ → Bool
 is_name bytes = list_all is_name_byte bytes && nat_le 1 (length bytes) && nat_le (length bytes) 16
 

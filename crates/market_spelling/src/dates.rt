@@ -1,4 +1,5 @@
-// Dates and instants.
+//! Dates and instants.
+
 ghost use Rattle.std.specs.Prelude.{◌≡◌, ◌<◌, ◌≤◌, pos, None, Some, IfSome, IsSomeAnd, MatchOption};
 ghost use Rattle.jiff_core.specs.Calendar.{IsBetween};
 ghost use Rattle.market_spelling.specs.Dates as dates;

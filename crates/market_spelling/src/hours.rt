@@ -1,4 +1,5 @@
-// Hours, contracts, quarters and the names of orders.
+//! Hours, contracts, quarters and the names of orders.
+
 ghost use Rattle.std.specs.Prelude.{◌≡◌, ◌<◌, IfSome};
 ghost use Rattle.market_spelling.specs.Hours as hours;
 

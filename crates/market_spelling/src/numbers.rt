@@ -1,4 +1,5 @@
-// Numbers, quantities, amounts of cents and prices.
+//! Numbers, quantities, amounts of cents and prices.
+
 ghost use Rattle.std.specs.Prelude.{◌≡◌, ◌<◌, ◌≤◌, ◌^◌, length, IsTrue, IfSome};
 ghost use Rattle.std.specs.List.{list_all};
 ghost use Rattle.std.specs.Char.{is_ascii_digit};

@@ -1,4 +1,5 @@
-// Words that stand for themselves, and pairs of names.
+//! Words that stand for themselves, and pairs of names.
+
 ghost use Rattle.std.specs.Prelude.{◌≡◌, ◌==◌, None, Some, MatchOption, position};
 ghost use Rattle.market_spelling.specs.Words as words;
 
@@ -207,7 +208,7 @@ fn are_names(one: &[u8], other: &[u8]) -> bool
     spells_name(one) && spells_name(other)
 }
 
-/// Whether bytes are a name: 1 to 16 letters, digits, low lines and hyphens of ASCII.
+/// Whether bytes are a name: 1 to 16 letters, digits, underscores and hyphens of ASCII.
 pub fn spells_name(bytes: &[u8]) -> bool
     ensures { result ≡ words.is_name bytes.now }
 {

@@ -19,9 +19,9 @@ use Rattle.market_model.specs.Taking.{next_leg}
 use Rattle.market_laws.proofs.Balances.{left-leg, names-taker}
 use Rattle.market_laws.proofs.Placed.{picked-same}
 use Rattle.market_laws.proofs.States.{filled-more}
-use Rattle.market_locality.proofs.Lines.{contract-hours, next_leg-agree, next_leg-named}
-use Rattle.market_locality.proofs.Moments.{moment-more}
-use Rattle.market_locality.proofs.States.{Agree, agree-more, room-agree}
+use Rattle.market_laws.proofs.LocalLines.{contract-hours, next_leg-agree, next_leg-named}
+use Rattle.market_laws.proofs.LocalMoments.{moment-more}
+use Rattle.market_laws.proofs.LocalStates.{Agree, agree-more, room-agree}
 use Rattle.certified_maximum.proofs.Takers.{IsTakersLeg, rooms-after, takers-leg}
 use Rattle.board_laws.proofs.Legs.{leaves, next_legs}
 use Rattle.board_laws.proofs.Shared.{board-agrees}

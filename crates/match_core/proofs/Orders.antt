@@ -24,10 +24,10 @@ use Rattle.market_laws.proofs.Placed.{OrderIsSound, all_are_sound}
 use Rattle.market_laws.proofs.Tests.{same_name-eq, same_name-refl}
 use Rattle.market_laws.proofs.Trades.{from_line}
 use Rattle.market_laws.proofs.Unique.{one_order}
-use Rattle.market_locality.proofs.Lines.{placed-named, standing-agree}
-use Rattle.market_locality.proofs.Moments.{hour-more, moment-more}
-use Rattle.market_locality.proofs.Restrict.{filter-filter}
-use Rattle.market_locality.proofs.States.{Agree, is_open-agree}
+use Rattle.market_laws.proofs.LocalLines.{placed-named, standing-agree}
+use Rattle.market_laws.proofs.LocalMoments.{hour-more, moment-more}
+use Rattle.market_laws.proofs.Restrict.{filter-filter}
+use Rattle.market_laws.proofs.LocalStates.{Agree, is_open-agree}
 use Rattle.certified_maximum.proofs.CrossingPeaks.{HasPeaks}
 use Rattle.certified_maximum.proofs.Obtained.{fit-can_take}
 use Rattle.certified_maximum.proofs.Takers.{CanTake}

@@ -15,7 +15,7 @@ use Rattle.market_model.specs.Orders.{Placed, left, placed, placed_by}
 use Rattle.market_model.specs.Taking.{IsTaking, next_leg, take}
 use Rattle.market_laws.proofs.Placed.{picked-stays}
 use Rattle.market_laws.proofs.Repeats.{run-kept}
-use Rattle.market_locality.proofs.Lines.{placed-named}
+use Rattle.market_laws.proofs.LocalLines.{placed-named}
 use Rattle.board_laws.specs.Takers.{EndsWithEntry, ObtainsTheMost}
 use Rattle.board_laws.proofs.Entries.{obtains}
 use Rattle.board_laws.proofs.Legs.{next_legs}

@@ -17,7 +17,7 @@ use Rattle.market_model.specs.declared.setup.Setup.{Setup}
 use Rattle.market_model.specs.Capacity.{allocated_by, remaining}
 use Rattle.market_model.specs.Grid.{graph_of}
 use Rattle.market_model.specs.History.{events_of, journal_events}
-use Rattle.market_model.specs.Market.{Turn, answer, entry_of, in_turn, refused_or, reply_by, reply_to, run_after, run_of}
+use Rattle.market_model.specs.Market.{Turn, reply_let_in, entry_of, in_turn, refused_or, reply_by, reply_to, run_after, run_of}
 use Rattle.market_model.specs.Refusals.{refusal_of_command}
 use Rattle.market_model.specs.Sweep.{all_parts}
 use Rattle.market_model.specs.View.{view}
@@ -26,9 +26,9 @@ use Rattle.market_laws.proofs.Journals.{journal_events-more, run-history}
 use Rattle.market_laws.proofs.Replies.{reply-history}
 use Rattle.market_laws.proofs.Told.{told-fits}
 use Rattle.market_laws.proofs.Uses.{remaining-within, uses-remaining, within_offers}
-use Rattle.uncrossed_book.specs.Book.{IsUncrossedBook}
-use Rattle.uncrossed_book.proofs.Commands.{reply-uncrossed}
-use Rattle.uncrossed_book.proofs.Whole.{book_of_hours, hour_of_book}
+use Rattle.market_laws.specs.UncrossedBook.{IsUncrossedBook}
+use Rattle.market_laws.proofs.Commands.{reply-uncrossed}
+use Rattle.market_laws.proofs.UncrossedReplies.{book_of_hours, hour_of_book}
 use Rattle.market_text.specs.declared.session.Session.{Session}
 use Rattle.market_text.specs.Session.{IsSession}
 use Rattle.market_text.specs.Text.{session_of_text}
@@ -49,7 +49,7 @@ viewed : (setup : Setup) (events : List Event) (caller : ℕ) (given : Command) 
 unfolding reply_by
 viewed setup events caller given rows is = by (refusal_of_command setup events caller given) is
   where
-    seen : (other : Command) → answer all_parts setup events caller other ≡ reply.Seen rows → IsViewed setup events other rows
+    seen : (other : Command) → reply_let_in all_parts setup events caller other ≡ reply.Seen rows → IsViewed setup events other rows
     seen (command.View contract side zone) e =
         record { contract = contract; side = side; zone = zone; asked = refl; are = let same : view (graph_of setup) events contract side zone ≡ rows = cc in sym same }
     seen (command.Enter order) e = cc
@@ -64,7 +64,7 @@ viewed setup events caller given rows is = by (refusal_of_command setup events c
     seen (command.Resume from to first last) e = cc
     seen (command.Gate hour asked) e = cc
 
-    by : (o : Option Refusal) → refused_or o (λ _. answer all_parts setup events caller given) ≡ reply.Seen rows → IsViewed setup events given rows
+    by : (o : Option Refusal) → refused_or o (λ _. reply_let_in all_parts setup events caller given) ≡ reply.Seen rows → IsViewed setup events given rows
     by (Some broken) e = cc
     by None e = seen given e
 

@@ -17,7 +17,7 @@ use Rattle.market_model.specs.Grid.{graph_of}
 use Rattle.market_model.specs.History.{events_of, journal_events}
 use Rattle.market_model.specs.Market.{reply_to}
 use Rattle.market_model.specs.View.{view}
-use Rattle.uncrossed_book.specs.Book.{IsUncrossedBook}
+use Rattle.market_laws.specs.UncrossedBook.{IsUncrossedBook}
 use Rattle.market_text.specs.declared.session.Session.{Session}
 use Rattle.market_text.specs.Commands.{commands_of}
 use Rattle.market_text.specs.Text.{session_of_text}

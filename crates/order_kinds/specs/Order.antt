@@ -83,6 +83,12 @@ order_fault order =
 abbrev pub block_fault : BlockOrder → Option OrderFault
 block_fault block = numbers_fault block.price block.quantity None
 
+-- what a fault says of an order or block
+abbrev pub fault_text : OrderFault → List ℕ
+fault_text PriceOutOfRange = codes "the price is out of range"
+fault_text QuantityOutOfRange = codes "the quantity is out of range"
+fault_text BadPeak = codes "the iceberg's peak is not below its total, or it has too many peaks, or its last peak's price is out of range"
+
 -- the answer of a check: the fault, if there is one
 abbrev pub ok_unless : Option OrderFault → Result (Unit {0}) OrderFault
 ok_unless None = Ok tt

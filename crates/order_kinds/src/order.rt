@@ -7,6 +7,7 @@ ghost use Rattle.order_kinds.specs.Price.{price_in_range};
 use crate::contract::Contract;
 use crate::price::{Lots, Price};
 use crate::side::Side;
+use std::error::Error;
 use std::fmt;
 
 /// How an order is executed.
@@ -177,6 +178,21 @@ pub enum OrderFault {
     /// last peak is out of range.
     BadPeak,
 }
+
+impl fmt::Display for OrderFault {
+    ghost output = { λ fault. Some (orders.fault_text fault) };
+
+    fn fmt<W: fmt::Write>(&self, f: &mut fmt::Formatter<W>) -> fmt::Result {
+        f.write_str(match self {
+            OrderFault::PriceOutOfRange => "the price is out of range",
+            OrderFault::QuantityOutOfRange => "the quantity is out of range",
+            OrderFault::BadPeak =>
+                "the iceberg's peak is not below its total, or it has too many peaks, or its last peak's price is out of range",
+        })
+    }
+}
+
+impl Error for OrderFault {}
 
 /// Checks an order's own numbers, whatever the state of the market, and takes no memory.
 ///

@@ -1,4 +1,5 @@
-// The pool: items in places, and the places in lines.
+//! The pool: items in places, and the places in lines.
+
 ghost use Rattle.std.specs.Prelude.{◌≡◌, ◌≢◌, ℕ, ◌+◌, ◌<◌, ◌≤◌, ◌↔◌, List, [], ◌∷◌, length, replicate, Some, None, IsErr, IsTrue, IfOk, OnErr, slice_set};
 ghost use Rattle.std.specs.Option.{ForSome};
 ghost use Rattle.std.specs.Borrow.{sem};

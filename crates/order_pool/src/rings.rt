@@ -1,4 +1,5 @@
-// Rings of places, linked through one region of fixed size.
+//! Rings of places, linked through one region of fixed size.
+
 ghost use Rattle.std.specs.Prelude.{◌≡◌, ◌≢◌, ℕ, ◌+◌, ◌<◌, ◌≤◌, ◌^◌, List, [], length, sum_by, slice_index, replicate, IfOk, Some, None, vec_len, nat_lt, if◌then◌else◌};
 ghost use Rattle.std.specs.Option.{ForSome};
 ghost use Rattle.order_pool.specs.Lines.{line_at, first_in, last_in, StandsIn, StandsBetween, IsRemoved, IsInserted, IsNext, IsPrevious, IsMoved};

@@ -1,4 +1,5 @@
-// The slots of a pool's items.
+//! The slots of a pool's items.
+
 ghost use Rattle.std.specs.Prelude.{◌≡◌, IfOk, IsSome, Some, None, vec_len};
 ghost use Rattle.std.specs.Borrow.{Lends, sem};
 ghost use Rattle.order_pool.specs.Slots.{item_in, AllFree};

@@ -1,4 +1,5 @@
-// A sink in memory that fails where it is told to.
+//! A sink in memory that fails where it is told to.
+
 ghost use Rattle.std.specs.Prelude.{◌≡◌, ◌<◌, ◌≤◌, length, Some, Contains, IsErr, IfOk, OnErr};
 ghost use Rattle.std.specs.Io.{WritesAtMost};
 ghost use Rattle.std.specs.Io.KnownBytes.{WriteAppends};

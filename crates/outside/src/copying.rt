@@ -1,4 +1,5 @@
-// Copies of bytes from one slice to the front of another.
+//! Copies of bytes from one slice to the front of another.
+
 ghost use Rattle.std.specs.Prelude.{◌≡◌, ◌+◌, ◌<◌, ◌≤◌, [], ◌++◌, length, take, drop, min};
 
 /// Copies the front of `from` to the front of `into`, as much as both have but at most `most`

@@ -1,4 +1,4 @@
-// The gate at which tests hold commands.
+//! The gate at which tests hold commands.
 
 /// What is told when a command has its answer, so that a test can hold it there. A gate has no
 /// fault and changes nothing in the market.

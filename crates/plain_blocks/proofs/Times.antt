@@ -23,7 +23,7 @@ use Rattle.market_laws.proofs.Placed.{from_picked-more}
 use Rattle.market_laws.proofs.Tests.{same_name-refl}
 use Rattle.market_laws.proofs.Unique.{enters-block_placed, times-some}
 use Rattle.market_laws.proofs.Wholes.{other_name}
-use Rattle.market_locality.proofs.Moments.{block_moment-more}
+use Rattle.market_laws.proofs.LocalMoments.{block_moment-more}
 
 -- a last place is among the places
 place-within : (test : List Event → Event → Bool) (before : List Event) (found most : ℕ) (xs : List Event) → found ≤ most → length before + length xs ≤ most

@@ -10,8 +10,8 @@ ghost use Rattle.market_model.specs.Room.{halt_by as halt_said, is_open_phase, p
 ghost use Rattle.plain_capacity.specs.Rows.{IsNoted, flow_at, row_at};
 ghost use Rattle.plain_capacity.specs.Hour as hours;
 
+use crate::phases::{is_within, phase_by};
 use crate::quarter::{idle_rows, note};
-use crate::said::{is_within, phase_by};
 use market_model::Event;
 use order_kinds::{Part, Phase, Quarter};
 use quarter_capacity::QuarterRow;

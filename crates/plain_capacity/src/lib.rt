@@ -6,10 +6,10 @@
 #![tactic(auto)]
 
 mod hour;
+mod phases;
 mod quarter;
 mod rooms;
-mod said;
 
 pub use hour::{HourCapacity, hour_capacity};
+pub use phases::{is_halted, phase_of};
 pub use rooms::{block_rooms, contract_rooms};
-pub use said::{is_halted, phase_of};

@@ -9,8 +9,8 @@ ghost use Rattle.plain_entering.specs.Judging as judged;
 ghost use Rattle.plain_orders.specs.Histories.{IsSomeHistory};
 
 use market_model::{Event, Kind, NoMemory, Order, OrderName, Refusal};
+use plain_certificate::{Certificate, certificate};
 use plain_orders::{has_desk_room, left};
-use plain_unfilled::{Certificate, certificate};
 use std::alloc::Global;
 use zone_graph::Grid;
 

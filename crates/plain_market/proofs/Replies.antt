@@ -13,7 +13,7 @@ use Rattle.market_model.specs.declared.reply.Reply.TheVariants as reply
 use Rattle.market_model.specs.declared.setup.Setup.{Setup}
 use Rattle.market_model.specs.Grid.{graph_of}
 use Rattle.market_model.specs.History.{events_of}
-use Rattle.market_model.specs.Market.{answer, events_done, refused_or, reply_by, reply_to}
+use Rattle.market_model.specs.Market.{reply_let_in, events_done, refused_or, reply_by, reply_to}
 use Rattle.market_model.specs.Refusals.{refusal_of_command}
 use Rattle.market_model.specs.Rules.{first_broken}
 use Rattle.market_model.specs.Sweep.{all_parts}
@@ -31,7 +31,7 @@ pub refused : (setup : Setup) (events after : List Event) (caller : ℕ) (given 
     → after ≡ events → Answers setup events caller given (reply.Refused broken) after
 unfolding reply_by
 refused setup events after caller given broken is same =
-    let made : reply.Refused broken ≡ reply_to setup events caller given = sym (ap (λ o. refused_or o (λ _. answer all_parts setup events caller given)) is) in
+    let made : reply.Refused broken ≡ reply_to setup events caller given = sym (ap (λ o. refused_or o (λ _. reply_let_in all_parts setup events caller given)) is) in
     record {
       reply = made;
       history = same ∙ sym (append-nil events) ∙ ap (λ r. events ++ events_of r) made;
@@ -39,9 +39,9 @@ refused setup events after caller given broken is same =
 
 -- a command that no rule refuses is answered
 let-through : (setup : Setup) (events : List Event) (caller : ℕ) (given : Command) → refusal_of_command setup events caller given ≡ None
-    → answer all_parts setup events caller given ≡ reply_to setup events caller given
+    → reply_let_in all_parts setup events caller given ≡ reply_to setup events caller given
 unfolding reply_by
-let-through setup events caller given is = sym (ap (λ o. refused_or o (λ _. answer all_parts setup events caller given)) is)
+let-through setup events caller given is = sym (ap (λ o. refused_or o (λ _. reply_let_in all_parts setup events caller given)) is)
 
 pub seen : (setup : Setup) (events after : List Event) (caller : ℕ) (given : Command) (contract : Contract) (side : Side) (zone : ℕ)
     → given ≡ command.View contract side zone → IsLetIn setup events caller given → after ≡ events
@@ -59,7 +59,7 @@ seen setup events after caller given contract side zone is let_in same =
 
 -- every other command is done
 done-is : (setup : Setup) (events : List Event) (caller : ℕ) (given : Command) → ((contract : Contract) (side : Side) (zone : ℕ) → ¬ (given ≡ command.View contract side zone))
-    → reply.Done (events_done all_parts setup events caller given) ≡ answer all_parts setup events caller given
+    → reply.Done (events_done all_parts setup events caller given) ≡ reply_let_in all_parts setup events caller given
 done-is setup events caller (command.Enter order) n = refl
 done-is setup events caller (command.EnterBlock order) n = refl
 done-is setup events caller (command.EnterBasket orders) n = refl

@@ -5,12 +5,10 @@
 //! Quantities are lots, tenths of a MW; prices are cents per MWh.
 #![tactic(auto)]
 
-mod answering;
 mod blocks;
 mod border_events;
 mod changes;
 mod gates;
-#[cfg(test)]
-mod tests;
+mod replying;
 
-pub use answering::{answer, reply};
+pub use replying::{reply, reply_and_append};

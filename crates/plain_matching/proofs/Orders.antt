@@ -22,7 +22,7 @@ use Rattle.market_model.specs.Taking.{standing_order}
 use Rattle.market_laws.proofs.Placed.{all_are_sound}
 use Rattle.market_laws.proofs.Tests.{same_name-eq}
 use Rattle.market_laws.proofs.Trades.{from_line}
-use Rattle.market_locality.proofs.Restrict.{find-filter}
+use Rattle.market_laws.proofs.Restrict.{find-filter}
 use Rattle.plain_capacity.specs.Hour.{IsLegalOver}
 use Rattle.plain_orders.specs.Listed.{is_order_of, line_of, orders_of}
 use Rattle.plain_orders.proofs.LineLaws.{line-of_orders}

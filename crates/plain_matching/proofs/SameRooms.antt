@@ -11,7 +11,7 @@ use Rattle.market_model.specs.declared.event.Event.{Event}
 use Rattle.market_model.specs.Lines.{buyer_zone, can_trade, seller_zone, time_cmp}
 use Rattle.market_model.specs.Orders.{Standing}
 use Rattle.market_model.specs.Taking.{leg_over}
-use Rattle.market_locality.proofs.Restrict.{find-same}
+use Rattle.market_laws.proofs.Restrict.{find-same}
 use Rattle.cut_proof.proofs.Ways.{way_has_arc}
 use Rattle.route_carrying.proofs.Carrying.{carried-rooms}
 use Rattle.plain_matching.specs.Over.{crosses_price, leg_of_buy_over, partner_in, resting_trade_over, trade_over}

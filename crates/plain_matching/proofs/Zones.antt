@@ -12,8 +12,8 @@ use Rattle.zone_graph.proofs.Places.{at_place}
 use Rattle.cut_proof.specs.Cut.{reaches_in}
 use Rattle.market_model.specs.Lines.{buyer_zone, can_trade, seller_zone}
 use Rattle.market_model.specs.Orders.{Standing}
-use Rattle.market_locality.proofs.Restrict.{find-same}
-use Rattle.plain_routes.specs.declared.zone_set.ZoneSet.{ZoneSet}
+use Rattle.market_laws.proofs.Restrict.{find-same}
+use Rattle.plain_routes.specs.declared.reach.ReachedZones.{ReachedZones}
 use Rattle.plain_routes.specs.Reached.{has_zone}
 use Rattle.plain_matching.specs.Over.{AreInZones, crosses_price, is_buy, is_in_reach, partner_in}
 use Rattle.plain_matching.proofs.Places.{find-nothing}
@@ -51,7 +51,7 @@ reached-is graph room own other = by own.order.side
     by Sell = refl
 
 -- the first order in reach is the partner
-pub in_reach-partner : (graph : Graph) (room : Arc → ℕ) (zones : ZoneSet) (line : List Standing) (own : Standing)
+pub in_reach-partner : (graph : Graph) (room : Arc → ℕ) (zones : ReachedZones) (line : List Standing) (own : Standing)
     → ((other : ℕ) → HasZone graph other → has_zone zones other ≡ reaches_in graph room other own.order.zone (is_buy own.order.side))
     → AreInZones graph line → find (is_in_reach zones own) line ≡ partner_in graph room line own
 in_reach-partner graph room zones line own are in_zones =
@@ -66,7 +66,7 @@ no_partner graph room line own none =
     (λ other apart. ap (λ b. b && reaches graph room (seller_zone own other) (buyer_zone own other)) apart) none
 
 -- the first order in reach is the partner, as it is sought
-pub found-partner : (graph : Graph) (room : Arc → ℕ) (zones : ZoneSet) (line : List Standing) (own : Standing) (order : Order) (towards : Bool)
+pub found-partner : (graph : Graph) (room : Arc → ℕ) (zones : ReachedZones) (line : List Standing) (own : Standing) (order : Order) (towards : Bool)
     → order ≡ own.order → towards ≡ is_buy order.side
     → ((other : ℕ) → HasZone graph other → has_zone zones other ≡ reaches_in graph room other order.zone towards)
     → AreInZones graph line → find (is_in_reach zones own) line ≡ partner_in graph room line own

@@ -21,7 +21,7 @@ use Rattle.market_model.specs.Orders.{Standing}
 use Rattle.market_model.specs.Room.{room}
 use Rattle.market_model.specs.Sweep.{first_answer, leg_in}
 use Rattle.market_model.specs.Taking.{leg_over, trade, ◌>>=◌}
-use Rattle.plain_routes.specs.declared.zone_set.ZoneSet.{ZoneSet}
+use Rattle.plain_routes.specs.declared.reach.ReachedZones.{ReachedZones}
 use Rattle.plain_routes.specs.Reached.{has_zone}
 
 -- these are the rooms of a graph's arcs for a contract after some events
@@ -52,7 +52,7 @@ first_crosses [] line = false
 first_crosses (first ∷ rest) line = list_any (crosses_price first) line
 
 -- the prices of two orders cross, and the other one's zone is in a set
-abbrev pub is_in_reach : ZoneSet → (own other : Standing) → Bool
+abbrev pub is_in_reach : ReachedZones → (own other : Standing) → Bool
 is_in_reach zones own other = crosses_price own other && has_zone zones other.order.zone
 
 -- the side of an order is buy

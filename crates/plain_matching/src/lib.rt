@@ -5,12 +5,12 @@
 //! Quantities are lots, tenths of a MW; prices are cents per MWh.
 #![tactic(auto)]
 
-mod growth;
+mod cutting_back;
 mod partner;
 mod sweeping;
 mod taking;
 mod trade;
 
-pub use growth::cut_back;
+pub use cutting_back::cut_back;
 pub use sweeping::{sweep, sweep_leg, sweeps};
 pub use taking::{next_leg, take};

@@ -8,7 +8,7 @@ ghost use Rattle.plain_matching.specs.Over as over;
 
 use market_model::Side;
 use plain_orders::StandingOrder;
-use plain_routes::{ZoneSet, reached};
+use plain_routes::{ReachedZones, reached};
 use zone_graph::{Grid, Rooms};
 
 /// The partner of an order: the first of a line of the other side whose price crosses and to which a
@@ -61,7 +61,7 @@ pub(crate) fn has_crossing(line: &[StandingOrder], own: &StandingOrder) -> bool
 
 // The first order of the line whose price crosses and whose zone is in the set.
 fn first_in_reach(
-    zones: &ZoneSet,
+    zones: &ReachedZones,
     line: &[StandingOrder],
     own: &StandingOrder,
 ) -> Option<StandingOrder>
@@ -76,7 +76,7 @@ fn first_in_reach(
 }
 
 // Whether the prices of two orders cross and the other one's zone is in the set.
-fn is_in_reach(zones: &ZoneSet, own: &StandingOrder, other: &StandingOrder) -> bool
+fn is_in_reach(zones: &ReachedZones, own: &StandingOrder, other: &StandingOrder) -> bool
     ensures { result ≡ over.is_in_reach zones.now own.now other.now }
 {
     crosses_price(own, other) && zones.contains(other.order().zone)

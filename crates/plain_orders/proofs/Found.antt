@@ -9,7 +9,7 @@ use Rattle.market_model.specs.declared.event.Event.TheVariants as event
 use Rattle.market_model.specs.History.{entered_count, enters, enters_in}
 use Rattle.market_model.specs.Orders.{is_open}
 use Rattle.market_laws.proofs.Tests.{same_name-eq}
-use Rattle.market_locality.proofs.Restrict.{find-same}
+use Rattle.market_laws.proofs.Restrict.{find-same}
 use Rattle.plain_orders.specs.Tallies.{entered_in}
 
 both-open : (events : List Event) (given name : OrderName) (b : Bool) → is_open events name ≡ b → (same_name given name && is_open events given) ≡ (same_name given name && b)

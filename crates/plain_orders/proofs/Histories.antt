@@ -11,7 +11,7 @@ use Rattle.market_model.specs.WellFormed.{FitAfter, Fits}
 use Rattle.market_laws.proofs.Balances.{covered, takes-le-left}
 use Rattle.market_laws.proofs.Growing.{fit-back, fit-front}
 use Rattle.market_laws.proofs.States.{entered-more, filled-more, taken_off-more}
-use Rattle.history_bounds.proofs.Lefts.{left-most}
+use Rattle.market_laws.proofs.Lefts.{left-most}
 use Rattle.plain_orders.specs.Histories.{IsSomeHistory}
 
 -- the events up to a place of a history, and the event there

@@ -16,7 +16,7 @@ use Rattle.market_model.specs.Lines.{line, priority_cmp, stands_in}
 use Rattle.market_model.specs.Orders.{Placed, PlacedBlock, Standing, blocks_placed, is_open, placed, standing}
 use Rattle.market_laws.proofs.Placed.{all_are_sound}
 use Rattle.market_laws.proofs.Tests.{same_contract-eq}
-use Rattle.market_locality.proofs.Restrict.{filter-filter}
+use Rattle.market_laws.proofs.Restrict.{filter-filter}
 use Rattle.plain_orders.specs.Histories.{IsSomeHistory}
 use Rattle.plain_orders.specs.Listed.{block_line_of, blocks_of, is_block_of, is_in_block_line, is_in_line, is_order_of, line_of, orders_of}
 use Rattle.zone_graph.specs.InOrder.{in_order}

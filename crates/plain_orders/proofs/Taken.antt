@@ -29,7 +29,7 @@ use Rattle.plain_orders.specs.declared.tally.Tally.{Tally}
 use Rattle.plain_orders.specs.Tallies.{AreTallies, CanApply, CanChange, CanTakeIn, HasPeak, Tells, after_event, changed, entered_in, name_in}
 use Rattle.plain_orders.proofs.Changes.{sound-peak}
 use Rattle.plain_orders.proofs.Histories.{IsAt}
-use Rattle.market_locality.proofs.Moments.{hour-more, hour-same}
+use Rattle.market_laws.proofs.LocalMoments.{hour-more, hour-same}
 use Rattle.plain_orders.proofs.Tells.{Comes, tells-after, tells-elsewhere}
 
 -- ---- what was entered of a block

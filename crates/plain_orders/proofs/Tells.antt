@@ -24,12 +24,12 @@ use Rattle.market_laws.proofs.Placed.{from_picked-more}
 use Rattle.market_laws.proofs.States.{filled-more}
 use Rattle.market_laws.proofs.Tests.{same_name-eq}
 use Rattle.market_laws.proofs.Unique.{entered-none, enters-block_placed, enters-placed, order_is_no_block, times-some}
-use Rattle.market_locality.proofs.States.{blocks_placed-agree, filled-agree, left-agree, placed-agree}
+use Rattle.market_laws.proofs.LocalStates.{blocks_placed-agree, filled-agree, left-agree, placed-agree}
 use Rattle.plain_orders.specs.declared.tally.Tally.{Tally}
 use Rattle.plain_orders.specs.declared.tally.Change.TheVariants as change
 use Rattle.plain_orders.specs.Tallies.{Tells, after_event, changed, entering, name_in, traded}
 use Rattle.plain_orders.proofs.Histories.{left-is}
-use Rattle.market_locality.proofs.Moments.{agree-elsewhere, block_moment-more, filled-hour, moment-more}
+use Rattle.market_laws.proofs.LocalMoments.{agree-elsewhere, block_moment-more, filled-hour, moment-more}
 
 -- an event of a history and the events before it
 pub record Comes (setup : Setup) (before : List Event) (e : Event) : Type 0 where

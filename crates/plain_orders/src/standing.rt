@@ -103,7 +103,7 @@ impl StandingOrder {
         self.price
     }
 
-    /// Its place in time: the how manieth event of its hour it was that entered it, or that last
+    /// Its place in time: which event of its hour it was that entered it, or that last
     /// emptied a peak of it, counted from 1.
     pub fn moment(&self) -> u64
         ensures { result ≡ self.now.moment }
@@ -190,7 +190,7 @@ impl StandingBlock {
         self.left
     }
 
-    /// Its place in time: the how manieth event of its first hour it was that entered it, counted
+    /// Its place in time: which event of its first hour it was that entered it, counted
     /// from 1.
     pub fn moment(&self) -> u64
         ensures { result ≡ self.now.moment }

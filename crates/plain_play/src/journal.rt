@@ -11,7 +11,7 @@ ghost use Rattle.market_text.specs.Session.{IsSession};
 
 use market_model::{Command, Commands, Duplicate, Entries, Entry, Events, Setup};
 use market_text::Session;
-use plain_market::answer;
+use plain_market::reply_and_append;
 use session_journal::grid_of;
 use std::alloc::Global;
 use trade_journal::Counts;
@@ -65,7 +65,7 @@ fn play(
     for turn in turns {
         let place = given.count(*turn as usize);
         let command = command_at(commands, *turn as usize, place);
-        let reply = answer(alloc, grid, setup, &mut history, *turn, command)?;
+        let reply = reply_and_append(alloc, grid, setup, &mut history, *turn, command)?;
         entries.push(Entry {
             caller: *turn,
             nth: place + 1,

@@ -7,7 +7,7 @@
 
 mod capacity;
 mod closing;
-mod late;
 mod orders;
+mod state;
 
-pub use late::{refuse_late, state_comes_second};
+pub use state::{refuse_by_state, state_comes_second};

@@ -3,8 +3,8 @@
 #![tactic(auto)]
 
 mod choice;
+mod reach;
 mod rounds;
-mod zone_set;
 
 pub use choice::best_route;
-pub use zone_set::{ZoneSet, reached};
+pub use reach::{ReachedZones, reached};

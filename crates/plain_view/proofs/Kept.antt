@@ -22,10 +22,10 @@ use Rattle.market_laws.proofs.States.{filled-more, left-more}
 use Rattle.market_laws.proofs.Tests.{same_name-eq}
 use Rattle.market_laws.proofs.Trades.{from_line}
 use Rattle.market_laws.proofs.Uses.{IsWithinOffers}
-use Rattle.market_locality.proofs.Named.{AreNamedByHour, IsNamedByHour, named-more}
-use Rattle.market_locality.proofs.Restrict.{filter-filter}
-use Rattle.market_locality.proofs.States.{Agree, agree-more, filled-agree}
-use Rattle.market_locality.proofs.Moments.{moment-more}
+use Rattle.market_laws.proofs.NamedByHour.{AreNamedByHour, IsNamedByHour, named-more}
+use Rattle.market_laws.proofs.Restrict.{filter-filter}
+use Rattle.market_laws.proofs.LocalStates.{Agree, agree-more, filled-agree}
+use Rattle.market_laws.proofs.LocalMoments.{moment-more}
 use Rattle.plain_view.proofs.Peaks.{peak-open, price-stays, rest-shows}
 use Rattle.market_laws.proofs.Rooms.{within-leg}
 use Rattle.plain_view.proofs.RowLemmas.{same_name-sym}

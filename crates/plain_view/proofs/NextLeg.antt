@@ -26,7 +26,7 @@ use Rattle.market_model.specs.Taking.{leg_over, next_leg, trade}
 use Rattle.market_model.specs.View.{any_price, unlimited_taker}
 use Rattle.market_laws.proofs.Legs.{opposite-opposite}
 use Rattle.market_laws.proofs.Tests.{same_name-refl}
-use Rattle.market_locality.proofs.Restrict.{find-same}
+use Rattle.market_laws.proofs.Restrict.{find-same}
 use Rattle.route_carrying.proofs.Carrying.{carried-rooms}
 use Rattle.plain_matching.proofs.SameRooms.{best_route-arcs}
 use Rattle.plain_matching.proofs.Zones.{on}

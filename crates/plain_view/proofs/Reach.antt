@@ -9,9 +9,9 @@ use Rattle.order_kinds.specs.Same.{same_side}
 use Rattle.zone_graph.specs.declared.route.Arc.{Arc}
 use Rattle.zone_graph.specs.Graph.{Graph, HasZone}
 use Rattle.zone_graph.proofs.Finding.{from_find}
-use Rattle.market_locality.proofs.Restrict.{find-same}
+use Rattle.market_laws.proofs.Restrict.{find-same}
 use Rattle.cut_proof.specs.Cut.{reaches_in}
-use Rattle.plain_routes.specs.declared.zone_set.ZoneSet.{ZoneSet}
+use Rattle.plain_routes.specs.declared.reach.ReachedZones.{ReachedZones}
 use Rattle.plain_routes.specs.Reached.{has_zone}
 use Rattle.plain_view.specs.declared.maker.Maker.{Maker}
 use Rattle.plain_view.specs.Depth.{AreInZones, buyer_zone, can_fill, crosses_any, fill_with, is_in_reach, next_fill, route_with, seller_zone}
@@ -32,7 +32,7 @@ reached-is graph room Sell zone maker = refl
 
 module _ (graph : Graph) (room : Arc → ℕ) (side : Side) (zone left : ℕ) (makers : List Maker) where
   -- the first maker in reach is the first with which a trade can be made
-  pub reach-find : (zones : ZoneSet) (towards : Bool) → towards ≡ same_side side Sell
+  pub reach-find : (zones : ReachedZones) (towards : Bool) → towards ≡ same_side side Sell
       → ((other : ℕ) → HasZone graph other → has_zone zones other ≡ reaches_in graph room other zone towards) → AreInZones graph makers
       → find (is_in_reach zones side) makers ≡ find (can_fill graph room side zone) makers
   reach-find zones towards way are known = find-same (is_in_reach zones side) (can_fill graph room side zone) makers
@@ -45,5 +45,5 @@ module _ (graph : Graph) (room : Arc → ℕ) (side : Side) (zone left : ℕ) (m
       ap (option_and_then (fill_with graph room side zone left)) is
       ∙ ap (λ b. if b then option_and_then (fill_with graph room side zone left) (find (can_fill graph room side zone) makers) else None) (sym (lt-ltb 0 left some))
 
-  pub in_reach-known : (zones : ZoneSet) (maker : Maker) → AreInZones graph makers → find (is_in_reach zones side) makers ≡ Some maker → HasZone graph maker.zone
+  pub in_reach-known : (zones : ReachedZones) (maker : Maker) → AreInZones graph makers → find (is_in_reach zones side) makers ≡ Some maker → HasZone graph maker.zone
   in_reach-known zones maker known found = known.each maker (from_find (is_in_reach zones side) maker makers found).0

@@ -37,9 +37,9 @@ use Rattle.market_laws.proofs.Tests.{same_name-eq, same_name-refl}
 use Rattle.market_laws.proofs.Trades.{from_line}
 use Rattle.market_laws.proofs.Unique.{entered-none, enters-placed, times-some}
 use Rattle.market_laws.proofs.Uses.{IsWithinOffers, within_offers}
-use Rattle.market_locality.proofs.Named.{AreNamedByHour, history-named, named-more}
-use Rattle.market_locality.proofs.Restrict.{map-same}
-use Rattle.market_locality.proofs.Moments.{hour-same, moment-more}
+use Rattle.market_laws.proofs.NamedByHour.{AreNamedByHour, history-named, named-more}
+use Rattle.market_laws.proofs.Restrict.{map-same}
+use Rattle.market_laws.proofs.LocalMoments.{hour-same, moment-more}
 use Rattle.plain_view.specs.Depth.{maker_of}
 use Rattle.plain_view.proofs.Kept.{IsAfter, IsKept, line-of_kind, placed_as}
 use Rattle.plain_view.proofs.NextLeg.{IsDepth, maker_now, taker_of}

@@ -32,7 +32,7 @@ use Rattle.market_laws.proofs.Balances.{left-leg as left-after_leg, names-taker}
 use Rattle.market_laws.proofs.Placed.{all_are_sound}
 use Rattle.market_laws.proofs.Trades.{from_line}
 use Rattle.market_laws.proofs.Uses.{within_offers}
-use Rattle.market_locality.proofs.Restrict.{map-same}
+use Rattle.market_laws.proofs.Restrict.{map-same}
 use Rattle.route_carrying.specs.Carrying.{FitTogether}
 use Rattle.plain_capacity.specs.Hour.{IsLegalOver}
 use Rattle.plain_orders.specs.Listed.{line_of, orders_of}

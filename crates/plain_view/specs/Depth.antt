@@ -16,7 +16,7 @@ use Rattle.zone_graph.specs.Route.{IsIn, best_route, carried}
 use Rattle.market_model.specs.declared.event.Leg.{Leg}
 use Rattle.market_model.specs.Orders.{Standing}
 use Rattle.market_model.specs.View.{any_price}
-use Rattle.plain_routes.specs.declared.zone_set.ZoneSet.{ZoneSet}
+use Rattle.plain_routes.specs.declared.reach.ReachedZones.{ReachedZones}
 use Rattle.plain_routes.specs.Reached.{has_zone}
 use Rattle.plain_view.specs.declared.filling.Fill.{Fill}
 use Rattle.plain_view.specs.declared.maker.Maker.{Maker}
@@ -60,7 +60,7 @@ abbrev pub can_fill : Graph → (Arc → ℕ) → Side → (zone : ℕ) → Make
 can_fill graph room side zone maker = nat_lt 0 maker.left && crosses_any side maker && is_some (route_with graph room side zone maker)
 
 -- the same, where a set has the zones in reach
-abbrev pub is_in_reach : ZoneSet → Side → Maker → Bool
+abbrev pub is_in_reach : ReachedZones → Side → Maker → Bool
 is_in_reach zones side maker = nat_lt 0 maker.left && crosses_any side maker && has_zone zones maker.zone
 
 -- the trade with a maker over a route

@@ -12,7 +12,7 @@ ghost use Rattle.plain_view.specs.Depth as depth;
 
 use crate::maker::Maker;
 use market_model::{NoMemory, OrderName, Price, Route, Side};
-use plain_routes::{ZoneSet, best_route, reached};
+use plain_routes::{ReachedZones, best_route, reached};
 use route_carrying::carried;
 use std::alloc::Global;
 use zone_graph::{Grid, Rooms};
@@ -71,7 +71,7 @@ fn is_sell(side: Side) -> bool
 }
 
 // The first maker that is in reach of the taker.
-fn first_in_reach(zones: &ZoneSet, makers: &[Maker], side: Side) -> Option<Maker>
+fn first_in_reach(zones: &ReachedZones, makers: &[Maker], side: Side) -> Option<Maker>
     ensures { result ≡ find (depth.is_in_reach zones.now side) makers.now }
 {
     for maker in makers {
@@ -83,7 +83,7 @@ fn first_in_reach(zones: &ZoneSet, makers: &[Maker], side: Side) -> Option<Maker
 }
 
 // Whether something is left of a maker, its price crosses the taker's and its zone is in the set.
-fn is_in_reach(zones: &ZoneSet, maker: &Maker, side: Side) -> bool
+fn is_in_reach(zones: &ReachedZones, maker: &Maker, side: Side) -> bool
     ensures { result ≡ depth.is_in_reach zones.now side maker.now }
 {
     let taking = side.opposite();

@@ -1,14 +1,12 @@
 //! What is written of a record whose journal is complete.
 
-ghost use Rattle.std.specs.Prelude.{◌≡◌, ◌≢◌, ◌≤◌, ◌⊎◌, ℕ, List, IsTrue, Some, IfOk, length};
+ghost use Rattle.std.specs.Prelude.{◌≡◌, ◌≢◌, ◌≤◌, ℕ, List, IsTrue, Some, IfOk};
 ghost use Rattle.outside.specs.Faults.{Rose};
-ghost use Rattle.market_model.specs.declared.entry.Entry.{Entry};
-ghost use Rattle.market_text.specs.declared.session.Session.{Session};
 ghost use Rattle.session_io.specs.Reading.{longest_record};
 ghost use Rattle.run_status.specs.Reading.{ReadsUpTo};
 ghost use Rattle.run_status.specs.Status.{writes_nothing};
-ghost use Rattle.record_run.specs.Outcomes.{Audited as AuditedSo, Shipped as ShippedSo};
-ghost use Rattle.record_run.specs.Records.{IsRecord, legal_line};
+ghost use Rattle.record_run.specs.Outcomes.{Audited as AuditedSo, CompletesRecords, Shipped as ShippedSo};
+ghost use Rattle.record_run.specs.Records.{legal_line};
 
 use crate::auditing::audited_from;
 use crate::writing::write_made;
@@ -24,7 +22,7 @@ pub fn audit_record<S: Source, K: Sink>(alloc: Global, source: &mut S, sink: &mu
     ensures usage { result ≢ Status.Usage }
     ensures unwritten { IsTrue (writes_nothing result) → sink.new ≡ sink.old }
     ensures audited { (bytes : List ℕ) → S.left source.old ≡ Some bytes → AuditedSo bytes result (K.written sink.old) (K.written sink.new) }
-    ensures complete { (bytes : List ℕ) (session : Session) (entries : List Entry) → S.left source.old ≡ Some bytes → IsRecord bytes session entries → length bytes ≤ longest_record → ¬ Rose (S.faults source.old) (S.faults source.new) → ¬ Rose (K.faults sink.old) (K.faults sink.new) → (result ≡ Status.Done) ⊎ (result ≡ Status.NoMemory) }
+    ensures complete { CompletesRecords (S.left source.old) (Rose (S.faults source.old) (S.faults source.new)) (Rose (K.faults sink.old) (K.faults sink.new)) result }
     ensures reads { result ≢ Status.NoMemory → ReadsUpTo longest_record (S.left source.old) (S.left source.new) result }
     ensures read_count { S.faults source.old ≤ S.faults source.new }
     ensures read_fault { result ≡ Status.ReadFault → Rose (S.faults source.old) (S.faults source.new) }
@@ -43,7 +41,7 @@ pub fn ship_record<S: Source, K: Sink>(alloc: Global, source: &mut S, sink: &mut
     ensures usage { result ≢ Status.Usage }
     ensures unwritten { IsTrue (writes_nothing result) → sink.new ≡ sink.old }
     ensures shipped { (bytes : List ℕ) → S.left source.old ≡ Some bytes → ShippedSo bytes result (K.written sink.old) (K.written sink.new) }
-    ensures complete { (bytes : List ℕ) (session : Session) (entries : List Entry) → S.left source.old ≡ Some bytes → IsRecord bytes session entries → length bytes ≤ longest_record → ¬ Rose (S.faults source.old) (S.faults source.new) → ¬ Rose (K.faults sink.old) (K.faults sink.new) → (result ≡ Status.Done) ⊎ (result ≡ Status.NoMemory) }
+    ensures complete { CompletesRecords (S.left source.old) (Rose (S.faults source.old) (S.faults source.new)) (Rose (K.faults sink.old) (K.faults sink.new)) result }
     ensures reads { result ≢ Status.NoMemory → ReadsUpTo longest_record (S.left source.old) (S.left source.new) result }
     ensures read_count { S.faults source.old ≤ S.faults source.new }
     ensures read_fault { result ≡ Status.ReadFault → Rose (S.faults source.old) (S.faults source.new) }

@@ -1,5 +1,5 @@
 -- What a run has written, by how it ends.
-use Rattle.std.specs.Prelude.{ℕ, List, [], ◌++◌, ◌⊎◌, Option}
+use Rattle.std.specs.Prelude.{◌≡◌, ℕ, List, [], ◌++◌, ◌⊎◌, Option}
 use Rattle.std.specs.Io.KnownBytes.{Appends}
 use Rattle.run_status.specs.declared.status.Status.{Status}
 use Rattle.run_status.specs.declared.status.Status.TheVariants as status
@@ -27,3 +27,7 @@ Answers IsAsked IsBad IsIllegal status.NoMemory old new = Appends old new [] ⊎
 Answers IsAsked IsBad IsIllegal (status.BadSession line) old new = IsBad line
 Answers IsAsked IsBad IsIllegal (status.Illegal entry) old new = IsIllegal entry
 Answers IsAsked IsBad IsIllegal _ old new = Unit {0}
+
+-- a run that does what it is asked for, or for which memory was wanting
+abbrev pub EndsWell : Status → Type 0
+EndsWell end = (end ≡ status.Done) ⊎ (end ≡ status.NoMemory)

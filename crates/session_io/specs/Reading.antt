@@ -1,5 +1,5 @@
 -- What reading does to a source.
-use Rattle.std.specs.Prelude.{◌≡◌, ℕ, ◌<◌, ◌≤◌, List, [], length, ◌++◌, Option, Bool, true, false}
+use Rattle.std.specs.Prelude.{◌≡◌, ℕ, ◌<◌, ◌≤◌, List, [], length, ◌++◌, codes, Option, Bool, true, false}
 use Rattle.std.specs.Io.KnownBytes.{Consumes, IsAtEnd, Keeps}
 use Rattle.session_io.specs.declared.reading.ReadError.{ReadError}
 use Rattle.session_io.specs.declared.reading.ReadError.TheVariants as stopped
@@ -21,6 +21,12 @@ pub record ReadsMore (old new : Option (List ℕ)) (before after : List ℕ) (mo
   pub some : more ≡ true → 0 < length came
   pub none : more ≡ false → came ≡ []
   pub ended : more ≡ false → IsAtEnd new
+
+-- what stopped the reading, in words
+abbrev pub reading_text : ReadError → List ℕ
+reading_text stopped.Fault = codes "a read failed"
+reading_text stopped.TooLong = codes "the input is too long"
+reading_text stopped.NoMemory = codes "no memory"
 
 -- a read that gave nothing: a fault took nothing, and no read is too long
 abbrev pub GivesNothing : Option (List ℕ) → Option (List ℕ) → ReadError → Type 0

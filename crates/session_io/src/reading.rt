@@ -1,12 +1,14 @@
 //! The source is read to its end.
 
-ghost use Rattle.std.specs.Prelude.{◌≡◌, ◌<◌, ◌≤◌, length, vec_len, IfOk, IfErr};
+ghost use Rattle.std.specs.Prelude.{◌≡◌, ◌<◌, ◌≤◌, length, vec_len, Some, IfOk, IfErr};
 ghost use Rattle.std.specs.Io.KnownBytes.{Consumes, IsAtEnd};
 ghost use Rattle.outside.specs.Faults.{Rose};
-ghost use Rattle.session_io.specs.Reading.{GivesNothing, ReadsMore, Stops};
+ghost use Rattle.session_io.specs.Reading.{GivesNothing, ReadsMore, Stops, reading_text};
 
 use outside::Source;
 use std::alloc::{AllocError, Global};
+use std::error::Error;
+use std::fmt;
 
 /// The most bytes that a session may have.
 pub const LONGEST_SESSION: usize = 8_388_608;
@@ -27,6 +29,20 @@ pub enum ReadError {
     /// There was no memory.
     NoMemory,
 }
+
+impl fmt::Display for ReadError {
+    ghost output = { λ fault. Some (reading_text fault) };
+
+    fn fmt<W: fmt::Write>(&self, f: &mut fmt::Formatter<W>) -> fmt::Result {
+        f.write_str(match self {
+            ReadError::Fault => "a read failed",
+            ReadError::TooLong => "the input is too long",
+            ReadError::NoMemory => "no memory",
+        })
+    }
+}
+
+impl Error for ReadError {}
 
 impl From<AllocError> for ReadError {
     ghost use Rattle.std.specs.Prelude.{◌≡◌};

@@ -1,16 +1,18 @@
 //! The journal is written line by line.
 
-ghost use Rattle.std.specs.Prelude.{◌≡◌, ◌<◌, ◌≤◌, ℕ, List, All, OnOk, OnErr, length};
+ghost use Rattle.std.specs.Prelude.{◌≡◌, ◌<◌, ◌≤◌, ℕ, List, All, Some, OnOk, OnErr, length};
 ghost use Rattle.std.specs.Io.KnownBytes.{Appends};
 ghost use Rattle.outside.specs.Faults.{Rose};
 ghost use Rattle.market_model.specs.Naming.{IsEntryIn, IsNamed};
 ghost use Rattle.session_io.specs.JournalText.{journal_text};
-ghost use Rattle.session_io.specs.Writing.{Wrote};
+ghost use Rattle.session_io.specs.Writing.{Wrote, writing_text};
 
 use journal_print::print_entry;
 use market_model::{Entry, Setup};
 use outside::{Failed, Sink};
 use std::alloc::Global;
+use std::error::Error;
+use std::fmt;
 use zone_graph::NoMemory;
 
 /// Why a journal was not written.
@@ -21,6 +23,19 @@ pub enum WriteError {
     /// There was no memory.
     NoMemory,
 }
+
+impl fmt::Display for WriteError {
+    ghost output = { λ fault. Some (writing_text fault) };
+
+    fn fmt<W: fmt::Write>(&self, f: &mut fmt::Formatter<W>) -> fmt::Result {
+        f.write_str(match self {
+            WriteError::Fault => "a write failed",
+            WriteError::NoMemory => "no memory",
+        })
+    }
+}
+
+impl Error for WriteError {}
 
 impl From<NoMemory> for WriteError {
     ghost use Rattle.std.specs.Prelude.{◌≡◌};

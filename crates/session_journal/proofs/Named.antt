@@ -10,7 +10,7 @@ use Rattle.market_model.specs.Sweep.{all_parts}
 use Rattle.market_model.specs.WellFormed.{IsHistory, IsMarketSetup}
 use Rattle.market_laws.proofs.Journals.{journal_events-more, run-history}
 use Rattle.market_laws.proofs.Replies.{reply-history}
-use Rattle.reply_bounds.proofs.Named.{reply-names}
+use Rattle.market_laws.proofs.ReplyNames.{reply-names}
 use Rattle.session_journal.specs.Laws.{EntriesNameTheSetup}
 use Rattle.session_journal.proofs.Once.{each-command-once}
 

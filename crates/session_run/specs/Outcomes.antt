@@ -1,6 +1,9 @@
 -- What a run does to its sink, by how it ends.
-use Rattle.std.specs.Prelude.{ℕ, List, Option}
-use Rattle.run_status.specs.Outcomes.{Answers, IsWritten, IsWrittenInPart}
+use Rattle.std.specs.Prelude.{◌≡◌, ◌≤◌, ℕ, List, Option, Ok, Some, length}
+use Rattle.market_text.specs.declared.session.Session.{Session}
+use Rattle.market_text.specs.Text.{session_of_text}
+use Rattle.session_io.specs.Reading.{longest_session}
+use Rattle.run_status.specs.Outcomes.{Answers, EndsWell, IsWritten, IsWrittenInPart}
 use Rattle.session_run.specs.Journal.{IsJournalOf, IsSummaryOf, IsTradedJournalOf}
 use Rattle.session_run.specs.Reading.{HasNoEntry, IsBadText}
 use Rattle.run_status.specs.declared.status.Status.{Status}
@@ -11,6 +14,12 @@ use Rattle.run_status.specs.declared.status.Status.TheVariants as status
 -- is told
 abbrev pub Played : (IsAsked : List ℕ → Type 0) (bytes : List ℕ) → Status → (old new : Option (List ℕ)) → Type 0
 Played IsAsked bytes end old new = Answers IsAsked (IsBadText bytes) (HasNoEntry bytes) end old new
+
+-- a run over a source that gives these bytes, of which some read or write may have failed: where none did, and the bytes
+-- are a session within the limit, it ends well
+abbrev pub CompletesSessions : (left : Option (List ℕ)) (read_failed write_failed : Type 0) → Status → Type 0
+CompletesSessions left read_failed write_failed end = (bytes : List ℕ) (session : Session) → left ≡ Some bytes → session_of_text bytes ≡ Ok session
+    → length bytes ≤ longest_session → ¬ read_failed → ¬ write_failed → EndsWell end
 
 -- a run of `replay`: the text is that of the journal of the session with its callers in the order of its lines
 abbrev pub Replayed : (bytes : List ℕ) → Status → (old new : Option (List ℕ)) → Type 0

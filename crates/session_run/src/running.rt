@@ -1,15 +1,12 @@
 //! A run, from the words of the command line to the written journal.
 
-ghost use Rattle.std.specs.Prelude.{◌≡◌, ◌≢◌, ◌≤◌, ◌↔◌, ◌⊎◌, ℕ, List, IsTrue, Ok, Some, None, false, true, length};
+ghost use Rattle.std.specs.Prelude.{◌≡◌, ◌≢◌, ◌≤◌, ◌↔◌, ℕ, List, IsTrue, Some, None, false, true};
 ghost use Rattle.outside.specs.Faults.{Rose};
-ghost use Rattle.market_model.specs.declared.entry.Entry.{Entry};
-ghost use Rattle.record_run.specs.Outcomes.{Audited, Shipped};
-ghost use Rattle.record_run.specs.Records.{IsRecord};
+ghost use Rattle.record_run.specs.Outcomes.{Audited, CompletesRecords, Shipped};
 ghost use Rattle.run_status.specs.Reading.{ReadsUpTo};
-ghost use Rattle.session_run.specs.Outcomes.{Generated, Replayed, Traded};
-ghost use Rattle.market_text.specs.Text.{session_of_text};
-ghost use Rattle.market_text.specs.declared.session.Session.{Session};
-ghost use Rattle.session_io.specs.Reading.{longest_record, longest_session};
+ghost use Rattle.run_status.specs.Outcomes.{EndsWell};
+ghost use Rattle.session_run.specs.Outcomes.{CompletesSessions, Generated, Replayed, Traded};
+ghost use Rattle.session_io.specs.Reading.{longest_record};
 ghost use Rattle.session_run.specs.Reading.{Reads};
 ghost use Rattle.run_status.specs.Status.{writes_nothing};
 ghost use Rattle.command_words.specs.Words.{ReadsRecord, task_of as task_named, is_trade as trades};
@@ -55,10 +52,10 @@ pub fn run<R: Threads + Wait + Sync, S: Source, K: Sink, G: Gate>(
     ensures audited { (bytes : List ℕ) → task_named words.now ≡ Some task.Audit → S.left source.old ≡ Some bytes → Audited bytes result (K.written sink.old) (K.written sink.new) }
     ensures shipped { (bytes : List ℕ) → task_named words.now ≡ Some task.Ship → S.left source.old ≡ Some bytes → Shipped bytes result (K.written sink.old) (K.written sink.new) }
     ensures generated { (commands : ℕ) → task_named words.now ≡ Some (task.Generate commands) → Generated commands result (K.written sink.old) (K.written sink.new) }
-    ensures complete { (bytes : List ℕ) (session : Session) → task_named words.now ≡ Some task.Replay → S.left source.old ≡ Some bytes → session_of_text bytes ≡ Ok session → length bytes ≤ longest_session → ¬ Rose (S.faults source.old) (S.faults source.new) → ¬ Rose (K.faults sink.old) (K.faults sink.new) → (result ≡ Status.Done) ⊎ (result ≡ Status.NoMemory) }
-    ensures complete_traded { (bytes : List ℕ) (session : Session) → trades words.now ≡ true → S.left source.old ≡ Some bytes → session_of_text bytes ≡ Ok session → length bytes ≤ longest_session → ¬ Rose (S.faults source.old) (S.faults source.new) → ¬ Rose (K.faults sink.old) (K.faults sink.new) → (result ≡ Status.Done) ⊎ (result ≡ Status.NoMemory) }
-    ensures complete_record { (bytes : List ℕ) (session : Session) (entries : List Entry) → ReadsRecord (task_named words.now) → S.left source.old ≡ Some bytes → IsRecord bytes session entries → length bytes ≤ longest_record → ¬ Rose (S.faults source.old) (S.faults source.new) → ¬ Rose (K.faults sink.old) (K.faults sink.new) → (result ≡ Status.Done) ⊎ (result ≡ Status.NoMemory) }
-    ensures complete_generated { (commands : ℕ) → task_named words.now ≡ Some (task.Generate commands) → ¬ Rose (K.faults sink.old) (K.faults sink.new) → (result ≡ Status.Done) ⊎ (result ≡ Status.NoMemory) }
+    ensures complete { task_named words.now ≡ Some task.Replay → CompletesSessions (S.left source.old) (Rose (S.faults source.old) (S.faults source.new)) (Rose (K.faults sink.old) (K.faults sink.new)) result }
+    ensures complete_traded { trades words.now ≡ true → CompletesSessions (S.left source.old) (Rose (S.faults source.old) (S.faults source.new)) (Rose (K.faults sink.old) (K.faults sink.new)) result }
+    ensures complete_record { ReadsRecord (task_named words.now) → CompletesRecords (S.left source.old) (Rose (S.faults source.old) (S.faults source.new)) (Rose (K.faults sink.old) (K.faults sink.new)) result }
+    ensures complete_generated { (commands : ℕ) → task_named words.now ≡ Some (task.Generate commands) → ¬ Rose (K.faults sink.old) (K.faults sink.new) → EndsWell result }
     ensures reads { task_named words.now ≡ Some task.Replay → result ≢ Status.NoMemory → Reads (S.left source.old) (S.left source.new) result }
     ensures reads_traded { trades words.now ≡ true → result ≢ Status.NoMemory → Reads (S.left source.old) (S.left source.new) result }
     ensures reads_record { ReadsRecord (task_named words.now) → result ≢ Status.NoMemory → ReadsUpTo longest_record (S.left source.old) (S.left source.new) result }
@@ -89,9 +86,9 @@ pub fn run_alone<S: Source, K: Sink>(
     ensures audited { (bytes : List ℕ) → task_named words.now ≡ Some task.Audit → S.left source.old ≡ Some bytes → Audited bytes result (K.written sink.old) (K.written sink.new) }
     ensures shipped { (bytes : List ℕ) → task_named words.now ≡ Some task.Ship → S.left source.old ≡ Some bytes → Shipped bytes result (K.written sink.old) (K.written sink.new) }
     ensures generated { (commands : ℕ) → task_named words.now ≡ Some (task.Generate commands) → Generated commands result (K.written sink.old) (K.written sink.new) }
-    ensures complete { (bytes : List ℕ) (session : Session) → task_named words.now ≡ Some task.Replay → S.left source.old ≡ Some bytes → session_of_text bytes ≡ Ok session → length bytes ≤ longest_session → ¬ Rose (S.faults source.old) (S.faults source.new) → ¬ Rose (K.faults sink.old) (K.faults sink.new) → (result ≡ Status.Done) ⊎ (result ≡ Status.NoMemory) }
-    ensures complete_record { (bytes : List ℕ) (session : Session) (entries : List Entry) → ReadsRecord (task_named words.now) → S.left source.old ≡ Some bytes → IsRecord bytes session entries → length bytes ≤ longest_record → ¬ Rose (S.faults source.old) (S.faults source.new) → ¬ Rose (K.faults sink.old) (K.faults sink.new) → (result ≡ Status.Done) ⊎ (result ≡ Status.NoMemory) }
-    ensures complete_generated { (commands : ℕ) → task_named words.now ≡ Some (task.Generate commands) → ¬ Rose (K.faults sink.old) (K.faults sink.new) → (result ≡ Status.Done) ⊎ (result ≡ Status.NoMemory) }
+    ensures complete { task_named words.now ≡ Some task.Replay → CompletesSessions (S.left source.old) (Rose (S.faults source.old) (S.faults source.new)) (Rose (K.faults sink.old) (K.faults sink.new)) result }
+    ensures complete_record { ReadsRecord (task_named words.now) → CompletesRecords (S.left source.old) (Rose (S.faults source.old) (S.faults source.new)) (Rose (K.faults sink.old) (K.faults sink.new)) result }
+    ensures complete_generated { (commands : ℕ) → task_named words.now ≡ Some (task.Generate commands) → ¬ Rose (K.faults sink.old) (K.faults sink.new) → EndsWell result }
     ensures reads { task_named words.now ≡ Some task.Replay → result ≢ Status.NoMemory → Reads (S.left source.old) (S.left source.new) result }
     ensures reads_record { ReadsRecord (task_named words.now) → result ≢ Status.NoMemory → ReadsUpTo longest_record (S.left source.old) (S.left source.new) result }
     ensures illegal { (entry : ℕ) → result ≡ Status.Illegal entry → ReadsRecord (task_named words.now) }

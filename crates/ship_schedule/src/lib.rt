@@ -14,6 +14,3 @@ pub use laws::{
     exchanges_are_the_flow, positions_add_up_to_nothing, positions_are_what_borders_carry,
 };
 pub use shipping::schedule;
-
-#[cfg(test)]
-mod tests;

@@ -26,7 +26,7 @@ use Rattle.market_laws.proofs.Ascending.{Ascends, itself}
 use Rattle.market_laws.proofs.Lines.{line-ascends, priority_weak}
 use Rattle.market_laws.proofs.Placed.{all_are_sound}
 use Rattle.market_laws.proofs.Trades.{from_line}
-use Rattle.market_locality.proofs.Lines.{line-agree}
+use Rattle.market_laws.proofs.LocalLines.{line-agree}
 use Rattle.book_lines.proofs.ChangedOrders.{hour_of}
 use Rattle.book_lines.proofs.LineOrders.{line-strict}
 use Rattle.board_laws.proofs.Shared.{board-agrees}

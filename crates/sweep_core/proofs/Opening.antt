@@ -40,8 +40,8 @@ use Rattle.market_laws.proofs.Tests.{same_name-eq}
 use Rattle.market_laws.proofs.Trades.{from_line}
 use Rattle.market_laws.proofs.Unique.{one_order}
 use Rattle.market_laws.proofs.Uses.{contract_has-is, lots_of-remaining, room-le}
-use Rattle.market_locality.proofs.Lines.{line-agree, sweep_leg-named}
-use Rattle.market_locality.proofs.States.{agree-more}
+use Rattle.market_laws.proofs.LocalLines.{line-agree, sweep_leg-named}
+use Rattle.market_laws.proofs.LocalStates.{agree-more}
 use Rattle.book_lines.proofs.Untouched.{left-kept, standing-kept}
 use Rattle.line_fronts.specs.Fronts.{StandInFor}
 use Rattle.line_fronts.proofs.Unopened.{unopened}

@@ -6,6 +6,3 @@ mod journal;
 
 pub use counts::Counts;
 pub use journal::Journal;
-
-#[cfg(test)]
-mod tests;

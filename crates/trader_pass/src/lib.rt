@@ -4,6 +4,3 @@
 mod pass;
 
 pub use pass::Pass;
-
-#[cfg(test)]
-mod tests;

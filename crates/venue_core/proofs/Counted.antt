@@ -26,16 +26,16 @@ use Rattle.market_model.specs.Concerned.{left_for}
 use Rattle.market_model.specs.Entering.{enter, enter_all, legs_taken, name_of_next, rest_of, rest_withdrawn, with_order}
 use Rattle.market_model.specs.Grid.{graph_of}
 use Rattle.market_model.specs.History.{entered_count, enters, enters_in, events_of, journal_events, touches}
-use Rattle.market_model.specs.Market.{IsLegal, Turn, answer, entry_of, events_done, gate, refused_or, reply_by, run_after, run_of, turn_of}
+use Rattle.market_model.specs.Market.{IsLegal, Turn, reply_let_in, entry_of, events_done, gate, refused_or, reply_by, run_after, run_of, turn_of}
 use Rattle.market_model.specs.Orders.{left}
 use Rattle.market_model.specs.Refusals.{refusal_of_command}
 use Rattle.market_model.specs.Rules.{ascends}
 use Rattle.market_model.specs.Sweep.{all_parts, sweep}
 use Rattle.market_laws.proofs.Admitted.{IsAdmitted, refusal-none}
-use Rattle.history_bounds.proofs.Desk.{ascends-later, ascends-rest}
-use Rattle.history_bounds.proofs.Quiet.{AreQuiet, at_arc-quiet, gate-quiet, match_blocks-quiet, quiet-one, rest-quiet, sweep-quiet, take-quiet, then-quiet}
+use Rattle.market_laws.proofs.HoursAlone.{ascends-later, ascends-rest}
+use Rattle.market_laws.proofs.Closing.{AreQuiet, at_arc-quiet, gate-quiet, match_blocks-quiet, quiet-one, rest-quiet, sweep-quiet, take-quiet, then-quiet}
 use Rattle.plain_orders.proofs.Found.{entered_in-few}
-use Rattle.reply_bounds.proofs.Entered.{enter_block-one, enter-one}
+use Rattle.market_laws.proofs.ReplyEntries.{enter_block-one, enter-one}
 
 -- what enters by the events of an hour is what enters by all events and is named by the hour
 module _ (hour : ℕ) where
@@ -196,7 +196,7 @@ module _ (hour : ℕ) where
     done-one (command.Gate gated asked) may = few-quiet (gate all_parts market gated asked events) (gate-quiet all_parts market gated asked events)
     done-one (command.View contract side zone) may = omega arith
 
-    answer-one : (given : Command) → IsAdmitted setup events caller given → count (events_of (answer all_parts setup events caller given)) ≤ 1
+    answer-one : (given : Command) → IsAdmitted setup events caller given → count (events_of (reply_let_in all_parts setup events caller given)) ≤ 1
     answer-one (command.View contract side zone) may = omega arith
     answer-one given may = done-one given may
 
@@ -205,7 +205,7 @@ module _ (hour : ℕ) where
     unfolding reply_by
     reply-one given = go (refusal_of_command setup events caller given) refl
       where
-        go : (o : Option Refusal) → refusal_of_command setup events caller given ≡ o → count (events_of (refused_or o (λ _. answer all_parts setup events caller given))) ≤ 1
+        go : (o : Option Refusal) → refusal_of_command setup events caller given ≡ o → count (events_of (refused_or o (λ _. reply_let_in all_parts setup events caller given))) ≤ 1
         go (Some broken) is = omega arith
         go None is = answer-one given (refusal-none setup events caller given is)
 

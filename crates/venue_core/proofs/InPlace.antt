@@ -18,7 +18,7 @@ use Rattle.market_model.specs.Market.{IsLegal}
 use Rattle.market_model.specs.Rules.{touched_hours}
 use Rattle.market_model.specs.WellFormed.{IsMarketSetup}
 use Rattle.market_laws.proofs.Journals.{journal_events-more}
-use Rattle.market_locality.proofs.Restrict.{filter-same}
+use Rattle.market_laws.proofs.Restrict.{filter-same}
 use Rattle.plain_orders.proofs.Found.{entered_in-few}
 use Rattle.plain_orders.proofs.LineLaws.{filter-map}
 use Rattle.desk_locks.specs.Desk.{DeskState, carried, planning, with_nothing_planned}

@@ -26,7 +26,7 @@ use Rattle.market_model.specs.Grid.{graph_of}
 use Rattle.market_model.specs.Lines.{line}
 use Rattle.market_model.specs.Room.{room}
 use Rattle.market_model.specs.WellFormed.{FitAfter, IsMarketSetup}
-use Rattle.market_locality.proofs.Restrict.{filter-filter}
+use Rattle.market_laws.proofs.Restrict.{filter-filter}
 use Rattle.plain_orders.proofs.LineLaws.{filter-map}
 use Rattle.plain_view.specs.declared.filling.Fill.{Fill}
 use Rattle.plain_view.specs.declared.maker.Maker.{Maker}

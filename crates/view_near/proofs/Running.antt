@@ -14,7 +14,7 @@ use Rattle.zone_graph.specs.Steps.{IsRun}
 use Rattle.zone_graph.proofs.Carrying.{best_route-route}
 use Rattle.cut_proof.proofs.SameRooms.{carried-same}
 use Rattle.cut_proof.proofs.Ways.{way_has_arc}
-use Rattle.market_locality.proofs.Restrict.{filter-same, find-filter, find-same}
+use Rattle.market_laws.proofs.Restrict.{filter-same, find-filter, find-same}
 use Rattle.plain_orders.proofs.LineLaws.{filter-map}
 use Rattle.plain_view.specs.declared.filling.Fill.{Fill}
 use Rattle.plain_view.specs.declared.maker.Maker.{Maker}

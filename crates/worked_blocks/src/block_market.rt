@@ -11,7 +11,7 @@ use market_model::{
     BlockOrder, Caller, Callers, Command, Duplicate, Event, Events, Names, Pairs, Quarter, Reply,
     Role, Setup, Word,
 };
-use plain_market::answer;
+use plain_market::reply_and_append;
 use std::alloc::Global;
 use std::marker::Model;
 use std::test::Fail;
@@ -155,7 +155,7 @@ impl BlockMarket {
             return Err(Fail::from("too many events"));
         }
         let mut events = self.events.copy()?;
-        let reply = answer(
+        let reply = reply_and_append(
             self.alloc,
             &self.grid,
             &self.setup,

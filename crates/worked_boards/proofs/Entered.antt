@@ -14,7 +14,7 @@ use Rattle.market_laws.proofs.Names.{names-once, order_name-new, times_entered}
 use Rattle.market_laws.proofs.States.{entered-more, filled-more, taken_off-more}
 use Rattle.market_laws.proofs.Tests.{same_name-refl}
 use Rattle.market_laws.proofs.Wholes.{new-untouched}
-use Rattle.market_locality.proofs.Moments.{moment-more}
+use Rattle.market_laws.proofs.LocalMoments.{moment-more}
 use Rattle.worked_boards.specs.Small.{CanEnter, IsFresh, IsGrown, order_of, setup_of}
 use Rattle.worked_boards.proofs.Fitting.{entry-fits}
 

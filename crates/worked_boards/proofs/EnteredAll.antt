@@ -7,7 +7,7 @@ use Rattle.market_model.specs.declared.event.Event.TheVariants as event
 use Rattle.market_model.specs.Board.{BoardState, with_events}
 use Rattle.market_model.specs.Orders.{next_name}
 use Rattle.market_laws.proofs.Repeats.{fit-more}
-use Rattle.market_locality.proofs.Moments.{hour-more}
+use Rattle.market_laws.proofs.LocalMoments.{hour-more}
 use Rattle.worked_boards.specs.Small.{AreAlone, CanEnter, HasRoom, IsGrown, setup_of, with_entry_of}
 use Rattle.worked_boards.proofs.Fitting.{entry-fits}
 

@@ -8,7 +8,7 @@ use Rattle.market_model.specs.Board.{BoardState, CanBeMade, IsBoard, after_leg}
 use Rattle.market_model.specs.History.{and_then, touches}
 use Rattle.market_model.specs.WellFormed.{Fits}
 use Rattle.market_laws.proofs.Repeats.{fit-more}
-use Rattle.market_locality.proofs.Moments.{hour-more}
+use Rattle.market_laws.proofs.LocalMoments.{hour-more}
 use Rattle.board_laws.proofs.Legs.{leaves, made-fits}
 use Rattle.plain_capacity.specs.Hour.{IsLegalOver}
 use Rattle.plain_orders.specs.Histories.{IsSomeHistory}

@@ -2,8 +2,9 @@
 
 use crate::setups::setup_of;
 use market_model::{
-    Arc, Command, Commands, Contract, Duplicate, Event, Events, Kind, Leg, Lots, NoMemory, Order,
-    OrderName, Orders, Part, Price, Quarter, Refusal, Reply, Route, Rows, Side, ViewRow, Zones,
+    Arc, BlockOrder, Command, Commands, Contract, Duplicate, Event, Events, Kind, Leg, Lots,
+    NoMemory, Order, OrderName, Orders, Part, Phase, Price, Quarter, Refusal, Reply, Route, Rows,
+    Side, ViewRow, Zones,
 };
 use std::alloc::Global;
 use std::test::Fail;
@@ -26,6 +27,15 @@ const ORDER: Order = Order {
         peak: Lots(30),
         delta: 10,
     },
+};
+
+const BLOCK: BlockOrder = BlockOrder {
+    first: 4,
+    last: 6,
+    zone: 0,
+    side: Side::Buy,
+    price: Price(2500),
+    quantity: Lots(40),
 };
 
 const QUARTER: Quarter = Quarter {
@@ -54,14 +64,26 @@ fn leg(alloc: Global) -> Result<Leg, NoMemory> {
     })
 }
 
-#[test]
-fn commands_are_copied(rt: HostRuntime) -> Result<(), Fail> {
-    let mut orders = Orders::new(rt.alloc());
+// Puts a command of each form of a trader's at the end.
+fn push_trades(alloc: Global, commands: &mut Commands) -> Result<(), NoMemory> {
+    let mut orders = Orders::new(alloc);
     orders.push(ORDER)?;
-    let mut commands = Commands::new(rt.alloc());
     commands.push(Command::EnterBasket { orders })?;
     commands.push(Command::Enter { order: ORDER })?;
+    commands.push(Command::EnterBlock { order: BLOCK })?;
+    commands.push(Command::Cancel { name: NAME })?;
     commands.push(Command::Reduce { name: NAME, to: 5 })?;
+    commands.push(Command::Blocks { first: 4, last: 6 })?;
+    commands.push(Command::View {
+        contract: ORDER.contract,
+        side: Side::Buy,
+        zone: 2,
+    })?;
+    Ok(())
+}
+
+// Puts a command of each form of an operator's at the end.
+fn push_operations(commands: &mut Commands) -> Result<(), NoMemory> {
     commands.push(Command::Offer {
         from: 1,
         to: 2,
@@ -69,13 +91,53 @@ fn commands_are_copied(rt: HostRuntime) -> Result<(), Fail> {
         last: QUARTER,
         lots: 60,
     })?;
+    commands.push(Command::Request {
+        from: 2,
+        to: 1,
+        first: QUARTER,
+        last: QUARTER,
+        lots: 7,
+    })?;
+    commands.push(Command::Halt {
+        from: 0,
+        to: 1,
+        first: 3,
+        last: 9,
+    })?;
+    commands.push(Command::Resume {
+        from: 1,
+        to: 0,
+        first: 4,
+        last: 8,
+    })?;
+    commands.push(Command::Gate {
+        hour: 5,
+        phase: Phase::Local,
+    })?;
+    Ok(())
+}
+
+#[test]
+fn commands_of_each_form_are_copied(rt: HostRuntime) -> Result<(), Fail> {
+    let mut commands = Commands::new(rt.alloc());
+    push_trades(rt.alloc(), &mut commands)?;
+    push_operations(&mut commands)?;
     assert!(rt; commands.copy()? == commands);
     Ok(())
 }
 
-// Two trades over one border, one of them of blocks.
-fn trades(alloc: Global) -> Result<Events, NoMemory> {
-    let mut events = Events::new(alloc);
+// Puts an event of each form that one order or block brings about at the end.
+fn push_orders(alloc: Global, events: &mut Events) -> Result<(), NoMemory> {
+    events.push(Event::Entered {
+        name: NAME,
+        caller: 4,
+        order: ORDER,
+    })?;
+    events.push(Event::EnteredBlock {
+        name: NAME,
+        caller: 3,
+        order: BLOCK,
+    })?;
     events.push(Event::Leg {
         contract: ORDER.contract,
         leg: leg(alloc)?,
@@ -85,23 +147,50 @@ fn trades(alloc: Global) -> Result<Events, NoMemory> {
         last: 13,
         leg: leg(alloc)?,
     })?;
-    Ok(events)
+    events.push(Event::Withdrawn {
+        name: NAME,
+        lots: 11,
+    })?;
+    events.push(Event::Reduced { name: NAME, by: 2 })?;
+    Ok(())
 }
 
-#[test]
-fn events_are_copied(rt: HostRuntime) -> Result<(), Fail> {
-    let mut events = trades(rt.alloc())?;
-    events.push(Event::Entered {
-        name: NAME,
-        caller: 4,
-        order: ORDER,
-    })?;
+// Puts an event of each form that an operator brings about at the end.
+fn push_changes(events: &mut Events) -> Result<(), NoMemory> {
     events.push(Event::Granted {
         arc: ARC,
         first: QUARTER,
         last: QUARTER,
         lots: 1,
     })?;
+    events.push(Event::Offered {
+        arc: ARC,
+        first: QUARTER,
+        last: QUARTER,
+        lots: 9,
+    })?;
+    events.push(Event::Halted {
+        border: 2,
+        first: 1,
+        last: 24,
+    })?;
+    events.push(Event::Resumed {
+        border: 2,
+        first: 5,
+        last: 6,
+    })?;
+    events.push(Event::Gated {
+        hour: 6,
+        phase: Phase::Closed,
+    })?;
+    Ok(())
+}
+
+#[test]
+fn events_of_each_form_are_copied(rt: HostRuntime) -> Result<(), Fail> {
+    let mut events = Events::new(rt.alloc());
+    push_orders(rt.alloc(), &mut events)?;
+    push_changes(&mut events)?;
     assert!(rt; events.copy()? == events);
     Ok(())
 }

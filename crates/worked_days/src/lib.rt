@@ -11,6 +11,8 @@ mod copy_tests;
 #[cfg(test)]
 mod graph_tests;
 #[cfg(test)]
+mod journal_tests;
+#[cfg(test)]
 mod order_tests;
 #[cfg(test)]
 mod peak_tests;

@@ -6,8 +6,8 @@ ghost use Rattle.std.specs.Io.KnownBytes.{Appends, Consumes, IsAtEnd};
 ghost use Rattle.outside.specs.Faults.{Rose};
 
 use outside::{
-    BytesSink, BytesSource, Failed, Gate, NoMemory, NullSink, OpenGate, ReadSource, Sink, Source,
-    SteadySource, WriteSink,
+    BytesSink, BytesSource, Failed, NoMemory, NullSink, ReadSource, Sink, Source, SteadySource,
+    WriteSink,
 };
 use std::alloc::{AllocError, Global};
 use std::io;
@@ -177,11 +177,4 @@ fn sinks_take_their_bytes(rt: HostRuntime) -> Result<(), Fail> {
 
     assert_eq!(rt; write_whole(&mut NullSink::new(), b"abcdefgh"), Ok(()));
     Ok(())
-}
-
-#[test]
-fn an_open_gate_lets_all_pass() {
-    let gate = OpenGate;
-    gate.planned(3);
-    gate.answered(3);
 }

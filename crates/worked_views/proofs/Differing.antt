@@ -14,7 +14,7 @@ use Rattle.market_model.specs.Board.{BoardState, IsHourOf}
 use Rattle.market_model.specs.Lines.{line}
 use Rattle.market_model.specs.Orders.{Standing}
 use Rattle.market_model.specs.View.{view}
-use Rattle.market_locality.proofs.Restrict.{filter-same}
+use Rattle.market_laws.proofs.Restrict.{filter-same}
 use Rattle.plain_view.specs.declared.maker.Maker.{Maker}
 use Rattle.plain_view.specs.Depth.{maker_of}
 use Rattle.view_near.specs.Nearby.{DifferWithin, is_elsewhere, is_within}

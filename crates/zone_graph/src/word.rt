@@ -104,7 +104,7 @@ impl From<Vec<u8>> for Text {
 /// A list of names, in the order of their declaration.
 pub type Names = Sequence<Word>;
 
-/// Whether bytes are a name: 1 to 16 letters, digits, low lines and hyphens of ASCII.
+/// Whether bytes are a name: 1 to 16 letters, digits, underscores and hyphens of ASCII.
 pub fn is_name(bytes: &[u8]) -> bool
     ensures { IsTrue result ↔ IsName bytes.now }
 {

@@ -1,6 +1,6 @@
 use Rattle.market_model.specs.History.{journal_events}
 use Rattle.market_model.specs.Market.{run_by}
-use Rattle.history_bounds.proofs.Desk.{few-open}
+use Rattle.market_laws.proofs.HoursAlone.{few-open}
 use Rattle.market_laws.proofs.Journals.{run-history}
 use Rattle.book_lines.proofs.WholeBooks.{book-is_book}
 use Rattle.book_lines.proofs.lines.runs_keep_books.Goals as goal

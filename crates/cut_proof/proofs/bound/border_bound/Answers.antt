@@ -10,21 +10,21 @@ pub loop-border-preserved : goal.loop-border-preserved
 loop-border-preserved c =
     let held = subst (HoldsZones c.of-inside.result.bits) c.as_slice.ensures c.of-inside.ensures in
     let known = c.loop-border-test.true in
-    let ends : AreEnds c.args.grid.now c.args.zones.now c.loop-border.border c.has-starts_inside.result c.has-ends_inside.result =
-    ends_held c.args.grid.now c.args.zones.now c.of-inside.result.bits c.loop-border.border c.ends-first.result.0 c.ends-first.result.1 c.has-starts_inside.result c.has-ends_inside.result
+    let ends : AreEnds c.args.grid.now c.args.zones.now c.loop-border.border c.contains-starts_inside.result c.contains-ends_inside.result =
+    ends_held c.args.grid.now c.args.zones.now c.of-inside.result.bits c.loop-border.border c.ends-first.result.0 c.ends-first.result.1 c.contains-starts_inside.result c.contains-ends_inside.result
     c.ends-first.ensures.grid (omega (arith, known, c.borders-borders.ensures.count)) held
-    (ap (λ p. p.0) c.ends-first.ensures.ends) (ap (λ p. p.1) c.ends-first.ensures.ends) c.has-starts_inside.ensures c.has-ends_inside.ensures in
+    (ap (λ p. p.0) c.ends-first.ensures.ends) (ap (λ p. p.1) c.ends-first.ensures.ends) c.contains-starts_inside.ensures c.contains-ends_inside.ensures in
     elim c.if-starts_inside-ends_inside.branch [
       | then-starts_inside-ends_inside w ↦
           let more = room_over_crossing c.args.grid.now (room_of c.args.rooms.now) c.args.zones.now c.args.towards c.loop-border.border
-          c.has-starts_inside.result c.has-ends_inside.result ends w.if-starts_inside-ends_inside.true in
+          c.contains-starts_inside.result c.contains-ends_inside.result ends w.if-starts_inside-ends_inside.true in
           record {
             summed = omega (arith, w.sum-is, w.from-sum.ensures, w.at.ensures, c.loop-border.invariant.summed, more);
             bounded = omega (arith, w.sum-is, w.from-sum.ensures, w.at.type_inv, c.loop-border.invariant.bounded);
           }
       | else-starts_inside-ends_inside w ↦
           let same = room_over_inner c.args.grid.now (room_of c.args.rooms.now) c.args.zones.now c.args.towards c.loop-border.border
-          c.has-starts_inside.result c.has-ends_inside.result ends w.if-starts_inside-ends_inside.false in
+          c.contains-starts_inside.result c.contains-ends_inside.result ends w.if-starts_inside-ends_inside.false in
           record {
             summed = w.sum-is ∙ c.loop-border.invariant.summed ∙ sym same;
             bounded = omega (arith, w.sum-is, c.loop-border.invariant.bounded);

@@ -1,5 +1,5 @@
 use Rattle.std.proofs.Common.{◌≡◌, false, length}
-use Rattle.block_lines.specs.BlocksOf.{blocks_of}
+use Rattle.book_lines.specs.BlocksOf.{blocks_of}
 use Rattle.joint_laws.specs.MatchingBlocks.{legs_of}
 use Rattle.desk_changes.specs.Planned.{after_events}
 use Rattle.desk_changes.specs.Quiet.{HasNoLeg}

@@ -9,8 +9,8 @@ use Rattle.market_model.specs.History.{enters, entered_count, events_of}
 use Rattle.market_model.specs.Market.{reply_to}
 use Rattle.market_model.specs.Naming.{IsEntryIn, IsReplyIn}
 use Rattle.session_journal.proofs.Journals.{IsNextEntry, IsPlayed, nothing-played, played-history, played-more}
-use Rattle.reply_bounds.proofs.Entered.{reply-enters-few}
-use Rattle.reply_bounds.proofs.Named.{reply-names}
+use Rattle.market_laws.proofs.ReplyEntries.{reply-enters-few}
+use Rattle.market_laws.proofs.ReplyNames.{reply-names}
 use Rattle.session_journal.proofs.Turns.{CountsTurns, CountsTurns-more, CountsTurns-none, turn_left}
 use Rattle.plain_play.proofs.journal.play.Goals as goal
 
@@ -39,8 +39,8 @@ command_at-command-requires-clause-given c =
     omega (arith, left, total, c.count-place.ensures.before)
 
 -- the history is that of a journal
-pub answer-requires-clause-history : goal.answer-requires-clause-history
-answer-requires-clause-history c =
+pub reply_and_append-requires-clause-history : goal.reply_and_append-requires-clause-history
+reply_and_append-requires-clause-history c =
     played-history c.args.setup.now (subst IsGraph c.requires.grid c.zones-zones.ensures.grid.is_graph) c.args.commands.now c.args.turns.now c.loop-turn.turn-index
     c.loop-turn.entries c.loop-turn.history c.loop-turn.invariant.played
 
@@ -66,9 +66,9 @@ loop-turn-preserved c =
       command = c.command_at-command.ensures.command ∙ ap Some (sym c.in_ok-copy.ensures);
       reply = reply;
     } in
-    let grew : c.answer.new.events ≡ c.loop-turn.history ++ events_of (reply_to setup c.loop-turn.history turn c.in_ok-copy.field-0) =
+    let grew : c.reply_and_append.new.events ≡ c.loop-turn.history ++ events_of (reply_to setup c.loop-turn.history turn c.in_ok-copy.field-0) =
     c.in_ok-reply.ensures.events ∙ ap (λ command. c.loop-turn.history ++ events_of (reply_to setup c.loop-turn.history turn command)) (sym c.in_ok-copy.ensures) in
-    let played = played-more setup c.args.commands.now turns i c.loop-turn.entries c.loop-turn.history c.answer.new.events entry before.played c.loop-turn-test.true next grew in
+    let played = played-more setup c.args.commands.now turns i c.loop-turn.entries c.loop-turn.history c.reply_and_append.new.events entry before.played c.loop-turn-test.true next grew in
     let events : List Event = events_of (reply_to setup c.loop-turn.history turn c.in_ok-copy.field-0) in
     let counts : entered_count (c.loop-turn.history ++ events) ≡ entered_count c.loop-turn.history + entered_count events =
     sum_by-append (λ happened. cond (enters happened) 1 0) c.loop-turn.history events in
@@ -76,7 +76,7 @@ loop-turn-preserved c =
     record {
       matched = rw c.count-place.ensures.after (length-set _ _ _ ∙ before.matched);
       counted = rw c.count-place.ensures.after (CountsTurns-more c.loop-turn.given turns i before.counted c.loop-turn-test.true given);
-      played = subst (λ entries. IsPlayed setup c.args.commands.now turns (i + 1) entries c.answer.new.events) (sym c.in_ok-push.ensures.ok) played;
+      played = subst (λ entries. IsPlayed setup c.args.commands.now turns (i + 1) entries c.reply_and_append.new.events) (sym c.in_ok-push.ensures.ok) played;
       few = subst (λ after. entered_count after ≤ 8 * (i + 1)) (sym grew) (omega (arith, counts, most, before.few));
       named = subst (λ entries. All (IsEntryIn setup) entries) (sym c.in_ok-push.ensures.ok)
           (All-push (IsEntryIn setup) c.loop-turn.entries entry before.named (record {

@@ -13,7 +13,7 @@ loop-number-preserved c =
     ap lots_of (c.remaining.ensures.value ∙ ap (λ row. rows.remaining row c.args.forward) c.row.ensures) in
     record {
       so_far = c.lesser-least.ensures.value
-          ∙ ap (λ b. if b then Some (option_map_or (λ least. min least c.remaining.result) c.loop-number.least c.remaining.result) else c.loop-number.least) c.has.ensures
+          ∙ ap (λ b. if b then Some (option_map_or (λ least. min least c.remaining.result) c.loop-number.least c.remaining.result) else c.loop-number.least) c.contains.ensures
           ∙ ap (λ lots. if has c.args.set c.loop-number.number then Some (option_map_or (λ least. min least lots) c.loop-number.least lots) else c.loop-number.least) lots
           ∙ least_of-more (has c.args.set) (λ number. lots_of (rows.remaining (row_in c.args.self.now number) c.args.forward)) c.loop-number.number c.loop-number.least (omega arith) c.loop-number.invariant.so_far;
       most = c.lesser-least.ensures.most;

@@ -1,8 +1,0 @@
-pub mod MarketBooks
-pub mod Kept
-pub mod Elsewhere
-pub mod EnteredAndWithdrawn
-pub mod DealsInBooks
-pub mod Partners
-pub mod Whole
-pub mod BlocksBesideLegs

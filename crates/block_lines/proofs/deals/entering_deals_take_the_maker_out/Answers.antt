@@ -1,5 +1,0 @@
-use Rattle.block_lines.proofs.DealsInBooks.{maker_out}
-use Rattle.block_lines.proofs.deals.entering_deals_take_the_maker_out.Goals as goal
-
-pub returns : goal.returns
-returns c = maker_out

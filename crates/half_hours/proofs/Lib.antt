@@ -1,2 +1,0 @@
-pub mod Halfless
-pub mod Without

@@ -1,5 +1,0 @@
-use Rattle.history_bounds.proofs.Desk.{few-open}
-use Rattle.history_bounds.proofs.bounds.few_are_open.Goals as goal
-
-pub returns : goal.returns
-returns c = λ setup parts turns hour is_setup. few-open setup is_setup parts turns hour

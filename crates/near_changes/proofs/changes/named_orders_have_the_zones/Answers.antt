@@ -1,5 +1,0 @@
-use Rattle.near_changes.proofs.Differing.{named_zones}
-use Rattle.near_changes.proofs.changes.named_orders_have_the_zones.Goals as goal
-
-pub returns : goal.returns
-returns c = named_zones

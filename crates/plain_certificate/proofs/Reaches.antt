@@ -1,0 +1,115 @@
+-- The zones in reach and the room across borders, where the rooms of the graph's arcs are the same.
+use Rattle.std.proofs.Common.{◌≡◌, inl, inr, ℕ, suc, zero, ◌+◌, ◌*◌, ◌≤◌, ◌&&◌, Bool, true, false, not, List, [], ◌∷◌, filter, flat_map, fold, length, map, min, sum_by, pos, ◌≤ℤ◌, ℤ, negsuc, refl, ap, arith, if◌then◌else◌}
+use Rattle.std.proofs.lemmas.Int.{ints}
+use Rattle.std.proofs.lemmas.List.Sums.{count_by-le-length, length-filter, sum_by-cons}
+use Rattle.std.specs.List.{range_with_len}
+use Rattle.std.specs.Option.{is_some}
+use Rattle.order_kinds.specs.declared.contract.Quarter.{Quarter}
+use Rattle.order_kinds.specs.declared.side.Side.{Side}
+use Rattle.order_kinds.specs.declared.side.Side.TheVariants.{Buy, Sell}
+use Rattle.order_kinds.specs.Same.{same_side}
+use Rattle.zone_graph.specs.declared.route.Arc.{Arc}
+use Rattle.zone_graph.specs.Graph.{Graph, HasArc, IsGraph, arcs_of, arcs_over, border_count, zone_count}
+use Rattle.zone_graph.specs.Reach.{enters, leaves, reaches}
+use Rattle.zone_graph.specs.Route.{IsIn}
+use Rattle.zone_graph.proofs.BestRoute.{best_route-rooms}
+use Rattle.zone_graph.proofs.Membership.{from_filter}
+use Rattle.zone_graph.proofs.Routes.{from_arcs_of}
+use Rattle.market_model.specs.declared.event.Event.{Event}
+use Rattle.market_model.specs.Capacity.{remaining}
+use Rattle.market_model.specs.Certificate.{room_across, zones_in_reach}
+use Rattle.market_model.specs.Room.{is_halted, is_open_phase, lots_of, phase_of, quarter_room, room}
+use Rattle.market_laws.proofs.Uses.{IsWithinOffers, remaining-within, within_offers}
+use Rattle.market_laws.proofs.Restrict.{filter-same}
+use Rattle.cut_proof.specs.Cut.{crossing_room, reached_zones}
+use Rattle.plain_capacity.specs.Hour.{IsLegalOver}
+
+-- ---- the same rooms
+
+sum-same : {X : Type 0} (f g : X → ℕ) (xs : List X) → ((x : X) → IsIn x xs → f x ≡ g x) → sum_by f xs ≡ sum_by g xs
+sum-same f g [] same = refl
+sum-same f g (x ∷ xs) same =
+    omega (arith, sum_by-cons f x xs, sum_by-cons g x xs, same x (inl refl), sum-same f g xs (λ y i. same y (inr i)))
+
+module _ (graph : Graph) (made rooms : Arc → ℕ) (same : (arc : Arc) → HasArc graph arc → made arc ≡ rooms arc) where
+  reaches-same : IsGraph graph → (from to : ℕ) → reaches graph made from to ≡ reaches graph rooms from to
+  reaches-same is from to = ap is_some (best_route-rooms graph made rooms from to is same)
+
+  pub reach-same : IsGraph graph → (side : Side) (zone : ℕ) → reached_zones graph made zone (same_side side Buy) ≡ zones_in_reach graph rooms side zone
+  reach-same is Buy zone =
+      filter-same (λ other. reaches graph made other zone) (λ other. reaches graph rooms other zone) (range_with_len 0 (zone_count graph)) (λ other i. reaches-same is other zone)
+  reach-same is Sell zone =
+      filter-same (λ other. reaches graph made zone other) (λ other. reaches graph rooms zone other) (range_with_len 0 (zone_count graph)) (λ other i. reaches-same is zone other)
+
+  crossing-same : (p : Arc → Bool) → sum_by made (filter p (arcs_of graph)) ≡ sum_by rooms (filter p (arcs_of graph))
+  crossing-same p = sum-same made rooms (filter p (arcs_of graph)) (λ arc i. same arc (from_arcs_of graph arc (from_filter p arc (arcs_of graph) i).0))
+
+  pub across-same : (side : Side) (zones : List ℕ) → crossing_room graph made zones (same_side side Buy) ≡ room_across graph rooms side zones
+  across-same Buy zones = crossing-same (enters graph zones)
+  across-same Sell zones = crossing-same (leaves graph zones)
+
+-- ---- how much room there can be
+
+sum-most : {X : Type 0} (f : X → ℕ) (most : ℕ) (xs : List X) → ((x : X) → f x ≤ most) → sum_by f xs ≤ length xs * most
+sum-most f most [] each = omega arith
+sum-most f most (x ∷ xs) each =
+    let one = each x in
+    let rest = sum-most f most xs each in
+    let sum = sum_by-cons f x xs in
+    let product : suc (length xs) * most ≡ most + length xs * most = grind arith in
+    omega arith
+
+lots_of-most : (z : ℤ) → z ≤ℤ pos 2000000 → lots_of z ≤ 2000000
+lots_of-most (pos n) h = omega (arith, ints)
+lots_of-most (negsuc n) h = omega arith
+
+chosen-most : (b : Bool) (lots : ℕ) → lots ≤ 2000000 → (if b then lots else 0) ≤ 2000000
+chosen-most true lots h = h
+chosen-most false lots h = omega arith
+
+fold-min-le : (n : ℕ) (ns : List ℕ) → fold min n ns ≤ n
+fold-min-le n [] = omega arith
+fold-min-le n (m ∷ ns) = let rest = fold-min-le (min n m) ns in omega arith
+
+module _ (events : List Event) (within : IsWithinOffers events) where
+  quarter-most : (arc : Arc) (quarter : Quarter) → quarter_room events arc quarter ≤ 2000000
+  quarter-most arc quarter =
+      chosen-most (is_open_phase (phase_of events quarter.hour) && not (is_halted events arc.border quarter.hour)) (lots_of (remaining events quarter arc))
+      (lots_of-most (remaining events quarter arc) (remaining-within events within quarter arc).1)
+
+  room-most : (quarters : List Quarter) (arc : Arc) → room events quarters arc ≤ 2000000
+  room-most [] arc = omega arith
+  room-most (quarter ∷ quarters) arc =
+      let one = quarter-most arc quarter in
+      let rest = fold-min-le (quarter_room events arc quarter) (map (quarter_room events arc) quarters) in
+      omega arith
+
+-- two arcs for each border
+arcs-length : (borders : List ℕ) → length (flat_map arcs_over borders) ≡ length borders * 2
+arcs-length [] = refl
+arcs-length (border ∷ borders) = let rest = arcs-length borders in omega arith
+
+range-length : (a n : ℕ) → length (range_with_len a n) ≡ n
+range-length a zero = refl
+range-length a (suc n) = let rest = range-length (a + 1) n in omega arith
+
+crossing-most : (graph : Graph) (rooms : Arc → ℕ) (p : Arc → Bool) → border_count graph ≤ 128 → ((arc : Arc) → rooms arc ≤ 2000000)
+    → sum_by rooms (filter p (arcs_of graph)) ≤ 256 * 2000000
+crossing-most graph rooms p few each =
+    let sum = sum-most rooms 2000000 (filter p (arcs_of graph)) each in
+    let kept = length-filter p (arcs_of graph) in
+    let passing = count_by-le-length p (arcs_of graph) in
+    let arcs = arcs-length (range_with_len 0 (border_count graph)) in
+    let borders = range-length 0 (border_count graph) in
+    omega arith
+
+pub across-most : (graph : Graph) (events : List Event) (quarters : List Quarter) (side : Side) (zones : List ℕ) → border_count graph ≤ 128 → IsLegalOver graph events
+    → room_across graph (room events quarters) side zones ≤ 256 * 2000000
+across-most graph events quarters side zones few legal = by side
+  where
+    each : (arc : Arc) → room events quarters arc ≤ 2000000
+    each arc = room-most events (within_offers legal.setup events legal.fit) quarters arc
+
+    by : (side : Side) → room_across graph (room events quarters) side zones ≤ 256 * 2000000
+    by Buy = crossing-most graph (room events quarters) (enters graph zones) few each
+    by Sell = crossing-most graph (room events quarters) (leaves graph zones) few each

@@ -1,0 +1,75 @@
+//! The rules in their order.
+
+ghost use Rattle.std.specs.Prelude.{◌≡◌, IfOk};
+ghost use Rattle.plain_capacity.specs.Hour.{IsLegalOver};
+ghost use Rattle.plain_orders.specs.Histories.{IsSomeHistory};
+ghost use Rattle.plain_refusals.specs.State as state;
+
+use crate::capacity::{refuse_offer, refuse_request};
+use crate::closing::{refuse_closed, refuse_gate};
+use crate::orders::{refuse_reduction, refuse_unknown};
+use market_model::{Command, Event, NoMemory, Refusal};
+use std::alloc::Global;
+use zone_graph::Grid;
+
+/// The first rule on the state of orders, hours and capacity that a command breaks: `None` exactly
+/// where it breaks none.
+///
+/// The rules are, in this order: a reduction lowers what is left, no hour that is concerned is closed,
+/// a gate leads to a later phase, there is an order of the caller's that the command can change, an
+/// offer is not below what flows, and a request finds room.
+///
+/// # Errors
+///
+/// [`NoMemory`], where there is no memory for the capacity of an hour.
+#[tactic(auto, unfolding(crate::specs::State::state_refusal, crate::specs::State::order_refusal, crate::specs::State::capacity_refusal))]
+pub fn refuse_by_state(
+    alloc: Global,
+    grid: &Grid,
+    events: &[Event],
+    caller: u32,
+    command: &Command,
+) -> Result<Option<Refusal>, NoMemory>
+    requires legal { IsLegalOver grid.now events.now }
+    ensures refusal { IfOk result (λ refusal. refusal ≡ state.state_refusal grid.now events.now caller command.now) }
+{
+    match refuse_by_orders(events, caller, command) {
+        Some(refusal) => Ok(Some(refusal)),
+        None => refuse_by_capacity(alloc, grid, events, command),
+    }
+}
+
+// The first broken rule on the state of orders and hours.
+#[tactic(auto, unfolding(crate::specs::State::order_refusal))]
+fn refuse_by_orders(events: &[Event], caller: u32, command: &Command) -> Option<Refusal>
+    requires { IsSomeHistory events.now }
+    ensures { result ≡ state.order_refusal events.now caller command.now }
+{
+    refuse_reduction(events, caller, command)
+        .or_else(|| refuse_closed(events, command))
+        .or_else(|| refuse_gate(events, command))
+        .or_else(|| refuse_unknown(events, caller, command))
+}
+
+// The first broken rule on capacity.
+#[tactic(auto, unfolding(crate::specs::State::capacity_refusal))]
+fn refuse_by_capacity(
+    alloc: Global,
+    grid: &Grid,
+    events: &[Event],
+    command: &Command,
+) -> Result<Option<Refusal>, NoMemory>
+    requires { IsLegalOver grid.now events.now }
+    ensures { IfOk result (λ refusal. refusal ≡ state.capacity_refusal grid.now events.now command.now) }
+{
+    match refuse_offer(alloc, grid, events, command)? {
+        Some(refusal) => Ok(Some(refusal)),
+        None => refuse_request(alloc, grid, events, command),
+    }
+}
+
+/// All rules are those that a command can break by itself, then these, then those on orders that are
+/// filled and on what rests.
+pub fn state_comes_second()
+    ensures { state.StateComesSecond }
+{}

@@ -1,5 +1,0 @@
-pub mod Entries
-pub mod Holding
-pub mod InTurn
-pub mod Kept
-pub mod Made

@@ -1,5 +1,0 @@
-use Rattle.quiet_parts.proofs.Hours.{hour-quiet}
-use Rattle.quiet_parts.proofs.quiet.takers_of_an_hour_leave_their_contract_quiet.Goals as goal
-
-pub returns : goal.returns
-returns c = hour-quiet

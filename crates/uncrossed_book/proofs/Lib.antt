@@ -1,4 +1,0 @@
-pub mod Commands
-pub mod Swept
-pub mod Uncrossed
-pub mod Whole
