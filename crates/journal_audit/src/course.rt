@@ -13,8 +13,9 @@ ghost use Rattle.market_text.specs.Session.{IsSession};
 ghost use Rattle.journal_audit.specs.Course.{IsCourse, IsNextLine};
 
 use crate::lines::caller_named;
+use event_history::History;
 use journal_print::print_entry;
-use market_model::{Command, Commands, Duplicate, Entries, Entry, Events, Setup};
+use market_model::{Command, Commands, Duplicate, Entries, Entry, Setup};
 use market_text::Session;
 use plain_market::reply_and_append;
 use std::alloc::Global;
@@ -25,7 +26,7 @@ use zone_graph::{Grid, NoMemory};
 #[derive(Drop)]
 pub(crate) struct Course {
     given: Counts,
-    history: Events,
+    history: History,
     entries: Entries,
 }
 
@@ -36,7 +37,7 @@ impl Course {
     {
         Ok(Course {
             given: Counts::new(alloc, callers)?,
-            history: Events::new(alloc),
+            history: History::new(alloc)?,
             entries: Entries::new(alloc),
         })
     }

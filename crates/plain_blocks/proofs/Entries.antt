@@ -124,17 +124,16 @@ module _ (graph : Graph) (events : List Event) (caller : ℕ) (order : BlockOrde
     pub line_is : line ≡ block_line (with_block events caller order) order.first order.last (opposite order.side)
 
   -- the history after the entry is put behind it
-  pub entered-new : (seen new : List Event) (given : OrderName) → seen ≡ events → given ≡ next_name seen order.first
+  pub entered-new : (new : List Event) (given : OrderName) → given ≡ next_name events order.first
       → new ≡ events ++ event.EnteredBlock given caller order ∷ [] → new ≡ with_block events caller order
-  entered-new seen new given of_seen of_given of_new =
-      of_new ∙ ap (λ n. events ++ event.EnteredBlock n caller order ∷ []) (of_given ∙ ap (λ h. next_name h order.first) of_seen)
+  entered-new new given of_given of_new = of_new ∙ ap (λ n. events ++ event.EnteredBlock n caller order ∷ []) of_given
 
-  pub ready : (new shown : List Event) (side : Side) (made listed seen sorted line : List StandingBlock) (found : StandingBlock)
-      → new ≡ with_block events caller order → shown ≡ new → made ≡ blocks_of shown order.first → listed ≡ made → seen ≡ made
+  pub ready : (new : List Event) (side : Side) (made listed seen sorted line : List StandingBlock) (found : StandingBlock)
+      → new ≡ with_block events caller order → made ≡ blocks_of new order.first → listed ≡ made → seen ≡ made
       → side ≡ opposite order.side → sorted ≡ block_line_of seen order.first order.last side → line ≡ sorted
       → found ≡ get_or listed (length listed - 1) found → IsReady new found line
-  ready new shown side made listed seen sorted line found of_new of_shown of_made of_listed of_seen of_side of_sorted of_line of_found =
-      let entered : made ≡ blocks_of (with_block events caller order) order.first = of_made ∙ ap (λ h. blocks_of h order.first) (of_shown ∙ of_new) in
+  ready new side made listed seen sorted line found of_new of_made of_listed of_seen of_side of_sorted of_line of_found =
+      let entered : made ≡ blocks_of (with_block events caller order) order.first = of_made ∙ ap (λ h. blocks_of h order.first) of_new in
       let some = entered-some listed (of_listed ∙ entered) in
       record {
         new_is = of_new;

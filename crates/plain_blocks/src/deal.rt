@@ -7,7 +7,8 @@ ghost use Rattle.plain_blocks.specs.Meeting as meeting;
 ghost use Rattle.plain_matching.specs.Grown.{Grew};
 
 use crate::pouring::pour;
-use market_model::{Events, NoMemory};
+use event_history::History;
+use market_model::NoMemory;
 use plain_matching::cut_back;
 use plain_orders::{StandingBlock, left};
 use std::alloc::Global;
@@ -24,7 +25,7 @@ use zone_graph::Grid;
 pub(crate) fn deal_with_first(
     alloc: Global,
     grid: &Grid,
-    events: &mut Events,
+    events: &mut History,
     own: &StandingBlock,
     line: &[StandingBlock],
 ) -> Result<bool, NoMemory>
@@ -46,7 +47,7 @@ pub(crate) fn deal_with_first(
 fn deal(
     alloc: Global,
     grid: &Grid,
-    events: &mut Events,
+    events: &mut History,
     own: &StandingBlock,
     other: &StandingBlock,
 ) -> Result<bool, NoMemory>
@@ -95,7 +96,7 @@ fn by_time(one: &StandingBlock, other: &StandingBlock) -> Ordering
 fn pour_whole(
     alloc: Global,
     grid: &Grid,
-    events: &mut Events,
+    events: &mut History,
     taker: &StandingBlock,
     maker: &StandingBlock,
 ) -> Result<bool, NoMemory>
@@ -106,7 +107,7 @@ fn pour_whole(
 {
     let mark = events.len();
     pour(alloc, grid, events, taker, maker)?;
-    let is_whole = left(events.as_slice(), taker.name()) == 0;
+    let is_whole = left(events, taker.name()) == 0;
     if !is_whole {
         cut_back(events, mark);
     }

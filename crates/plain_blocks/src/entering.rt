@@ -7,7 +7,8 @@ ghost use Rattle.plain_blocks.specs.Entering.{CanEnterBlock};
 ghost use Rattle.plain_matching.specs.Grown.{Grew};
 
 use crate::deal::deal_with_first;
-use market_model::{BlockOrder, Event, Events, NoMemory};
+use event_history::History;
+use market_model::{BlockOrder, Event, NoMemory};
 use plain_orders::{block_line, blocks_of, next_name};
 use std::alloc::Global;
 use zone_graph::Grid;
@@ -22,7 +23,7 @@ use zone_graph::Grid;
 pub fn take_block(
     alloc: Global,
     grid: &Grid,
-    events: &mut Events,
+    events: &mut History,
     caller: u32,
     order: &BlockOrder,
 ) -> Result<bool, NoMemory>
@@ -32,13 +33,13 @@ pub fn take_block(
     ensures ok { OnOk result (events.new ≡ blocks.with_block events.old caller order.now ++ blocks.legs_with grid.now (blocks.with_block events.old caller order.now) (blocks.entering_block events.old caller order.now) (blocks.partner_found grid.now events.old caller order.now)) }
     ensures err { OnErr result (Grew events.old events.new) }
 {
-    let name = next_name(events.as_slice(), order.first);
+    let name = next_name(events, order.first);
     events.push(Event::EnteredBlock {
         name,
         caller,
         order: *order,
     })?;
-    let entered = blocks_of(alloc, events.as_slice(), order.first)?;
+    let entered = blocks_of(alloc, events, order.first)?;
     let others = order.side.opposite();
     let line = block_line(alloc, entered.as_slice(), order.first, order.last, others)?;
     match entered.as_slice() {

@@ -11,7 +11,8 @@ ghost use Rattle.plain_blocks.specs.Meeting as meeting;
 ghost use Rattle.plain_capacity.specs.Hour.{IsLegalOver};
 ghost use Rattle.plain_matching.specs.Grown.{Grew};
 
-use market_model::{Event, Events, Leg, NoMemory, Route, Side};
+use event_history::History;
+use market_model::{Event, Leg, NoMemory, Route, Side};
 use plain_capacity::block_rooms;
 use plain_orders::{StandingBlock, left};
 use plain_routes::best_route;
@@ -30,7 +31,7 @@ use zone_graph::{Grid, Rooms};
 pub(crate) fn pour(
     alloc: Global,
     grid: &Grid,
-    events: &mut Events,
+    events: &mut History,
     taker: &StandingBlock,
     maker: &StandingBlock,
 ) -> Result<(), NoMemory>
@@ -39,7 +40,7 @@ pub(crate) fn pour(
     ensures err { OnErr result (Grew events.old events.new) }
     ensures legal { IsLegalOver grid.now events.new }
 {
-    while let Some(leg) = next_leg(alloc, grid, events.as_slice(), taker, maker)? {
+    while let Some(leg) = next_leg(alloc, grid, events, taker, maker)? {
         events.push(leg)?;
     }
     Ok(())
@@ -50,7 +51,7 @@ pub(crate) fn pour(
 fn next_leg(
     alloc: Global,
     grid: &Grid,
-    events: &[Event],
+    events: &History,
     taker: &StandingBlock,
     maker: &StandingBlock,
 ) -> Result<Option<Event>, NoMemory>

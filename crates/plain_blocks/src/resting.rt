@@ -9,7 +9,8 @@ ghost use Rattle.plain_blocks.specs.Meeting as meeting;
 ghost use Rattle.plain_matching.specs.Grown.{Grew};
 
 use crate::deal::deal_with_first;
-use market_model::{Events, NoMemory, Side};
+use event_history::History;
+use market_model::{NoMemory, Side};
 use plain_orders::{StandingBlock, block_line, blocks_of};
 use std::alloc::Global;
 use zone_graph::Grid;
@@ -24,7 +25,7 @@ use zone_graph::Grid;
 pub fn match_deals(
     alloc: Global,
     grid: &Grid,
-    events: &mut Events,
+    events: &mut History,
     first: u32,
     last: u32,
 ) -> Result<(), NoMemory>
@@ -41,7 +42,7 @@ pub fn match_deals(
 fn deal_next(
     alloc: Global,
     grid: &Grid,
-    events: &mut Events,
+    events: &mut History,
     first: u32,
     last: u32,
 ) -> Result<bool, NoMemory>
@@ -53,7 +54,7 @@ fn deal_next(
 {
     let zones = grid.zones();
     prove!(zones <= 64);
-    let resting = blocks_of(alloc, events.as_slice(), first)?;
+    let resting = blocks_of(alloc, events, first)?;
     let buys = block_line(alloc, resting.as_slice(), first, last, Side::Buy)?;
     let sells = block_line(alloc, resting.as_slice(), first, last, Side::Sell)?;
     deal_of_first(alloc, grid, events, buys.as_slice(), sells.as_slice())
@@ -64,7 +65,7 @@ fn deal_next(
 fn deal_of_first(
     alloc: Global,
     grid: &Grid,
-    events: &mut Events,
+    events: &mut History,
     buys: &[StandingBlock],
     sells: &[StandingBlock],
 ) -> Result<bool, NoMemory>

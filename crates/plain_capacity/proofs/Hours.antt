@@ -1,5 +1,5 @@
 -- The capacity of an hour, event by event.
-use Rattle.std.proofs.Common.{◌≡◌, ◌∙◌, ◌+◌, ◌<◌, ℕ, pos, zero, suc, Bool, true, false, List, [], ◌∷◌, ◌++◌, length, take, drop, get_or, replicate, unwrap_or, refl, sym, ap, subst, arith}
+use Rattle.std.proofs.Common.{◌≡◌, ◌∙◌, ◌+◌, ◌<◌, ℕ, pos, zero, suc, Bool, true, false, List, [], ◌∷◌, ◌++◌, length, take, get_or, replicate, unwrap_or, refl, sym, ap, subst, arith}
 use Rattle.std.proofs.lemmas.List.{length-replicate}
 use Rattle.std.proofs.Math.Seq.{take-append_seam}
 use Rattle.order_kinds.specs.declared.contract.Quarter.{Quarter}
@@ -13,12 +13,11 @@ use Rattle.market_model.specs.declared.setup.Setup.{Setup}
 use Rattle.market_model.specs.Grid.{graph_of}
 use Rattle.market_model.specs.History.{and_then}
 use Rattle.market_model.specs.Room.{halt_by, phase_by}
-use Rattle.market_model.specs.WellFormed.{FitAfter, Fits}
+use Rattle.market_model.specs.WellFormed.{Fits}
 use Rattle.market_laws.proofs.Capacities.{last_said-more}
-use Rattle.market_laws.proofs.Growing.{fit-back, fit-front}
-use Rattle.market_laws.proofs.Uses.{IsWithinOffers, within_offers}
+use Rattle.market_laws.proofs.Uses.{IsWithinOffers}
 use Rattle.plain_capacity.specs.Rows.{IsNoted, IsQuarterOf}
-use Rattle.plain_capacity.specs.Hour.{CanNoteIn, Capacity, HasBorder, IsCapacityOf, IsLegalOver, halted_at, idle, rows_in, size_of}
+use Rattle.plain_capacity.specs.Hour.{CanNoteIn, Capacity, HasBorder, IsCapacityOf, halted_at, idle, rows_in, size_of}
 use Rattle.plain_capacity.proofs.Legal.{can-note, noted-is}
 
 -- what is true of quarters 1 to 4 is true of each quarter
@@ -62,10 +61,9 @@ idle-is graph hour = record {
 
 -- ---- one more event
 
-module _ (graph : Graph) (setup : Setup) (before : List Event) (e : Event) (hour : ℕ) (capacity : Capacity) (over : graph ≡ graph_of setup)
-    (within : IsWithinOffers before) (fits : Fits setup before e) (is : IsCapacityOf graph before hour capacity) where
-  border-there : HasBorder (size_of capacity) hour e
-  border-there = by e fits
+module _ (graph : Graph) (before : List Event) (e : Event) (hour : ℕ) (capacity : Capacity) (is : IsCapacityOf graph before hour capacity) where
+  border-there : (setup : Setup) → graph ≡ graph_of setup → Fits setup before e → HasBorder (size_of capacity) hour e
+  border-there setup over fits = by e fits
     where
       there : (border : ℕ) → border < border_count (graph_of setup) → border < size_of capacity
       there border known =
@@ -86,13 +84,15 @@ module _ (graph : Graph) (setup : Setup) (before : List Event) (e : Event) (hour
       by (event.Withdrawn name lots) f = tt
       by (event.Reduced name less) f = tt
 
-  can-note-in : CanNoteIn hour e capacity
-  can-note-in = record {
+  -- an event that fits can count
+  pub can-note-in : (setup : Setup) → graph ≡ graph_of setup → IsWithinOffers before → Fits setup before e → CanNoteIn hour e capacity
+  can-note-in setup over within fits = record {
     quarters = λ number first last. can-note graph before (quarter_of hour number) (rows_in capacity number) (is.quarters number first last) setup e over within fits;
-    border = border-there;
+    border = border-there setup over fits;
   }
 
-  noted-in : (new : Capacity) → EachQuarter (λ number. IsNoted (quarter_of hour number) e (rows_in capacity number) (rows_in new number))
+  -- and then the capacity is that of the events with it
+  pub noted-in : (new : Capacity) → EachQuarter (λ number. IsNoted (quarter_of hour number) e (rows_in capacity number) (rows_in new number))
       → size_of new ≡ size_of capacity
       → ((border : ℕ) → border < size_of capacity → halted_at new border ≡ unwrap_or (halt_by border hour e) (halted_at capacity border))
       → new.phase ≡ unwrap_or (phase_by hour e) capacity.phase → IsCapacityOf graph (and_then before e) hour new
@@ -108,44 +108,12 @@ module _ (graph : Graph) (setup : Setup) (before : List Event) (e : Event) (hour
 
 -- ---- an event by its place among others
 
-split-at : (events : List Event) (i : ℕ) (e : Event) → i < length events → e ≡ get_or events i e → events ≡ take i events ++ e ∷ drop (i + 1) events
-split-at [] i e within is = absurd (omega arith)
-split-at (x ∷ events) zero e within is = cc
-split-at (x ∷ events) (suc i) e within is =
-    let rest = split-at events i e (omega arith) is in
-    let one : suc i + 1 ≡ suc (i + 1) = omega arith in
-    rw one (ap (λ l. x ∷ l) rest)
-
 pub take-more : (events : List Event) (i : ℕ) (e : Event) → i < length events → e ≡ get_or events i e → take (i + 1) events ≡ and_then (take i events) e
 take-more [] i e within is = absurd (omega arith)
 take-more (x ∷ events) zero e within is = cc
 take-more (x ∷ events) (suc i) e within is =
     let one : suc i + 1 ≡ suc (i + 1) = omega arith in
     rw one (ap (λ l. x ∷ l) (take-more events i e (omega arith) is))
-
-module _ (graph : Graph) (events : List Event) (legal : IsLegalOver graph events) (i : ℕ) (e : Event) (hour : ℕ) (capacity : Capacity)
-    (within : i < length events) (at : e ≡ get_or events i e) (is : IsCapacityOf graph (take i events) hour capacity) where
-  all-fit : FitAfter legal.setup [] (take i events ++ e ∷ drop (i + 1) events)
-  all-fit = subst (FitAfter legal.setup []) (split-at events i e within at) legal.fit
-
-  is-within : IsWithinOffers (take i events)
-  is-within = within_offers legal.setup (take i events) (fit-front legal.setup [] (take i events) (e ∷ drop (i + 1) events) all-fit)
-
-  fits-here : Fits legal.setup (take i events) e
-  fits-here = (fit-back legal.setup [] (take i events) (e ∷ drop (i + 1) events) all-fit).0
-
-  -- the next event can count
-  pub next-can : CanNoteIn hour e capacity
-  next-can = can-note-in graph legal.setup (take i events) e hour capacity legal.over is-within fits-here is
-
-  -- and then the capacity is that of the events with it
-  pub next-is : (new : Capacity) → EachQuarter (λ number. IsNoted (quarter_of hour number) e (rows_in capacity number) (rows_in new number))
-      → size_of new ≡ size_of capacity
-      → ((border : ℕ) → border < size_of capacity → halted_at new border ≡ unwrap_or (halt_by border hour e) (halted_at capacity border))
-      → new.phase ≡ unwrap_or (phase_by hour e) capacity.phase → IsCapacityOf graph (take (i + 1) events) hour new
-  next-is new quarters size halts phased =
-      subst (λ l. IsCapacityOf graph l hour new) (sym (take-more events i e within at))
-      (noted-in graph legal.setup (take i events) e hour capacity legal.over is-within fits-here is new quarters size halts phased)
 
 -- ---- rows that are written back
 

@@ -2,4 +2,5 @@ pub mod Takes
 pub mod Carries
 pub mod Legal
 pub mod Hours
+pub mod Near
 pub mod RoomLemmas

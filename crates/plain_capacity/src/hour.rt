@@ -12,6 +12,7 @@ ghost use Rattle.plain_capacity.specs.Hour as hours;
 
 use crate::phases::{is_within, phase_by};
 use crate::quarter::{idle_rows, note};
+use event_history::History;
 use market_model::Event;
 use order_kinds::{Part, Phase, Quarter};
 use quarter_capacity::QuarterRow;
@@ -233,14 +234,15 @@ fn note_halt(halted: &mut [bool], hour: u32, event: &Event)
 pub fn hour_capacity(
     alloc: Global,
     grid: &Grid,
-    events: &[Event],
+    events: &History,
     hour: u32,
 ) -> Result<HourCapacity, NoMemory>
     requires { hours.IsLegalOver grid.now events.now }
     ensures { IfOk result (hours.IsCapacityOf grid.now events.now hour) }
 {
+    let near = events.near(hour);
     let mut capacity = HourCapacity::new(alloc, grid)?;
-    for event in events {
+    for event in near {
         capacity.note(hour, event);
     }
     Ok(capacity)

@@ -4,15 +4,17 @@ ghost use Rattle.std.specs.Prelude.{◌≡◌, Some, None, if◌then◌else◌};
 ghost use Rattle.order_kinds.specs.Period as periods;
 ghost use Rattle.market_model.specs.Room as rooms;
 
+use event_history::History;
 use market_model::Event;
 use order_kinds::Phase;
 
 /// The phase of an hour after some events: that of its last gate, and open before the first.
-pub fn phase_of(events: &[Event], hour: u32) -> Phase
+pub fn phase_of(events: &History, hour: u32) -> Phase
     ensures { result ≡ rooms.phase_of events.now hour }
 {
+    let near = events.near(hour);
     let mut phase = Phase::Open;
-    for event in events {
+    for event in near {
         phase = phase_by(event, hour).unwrap_or(phase);
     }
     phase
@@ -20,11 +22,12 @@ pub fn phase_of(events: &[Event], hour: u32) -> Phase
 
 /// Whether a border is halted in an hour after some events: whether the last halt or resumption of
 /// the border in the hour is a halt.
-pub fn is_halted(events: &[Event], border: u32, hour: u32) -> bool
+pub fn is_halted(events: &History, border: u32, hour: u32) -> bool
     ensures { result ≡ rooms.is_halted events.now border hour }
 {
+    let near = events.near(hour);
     let mut halted = false;
-    for event in events {
+    for event in near {
         halted = halt_by(event, border, hour).unwrap_or(halted);
     }
     halted

@@ -10,7 +10,7 @@ ghost use Rattle.market_model.specs.Room as rooms;
 ghost use Rattle.plain_capacity.specs.Hour as hours;
 
 use crate::hour::hour_capacity;
-use market_model::Event;
+use event_history::History;
 use order_kinds::{Contract, Part};
 use std::alloc::Global;
 use zone_graph::{Grid, NoMemory, Rooms};
@@ -20,7 +20,7 @@ use zone_graph::{Grid, NoMemory, Rooms};
 pub fn contract_rooms(
     alloc: Global,
     grid: &Grid,
-    events: &[Event],
+    events: &History,
     contract: Contract,
 ) -> Result<Rooms, NoMemory>
     requires legal { hours.IsLegalOver grid.now events.now }
@@ -36,7 +36,7 @@ pub fn contract_rooms(
 pub fn block_rooms(
     alloc: Global,
     grid: &Grid,
-    events: &[Event],
+    events: &History,
     first: u32,
     last: u32,
 ) -> Result<Rooms, NoMemory>
@@ -53,7 +53,7 @@ pub fn block_rooms(
 }
 
 // The rooms of a whole hour.
-fn hour_rooms(alloc: Global, grid: &Grid, events: &[Event], hour: u32) -> Result<Rooms, NoMemory>
+fn hour_rooms(alloc: Global, grid: &Grid, events: &History, hour: u32) -> Result<Rooms, NoMemory>
     requires { hours.IsLegalOver grid.now events.now }
     ensures size { IfOk result (λ made. length made ≡ graphs.border_count grid.now) }
     ensures rooms { IfOk result (λ made. (arc : Arc) → graphs.HasArc grid.now arc → rows.room_of made arc ≡ rooms.room events.now (periods.hour_quarters hour) arc) }

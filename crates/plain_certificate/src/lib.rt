@@ -4,9 +4,7 @@
 //! All quantities are lots, tenths of a MW; all prices are cents per MWh.
 #![tactic(auto)]
 
-mod bound;
 mod crossing;
 mod unfilled;
 
-pub use bound::Certificate;
-pub use unfilled::certificate;
+pub use unfilled::{bound, zones_in_reach};

@@ -13,53 +13,25 @@ ghost use Rattle.market_model.specs.Room as rooms;
 ghost use Rattle.plain_capacity.specs.Hour.{IsLegalOver};
 ghost use Rattle.plain_certificate.specs.Crossing as crossing;
 
-use crate::bound::Certificate;
 use crate::crossing::crossing_lots_inside;
 use cut_proof::{border_bound, reach};
-use market_model::{Event, NoMemory, Order, Side, Zones};
+use event_history::History;
+use market_model::{NoMemory, Order, Side, Zones};
 use plain_capacity::contract_rooms;
 use plain_orders::{StandingOrder, line, orders_of};
 use std::alloc::Global;
 use zone_graph::Grid;
 
-/// The certificate of an order. `start` is the history with the order entered, `after` the same
-/// after its taking.
+/// The zones that an order's zone can still trade with after some events: those that a buy is reached
+/// from, those that a sell reaches.
 ///
 /// # Errors
 ///
-/// [`NoMemory`], where there is no memory for the rooms, the zones or the orders of the hour.
-pub fn certificate(
+/// [`NoMemory`], where there is no memory for the rooms or for the zones.
+pub fn zones_in_reach(
     alloc: Global,
     grid: &Grid,
-    start: &[Event],
-    after: &[Event],
-    order: &Order,
-) -> Result<Certificate, NoMemory>
-    requires start { IsLegalOver grid.now start.now }
-    requires after { IsLegalOver grid.now after.now }
-    requires few { entered_count start.now < 2 ^ 32 }
-    requires part { is_known order.now.contract.part ≡ true }
-    requires zone { HasZone grid.now order.now.zone }
-    ensures zones { IfOk result (λ made. made.zones ≡ certificates.zones_in_reach grid.now (rooms.room after.now (contract_quarters order.now.contract)) order.now.side order.now.zone) }
-    ensures bound { IfOk result (λ made. made.bound ≡ certificates.crossing_inside start.now order.now made.zones + certificates.room_across grid.now (rooms.room start.now (contract_quarters order.now.contract)) order.now.side made.zones) }
-    ensures within { IfOk result (λ made. All (HasZone grid.now) made.zones) }
-{
-    let zones = zones_in_reach(alloc, grid, after, order)?;
-    let line = opposite_line(alloc, grid, start, order)?;
-    let inside = crossing_lots_inside(line.as_slice(), order, &zones);
-    let across = room_across(alloc, grid, start, order, &zones)?;
-    Ok(Certificate {
-        zones,
-        bound: inside + across,
-    })
-}
-
-// The zones that the order's zone can still trade with after some events: those that a buy is
-// reached from, those that a sell reaches.
-fn zones_in_reach(
-    alloc: Global,
-    grid: &Grid,
-    events: &[Event],
+    events: &History,
     order: &Order,
 ) -> Result<Zones, NoMemory>
     requires legal { IsLegalOver grid.now events.now }
@@ -74,11 +46,36 @@ fn zones_in_reach(
     reach(alloc, grid, &rooms, order.zone, is_buy(order.side))
 }
 
+/// The most, in lots, that an order could obtain of some zones and from outside them after some events:
+/// what crosses its price inside the zones, and the room across their borders.
+///
+/// # Errors
+///
+/// [`NoMemory`], where there is no memory for the rooms or for the orders of the hour.
+pub fn bound(
+    alloc: Global,
+    grid: &Grid,
+    events: &History,
+    order: &Order,
+    zones: &Zones,
+) -> Result<u64, NoMemory>
+    requires legal { IsLegalOver grid.now events.now }
+    requires few { entered_count events.now < 2 ^ 32 }
+    requires part { is_known order.now.contract.part ≡ true }
+    requires zones { All (HasZone grid.now) zones.now }
+    ensures { IfOk result (λ bound. bound ≡ certificates.crossing_inside events.now order.now zones.now + certificates.room_across grid.now (rooms.room events.now (contract_quarters order.now.contract)) order.now.side zones.now) }
+{
+    let line = opposite_line(alloc, grid, events, order)?;
+    let inside = crossing_lots_inside(line.as_slice(), order, zones);
+    let across = room_across(alloc, grid, events, order, zones)?;
+    Ok(inside + across)
+}
+
 // The line of the order's contract on the other side.
 fn opposite_line(
     alloc: Global,
     grid: &Grid,
-    events: &[Event],
+    events: &History,
     order: &Order,
 ) -> Result<Vec<StandingOrder>, NoMemory>
     requires legal { IsLegalOver grid.now events.now }
@@ -101,7 +98,7 @@ fn opposite_line(
 fn room_across(
     alloc: Global,
     grid: &Grid,
-    events: &[Event],
+    events: &History,
     order: &Order,
     zones: &Zones,
 ) -> Result<u64, NoMemory>

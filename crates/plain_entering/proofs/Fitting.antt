@@ -103,11 +103,10 @@ rested-legal graph events kind name is legal = record {
 }
 
 -- the history with an order entered under the next name is legal
-pub entered-legal : (graph : Graph) (events slice new : List Event) (caller : ℕ) (order : Order) (name : OrderName) → CanEnter graph events caller (order ∷ [])
-    → name ≡ next_name slice order.contract.hour → slice ≡ events → new ≡ events ++ event.Entered name caller order ∷ [] → IsLegalOver graph new
-entered-legal graph events slice new caller order name can is_name is_slice is_new =
-    subst (IsLegalOver graph)
-    (sym (is_new ∙ ap (λ n. events ++ event.Entered n caller order ∷ []) (is_name ∙ ap (λ history. next_name history order.contract.hour) is_slice)))
+pub entered-legal : (graph : Graph) (events new : List Event) (caller : ℕ) (order : Order) (name : OrderName) → CanEnter graph events caller (order ∷ [])
+    → name ≡ next_name events order.contract.hour → new ≡ events ++ event.Entered name caller order ∷ [] → IsLegalOver graph new
+entered-legal graph events new caller order name can is_name is_new =
+    subst (IsLegalOver graph) (sym (is_new ∙ ap (λ n. events ++ event.Entered n caller order ∷ []) is_name))
     (start-legal graph events caller order can)
 
 pub taken-legal : (graph : Graph) (events : List Event) (caller : ℕ) (order : Order) (start after : List Event) (name : OrderName)

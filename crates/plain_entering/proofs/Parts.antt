@@ -1,6 +1,7 @@
 -- The parts of a history that an order's entry, its legs and what follows them make.
-use Rattle.std.proofs.Common.{◌≡◌, ◌∙◌, ℕ, ◌+◌, ◌<◌, ◌^◌, ◌-◌, List, [], ◌∷◌, ◌++◌, append_assoc, count_by, length, take as first, sym, ap, arith}
-use Rattle.std.proofs.lemmas.List.{length-append}
+use Rattle.std.proofs.Common.{◌≡◌, ◌∙◌, ℕ, ◌+◌, ◌<◌, ◌^◌, ◌-◌, inl, inr, List, [], ◌∷◌, ◌++◌, append_assoc, cond, count_by, length, take as first, refl, sym, ap, arith}
+use Rattle.std.proofs.lemmas.List.{append-nil, length-append}
+use Rattle.std.proofs.lemmas.List.Sums.{sum_by-append}
 use Rattle.std.proofs.Math.Seq.{take-append_seam}
 use Rattle.order_kinds.specs.declared.contract.Part.{Part}
 use Rattle.order_kinds.specs.declared.order.Order.{Order}
@@ -9,10 +10,12 @@ use Rattle.zone_graph.specs.Graph.{Graph}
 use Rattle.market_model.specs.declared.event.Event.{Event}
 use Rattle.market_model.specs.declared.event.Event.TheVariants as event
 use Rattle.market_model.specs.Entering.{after_taking, enter, legs_taken, name_of_next, rest_withdrawn, with_order}
-use Rattle.market_model.specs.History.{and_then, entered_count, enters_in}
+use Rattle.market_model.specs.History.{and_then, entered_count, enters, enters_in}
 use Rattle.market_model.specs.Orders.{left}
 use Rattle.market_model.specs.Sweep.{sweep}
+use Rattle.plain_matching.specs.Grown.{Grew}
 use Rattle.plain_orders.proofs.Found.{entered_in-few}
+use Rattle.plain_entering.specs.Entering.{IsCut}
 
 -- what stood before an event, with it, whatever follows
 pub start-is : (old : List Event) (e : Event) (legs : List Event) → first (length old + 1) (and_then old e ++ legs) ≡ and_then old e
@@ -60,14 +63,48 @@ pub record IsTaken (graph : Graph) (old : List Event) (caller : ℕ) (order : Or
   pub after_is : after ≡ after_taking graph old caller order
   pub name_is : name ≡ name_of_next old order
 
-pub taken : (graph : Graph) (old : List Event) (caller : ℕ) (order : Order) (new start after : List Event) (name : OrderName) (before : ℕ)
-    → before ≡ length old → name ≡ name_of_next old order → new ≡ after_taking graph old caller order → after ≡ new → start ≡ first (before + 1) after
-    → IsTaken graph old caller order start after name
-taken graph old caller order new start after name before is_before is_name is_new is_after is_start =
-    let all : after ≡ after_taking graph old caller order = is_after ∙ is_new in
-    record {
-      start_is = is_start ∙ ap (λ n. first (n + 1) after) is_before ∙ ap (first (length old + 1)) all
-          ∙ start-is old (event.Entered (name_of_next old order) caller order) (legs_taken graph old caller order);
-      after_is = all;
-      name_is = is_name;
-    }
+pub taken : (graph : Graph) (old : List Event) (caller : ℕ) (order : Order) (after : List Event) (name : OrderName) (before : ℕ)
+    → before ≡ length old → name ≡ name_of_next old order → after ≡ after_taking graph old caller order
+    → IsTaken graph old caller order (first (before + 1) after) after name
+taken graph old caller order after name before is_before is_name is_after = record {
+  start_is = ap (λ n. first (n + 1) after) is_before ∙ ap (first (length old + 1)) is_after
+      ∙ start-is old (event.Entered (name_of_next old order) caller order) (legs_taken graph old caller order);
+  after_is = is_after;
+  name_is = is_name;
+}
+
+-- one more has entered as its taking starts
+pub taken-few : (graph : Graph) (old : List Event) (caller : ℕ) (order : Order) (start after : List Event) (name : OrderName)
+    → IsTaken graph old caller order start after name → entered_count old < 2 ^ 32 - 1 → entered_count start < 2 ^ 32
+taken-few graph old caller order start after name is_taken few =
+    let entry : Event = event.Entered (name_of_next old order) caller order in
+    let all : entered_count start ≡ entered_count old + 1 =
+    ap entered_count is_taken.start_is ∙ sum_by-append (λ happened. cond (enters happened) 1 0) old (entry ∷ []) in
+    omega (arith, few, all)
+
+-- what stood before an order entered is what is left of the history when all after it is taken off,
+-- with the legs or without them
+pub taken-back : (graph : Graph) (old : List Event) (caller : ℕ) (order : Order) (after now : List Event) (name : OrderName) (before : ℕ)
+    → before ≡ length old → IsTaken graph old caller order (first (before + 1) after) after name → IsCut (before + 1) after now → first before now ≡ old
+taken-back graph old caller order after now name before is_before is_taken cut =
+    let entry : Event = event.Entered (name_of_next old order) caller order in
+    let back : (more : List Event) → first before (and_then old entry ++ more) ≡ old = λ more.
+    ap (λ n. first n (and_then old entry ++ more)) is_before ∙ ap (first (length old)) (append_assoc old (entry ∷ []) more)
+    ∙ take-append_seam old (entry ∷ more) in
+    elim cut [
+      | inl same ↦ ap (first before) (same ∙ is_taken.after_is) ∙ back (legs_taken graph old caller order)
+      | inr front ↦ ap (first before) (front ∙ is_taken.start_is ∙ sym (append-nil (and_then old entry))) ∙ back []
+    ]
+
+-- and a history that grew
+pub taken-grew : (graph : Graph) (old : List Event) (caller : ℕ) (order : Order) (start after now : List Event) (name : OrderName) (count : ℕ)
+    → start ≡ first count after → IsTaken graph old caller order start after name → IsCut count after now → Grew old now
+taken-grew graph old caller order start after now name count is_start is_taken cut =
+    let entry : List Event = event.Entered (name_of_next old order) caller order ∷ [] in
+    elim cut [
+      | inl same ↦ record {
+        more = entry ++ legs_taken graph old caller order;
+        grew = same ∙ is_taken.after_is ∙ append_assoc old entry (legs_taken graph old caller order);
+      }
+      | inr front ↦ record { more = entry; grew = front ∙ sym is_start ∙ is_taken.start_is }
+    ]

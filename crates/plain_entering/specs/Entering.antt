@@ -1,5 +1,5 @@
 -- Orders that can enter.
-use Rattle.std.specs.Prelude.{◌≡◌, ℕ, List, [], Option, Result, Ok, Some}
+use Rattle.std.specs.Prelude.{◌≡◌, ◌⊎◌, ℕ, List, [], take, Option, Result, Ok, Some}
 use Rattle.order_kinds.specs.declared.order.Order.{Order}
 use Rattle.zone_graph.specs.Graph.{Graph}
 use Rattle.zone_graph.specs.Route.{IsIn}
@@ -22,3 +22,7 @@ pub record CanEnter (graph : Graph) (events : List Event) (caller : ℕ) (orders
 -- where a command is refused, the history is as before
 abbrev pub StaysWhereRefused : Result (Option Refusal) NoMemory → (old new : List Event) → Type 0
 StaysWhereRefused result old new = (refusal : Refusal) → result ≡ Ok (Some refusal) → new ≡ old
+
+-- a history is as before, or only so many of its first events are left
+abbrev pub IsCut : (count : ℕ) → (old new : List Event) → Type 0
+IsCut count old new = (new ≡ old) ⊎ (new ≡ take count old)

@@ -13,7 +13,8 @@ ghost use Rattle.plain_matching.specs.Grown.{Grew};
 
 use crate::entering::{enter_and_take, enter_unrefused};
 use crate::judging::basket_unfilled;
-use market_model::{Events, NoMemory, Order, Refusal};
+use event_history::History;
+use market_model::{NoMemory, Order, Refusal};
 use plain_matching::cut_back;
 use std::alloc::Global;
 use zone_graph::Grid;
@@ -29,7 +30,7 @@ use zone_graph::Grid;
 pub fn enter_basket(
     alloc: Global,
     grid: &Grid,
-    events: &mut Events,
+    events: &mut History,
     caller: u32,
     orders: &[Order],
 ) -> Result<Option<Refusal>, NoMemory>
@@ -55,7 +56,7 @@ pub fn enter_basket(
 fn first_unfilled(
     alloc: Global,
     grid: &Grid,
-    events: &mut Events,
+    events: &mut History,
     caller: u32,
     orders: &[Order],
 ) -> Result<Option<Refusal>, NoMemory>
@@ -77,7 +78,7 @@ fn first_unfilled(
 fn unfilled_alone(
     alloc: Global,
     grid: &Grid,
-    events: &mut Events,
+    events: &mut History,
     caller: u32,
     order: &Order,
 ) -> Result<Option<Refusal>, NoMemory>
@@ -87,11 +88,9 @@ fn unfilled_alone(
     ensures kept { OnOk result (events.new ≡ events.old) }
     ensures err { OnErr result (Grew events.old events.new) }
 {
-    let before = events.len();
+    let before = events.as_slice().len();
     let name = enter_and_take(alloc, grid, events, caller, order)?;
-    let after = events.as_slice();
-    let (start, _) = after.split_at(before + 1);
-    let refusal = basket_unfilled(alloc, grid, start, after, name, order)?;
+    let refusal = basket_unfilled(alloc, grid, events, before + 1, name, order)?;
     cut_back(events, before);
     Ok(refusal)
 }
@@ -100,7 +99,7 @@ fn unfilled_alone(
 fn enter_all(
     alloc: Global,
     grid: &Grid,
-    events: &mut Events,
+    events: &mut History,
     caller: u32,
     orders: &[Order],
 ) -> Result<(), NoMemory>

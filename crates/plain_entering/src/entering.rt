@@ -14,7 +14,8 @@ ghost use Rattle.plain_matching.specs.Grown.{Grew};
 ghost use Rattle.plain_orders.specs.Histories.{IsSomeHistory};
 
 use crate::judging::refusal_after;
-use market_model::{Event, Events, Kind, NoMemory, Order, OrderName, Refusal};
+use event_history::History;
+use market_model::{Event, Kind, NoMemory, Order, OrderName, Refusal};
 use plain_matching::{cut_back, sweep, take};
 use plain_orders::{left, next_name};
 use std::alloc::Global;
@@ -32,7 +33,7 @@ use zone_graph::Grid;
 pub fn enter(
     alloc: Global,
     grid: &Grid,
-    events: &mut Events,
+    events: &mut History,
     caller: u32,
     order: &Order,
 ) -> Result<Option<Refusal>, NoMemory>
@@ -43,11 +44,9 @@ pub fn enter(
     ensures kept { StaysWhereRefused result events.old events.new }
     ensures err { OnErr result (Grew events.old events.new) }
 {
-    let before = events.len();
+    let before = events.as_slice().len();
     let name = enter_and_take(alloc, grid, events, caller, order)?;
-    let after = events.as_slice();
-    let (start, _) = after.split_at(before + 1);
-    match refusal_after(alloc, grid, start, after, name, order)? {
+    match refusal_after(alloc, grid, events, before + 1, name, order)? {
         Some(refusal) => {
             cut_back(events, before);
             Ok(Some(refusal))
@@ -68,7 +67,7 @@ pub fn enter(
 pub(crate) fn enter_unrefused(
     alloc: Global,
     grid: &Grid,
-    events: &mut Events,
+    events: &mut History,
     caller: u32,
     order: &Order,
 ) -> Result<(), NoMemory>
@@ -91,7 +90,7 @@ pub(crate) fn enter_unrefused(
 pub(crate) fn enter_and_take(
     alloc: Global,
     grid: &Grid,
-    events: &mut Events,
+    events: &mut History,
     caller: u32,
     order: &Order,
 ) -> Result<OrderName, NoMemory>
@@ -102,7 +101,7 @@ pub(crate) fn enter_and_take(
     ensures err { OnErr result (Grew events.old events.new) }
     ensures legal { OnOk result (IsLegalOver grid.now events.new) }
 {
-    let name = next_name(events.as_slice(), order.contract.hour);
+    let name = next_name(events, order.contract.hour);
     events.push(Event::Entered {
         name,
         caller,
@@ -117,7 +116,7 @@ pub(crate) fn enter_and_take(
 fn finish(
     alloc: Global,
     grid: &Grid,
-    events: &mut Events,
+    events: &mut History,
     name: OrderName,
     order: &Order,
 ) -> Result<(), NoMemory>
@@ -134,7 +133,7 @@ fn finish(
 
 // Withdraws what is left of an order, if it is immediate-or-cancel. Where there is no memory the events
 // stay as they were.
-fn withdraw_rest(events: &mut Events, name: OrderName, kind: Kind) -> Result<(), NoMemory>
+fn withdraw_rest(events: &mut History, name: OrderName, kind: Kind) -> Result<(), NoMemory>
     requires history { IsSomeHistory events.old }
     ensures ok { OnOk result (events.new ≡ events.old ++ market.rest_withdrawn kind name (orders.left events.old name)) }
     ensures err { OnErr result (events.new ≡ events.old) }
@@ -147,12 +146,12 @@ fn withdraw_rest(events: &mut Events, name: OrderName, kind: Kind) -> Result<(),
 
 // Withdraws what is left of an order, if there is something. Where there is no memory the events stay as
 // they were.
-fn withdraw(events: &mut Events, name: OrderName) -> Result<(), NoMemory>
+fn withdraw(events: &mut History, name: OrderName) -> Result<(), NoMemory>
     requires history { IsSomeHistory events.old }
     ensures ok { OnOk result (events.new ≡ events.old ++ market.rest_withdrawn Kind.Ioc name (orders.left events.old name)) }
     ensures err { OnErr result (events.new ≡ events.old) }
 {
-    match left(events.as_slice(), name) {
+    match left(events, name) {
         0 => Ok(()),
         lots => events.push(Event::Withdrawn { name, lots }),
     }

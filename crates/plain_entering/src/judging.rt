@@ -1,45 +1,51 @@
 //! Why an order is refused once its taking has ended.
 
-ghost use Rattle.std.specs.Prelude.{◌≡◌, ◌<◌, ◌^◌, true, IfOk};
+ghost use Rattle.std.specs.Prelude.{◌≡◌, ◌<◌, ◌^◌, true, Ok, None, IfOk, take};
 ghost use Rattle.order_kinds.specs.Contract as contracts;
 ghost use Rattle.zone_graph.specs.Graph.{HasZone};
 ghost use Rattle.market_model.specs.History.{entered_count};
 ghost use Rattle.plain_capacity.specs.Hour.{IsLegalOver};
+ghost use Rattle.plain_entering.specs.Entering.{IsCut};
 ghost use Rattle.plain_entering.specs.Judging as judged;
 ghost use Rattle.plain_orders.specs.Histories.{IsSomeHistory};
 
-use market_model::{Event, Kind, NoMemory, Order, OrderName, Refusal};
-use plain_certificate::{Certificate, certificate};
+use event_history::History;
+use market_model::{Kind, NoMemory, Order, OrderName, Refusal, Zones};
+use plain_certificate::{bound, zones_in_reach};
+use plain_matching::cut_back;
 use plain_orders::{has_desk_room, left};
 use std::alloc::Global;
 use zone_graph::Grid;
 
 /// Why an order that enters by itself is refused: it is fill-or-kill and not filled, or what rests of
-/// it has no room on the desk. `start` is the history with the order entered, `after` the same after
-/// its taking.
+/// it has no room on the desk. The events are those after its taking, the first of them, so many, those
+/// with the order entered. Where it is refused, or memory is wanting, its legs may be taken off.
 ///
 /// # Errors
 ///
-/// [`NoMemory`], where there is no memory for the certificate or for the open names of the hour.
+/// [`NoMemory`], where there is no memory for the zones in reach, for the orders of the hour or for its
+/// open names.
 pub(crate) fn refusal_after(
     alloc: Global,
     grid: &Grid,
-    start: &[Event],
-    after: &[Event],
+    events: &mut History,
+    entered: usize,
     name: OrderName,
     order: &Order,
 ) -> Result<Option<Refusal>, NoMemory>
-    requires start { IsLegalOver grid.now start.now }
-    requires after { IsLegalOver grid.now after.now }
-    requires few { entered_count start.now < 2 ^ 32 }
+    requires start { IsLegalOver grid.now (take entered events.old) }
+    requires after { IsLegalOver grid.now events.old }
+    requires few { entered_count (take entered events.old) < 2 ^ 32 }
     requires part { contracts.is_known order.now.contract.part ≡ true }
     requires zone { HasZone grid.now order.now.zone }
-    ensures { IfOk result (λ refusal. refusal ≡ judged.refusal_after grid.now start.now after.now name order.now) }
+    ensures refusal { IfOk result (λ refusal. refusal ≡ judged.refusal_after grid.now (take entered events.old) events.old name order.now) }
+    ensures kept { result ≡ Ok None → events.new ≡ events.old }
+    ensures cut { IsCut entered events.old events.new }
 {
     match order.kind {
-        Kind::Fok => unfilled(alloc, grid, start, after, name, order),
+        Kind::Fok => unfilled(alloc, grid, events, entered, name, order),
         Kind::Ioc => Ok(None),
-        Kind::Limit | Kind::Iceberg { .. } => desk_full(alloc, after, name),
+        Kind::Limit | Kind::Iceberg { .. } => desk_full(alloc, events, name),
     }
 }
 
@@ -47,50 +53,54 @@ pub(crate) fn refusal_after(
 fn unfilled(
     alloc: Global,
     grid: &Grid,
-    start: &[Event],
-    after: &[Event],
+    events: &mut History,
+    entered: usize,
     name: OrderName,
     order: &Order,
 ) -> Result<Option<Refusal>, NoMemory>
-    requires start { IsLegalOver grid.now start.now }
-    requires after { IsLegalOver grid.now after.now }
-    requires few { entered_count start.now < 2 ^ 32 }
+    requires start { IsLegalOver grid.now (take entered events.old) }
+    requires after { IsLegalOver grid.now events.old }
+    requires few { entered_count (take entered events.old) < 2 ^ 32 }
     requires part { contracts.is_known order.now.contract.part ≡ true }
     requires zone { HasZone grid.now order.now.zone }
-    ensures { IfOk result (λ refusal. refusal ≡ judged.unless_filled (λ zones bound. Refusal.Unfilled zones bound) grid.now start.now after.now name order.now) }
+    ensures refusal { IfOk result (λ refusal. refusal ≡ judged.unless_filled (λ zones bound. Refusal.Unfilled zones bound) grid.now (take entered events.old) events.old name order.now) }
+    ensures kept { result ≡ Ok None → events.new ≡ events.old }
+    ensures cut { IsCut entered events.old events.new }
 {
-    if left(after, name) == 0 {
+    if left(events, name) == 0 {
         return Ok(None);
     }
-    let Certificate { zones, bound } = certificate(alloc, grid, start, after, order)?;
+    let Certificate { zones, bound } = certificate_of(alloc, grid, events, entered, order)?;
     Ok(Some(Refusal::Unfilled { zones, bound }))
 }
 
-/// Why a basket is refused for one of its orders, which enters by itself: it is not filled. `start` is
-/// the history with the order entered, `after` the same after its taking.
+/// Why a basket is refused for one of its orders, which enters by itself: it is not filled. The events
+/// are those after its taking, the first of them, so many, those with the order entered. Where it is
+/// refused, or memory is wanting, its legs may be taken off.
 ///
 /// # Errors
 ///
-/// [`NoMemory`], where there is no memory for the certificate.
+/// [`NoMemory`], where there is no memory for the zones in reach or for the orders of the hour.
 pub(crate) fn basket_unfilled(
     alloc: Global,
     grid: &Grid,
-    start: &[Event],
-    after: &[Event],
+    events: &mut History,
+    entered: usize,
     name: OrderName,
     order: &Order,
 ) -> Result<Option<Refusal>, NoMemory>
-    requires start { IsLegalOver grid.now start.now }
-    requires after { IsLegalOver grid.now after.now }
-    requires few { entered_count start.now < 2 ^ 32 }
+    requires start { IsLegalOver grid.now (take entered events.old) }
+    requires after { IsLegalOver grid.now events.old }
+    requires few { entered_count (take entered events.old) < 2 ^ 32 }
     requires part { contracts.is_known order.now.contract.part ≡ true }
     requires zone { HasZone grid.now order.now.zone }
-    ensures { IfOk result (λ refusal. refusal ≡ judged.unless_filled (λ zones bound. Refusal.BasketUnfilled order.now.contract.hour zones bound) grid.now start.now after.now name order.now) }
+    ensures refusal { IfOk result (λ refusal. refusal ≡ judged.unless_filled (λ zones bound. Refusal.BasketUnfilled order.now.contract.hour zones bound) grid.now (take entered events.old) events.old name order.now) }
+    ensures cut { IsCut entered events.old events.new }
 {
-    if left(after, name) == 0 {
+    if left(events, name) == 0 {
         return Ok(None);
     }
-    let Certificate { zones, bound } = certificate(alloc, grid, start, after, order)?;
+    let Certificate { zones, bound } = certificate_of(alloc, grid, events, entered, order)?;
     Ok(Some(Refusal::BasketUnfilled {
         hour: order.contract.hour,
         zones,
@@ -98,12 +108,44 @@ pub(crate) fn basket_unfilled(
     }))
 }
 
-// Why an order that rests is refused: it has no room on the desk.
-fn desk_full(alloc: Global, after: &[Event], name: OrderName) -> Result<Option<Refusal>, NoMemory>
-    requires history { IsSomeHistory after.now }
-    ensures { IfOk result (λ refusal. refusal ≡ judged.unless_full after.now name) }
+// Why an order could not be filled: the zones that its taking could still reach at its end, and the
+// most that it could have obtained as it started.
+#[derive(Drop)]
+struct Certificate {
+    zones: Zones,
+    bound: u64,
+}
+
+// The certificate of an order that is not filled. Its legs are taken off, as its bound is that of the
+// start of its taking.
+fn certificate_of(
+    alloc: Global,
+    grid: &Grid,
+    events: &mut History,
+    entered: usize,
+    order: &Order,
+) -> Result<Certificate, NoMemory>
+    requires start { IsLegalOver grid.now (take entered events.old) }
+    requires after { IsLegalOver grid.now events.old }
+    requires few { entered_count (take entered events.old) < 2 ^ 32 }
+    requires part { contracts.is_known order.now.contract.part ≡ true }
+    requires zone { HasZone grid.now order.now.zone }
+    ensures zones { IfOk result (λ made. made.zones ≡ judged.zones_after grid.now events.old order.now) }
+    ensures bound { IfOk result (λ made. made.bound ≡ judged.most_from grid.now (take entered events.old) order.now made.zones) }
+    ensures cut { IsCut entered events.old events.new }
 {
-    if left(after, name) == 0 || has_desk_room(alloc, after, name)? {
+    let zones = zones_in_reach(alloc, grid, events, order)?;
+    cut_back(events, entered);
+    let bound = bound(alloc, grid, events, order, &zones)?;
+    Ok(Certificate { zones, bound })
+}
+
+// Why an order that rests is refused: it has no room on the desk.
+fn desk_full(alloc: Global, events: &History, name: OrderName) -> Result<Option<Refusal>, NoMemory>
+    requires history { IsSomeHistory events.now }
+    ensures { IfOk result (λ refusal. refusal ≡ judged.unless_full events.now name) }
+{
+    if left(events, name) == 0 || has_desk_room(alloc, events, name)? {
         return Ok(None);
     }
     Ok(Some(Refusal::DeskFull))

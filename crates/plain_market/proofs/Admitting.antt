@@ -1,16 +1,14 @@
 -- What is known of commands that no early rule and no rule on the state refuses, and which refusal each
 -- command has.
-use Rattle.std.proofs.Common.{◌≡◌, ◌∙◌, inl, inr, ℕ, ◌&&◌, true, List, [], ◌∷◌, ◌++◌, length, map, nat_lt, Option, Some, None, refl, sym, ap, subst, true≢false}
+use Rattle.std.proofs.Common.{◌≡◌, ◌∙◌, inl, inr, ℕ, ◌&&◌, true, List, [], ◌∷◌, ◌++◌, length, map, nat_lt, Option, Some, None, refl, sym, ap, subst}
 use Rattle.std.proofs.lemmas.Bool.{ltb-true, and_parts}
 use Rattle.std.specs.List.{list_all}
 use Rattle.order_kinds.specs.declared.contract.Contract.{Contract}
 use Rattle.order_kinds.specs.declared.order.BlockOrder.{BlockOrder}
-use Rattle.order_kinds.specs.declared.order.Kind.{Kind}
-use Rattle.order_kinds.specs.declared.order.Kind.TheVariants as kind
 use Rattle.order_kinds.specs.declared.order.Order.{Order}
 use Rattle.order_kinds.specs.declared.side.Side.{Side}
 use Rattle.order_kinds.specs.Contract.{is_known}
-use Rattle.order_kinds.specs.Order.{has_allowed_peaks, is_fill_or_kill}
+use Rattle.order_kinds.specs.Order.{is_fill_or_kill}
 use Rattle.order_kinds.specs.Period.{is_within}
 use Rattle.order_kinds.specs.Price.{lots_in_range, price_in_range}
 use Rattle.zone_graph.specs.Graph.{Graph, HasZone, zone_count}

@@ -82,13 +82,12 @@ desk_refusal-is graph events dealt caller order found is deals = go (partner_fou
         ∙ sym (rw e refl)
 
 -- the same of what is read of a history
-pub stays-answer : (graph : Graph) (events dealt before after : List Event) (caller : ℕ) (order : BlockOrder) (found stays : Bool) (name : OrderName)
-    → before ≡ events → name ≡ next_name before order.first → after ≡ dealt → stays ≡ (found || has_desk_room after name)
+pub stays-answer : (graph : Graph) (events dealt : List Event) (caller : ℕ) (order : BlockOrder) (found stays : Bool) (name : OrderName)
+    → name ≡ next_name events order.first → stays ≡ (found || has_desk_room dealt name)
     → found ≡ is_some (partner_found graph events caller order)
     → dealt ≡ with_block events caller order ++ legs_found graph events caller order
     → desk_answer stays ≡ block_desk_refusal graph events caller order
-stays-answer graph events dealt before after caller order found stays name is named then rests finds deals =
+stays-answer graph events dealt caller order found stays name named rests finds deals =
     ap desk_answer rests
-    ∙ ap (λ history. desk_answer (found || has_desk_room history name)) then
-    ∙ ap (λ n. desk_answer (found || has_desk_room dealt n)) (named ∙ ap (λ history. next_name history order.first) is)
+    ∙ ap (λ n. desk_answer (found || has_desk_room dealt n)) named
     ∙ desk_refusal-is graph events dealt caller order found finds deals

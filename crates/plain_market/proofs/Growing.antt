@@ -1,5 +1,5 @@
 -- Histories that grow.
-use Rattle.std.proofs.Common.{◌≡◌, ◌∙◌, List, [], ◌++◌, append_assoc, sym, ap}
+use Rattle.std.proofs.Common.{◌≡◌, List, [], ◌++◌, sym}
 use Rattle.std.proofs.lemmas.List.{append-nil}
 use Rattle.market_model.specs.declared.event.Event.{Event}
 use Rattle.plain_matching.specs.Grown.{Grew}

@@ -1,5 +1,6 @@
 pub mod Admitting
 pub mod BlockEntries
+pub mod Closings
 pub mod Empty
 pub mod Growing
 pub mod Happenings

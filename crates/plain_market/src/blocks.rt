@@ -10,7 +10,8 @@ ghost use Rattle.plain_blocks.specs.Entering.{CanEnterBlock};
 ghost use Rattle.plain_matching.specs.Grown.{Grew};
 ghost use Rattle.plain_orders.specs.Histories.{IsSomeHistory};
 
-use market_model::{BlockOrder, Event, Events, NoMemory, OrderName, Refusal};
+use event_history::History;
+use market_model::{BlockOrder, NoMemory, OrderName, Refusal};
 use plain_blocks::take_block;
 use plain_matching::{cut_back, sweeps};
 use plain_orders::{has_desk_room, next_name};
@@ -28,7 +29,7 @@ use zone_graph::Grid;
 pub(crate) fn enter_block(
     alloc: Global,
     grid: &Grid,
-    events: &mut Events,
+    events: &mut History,
     caller: u32,
     order: &BlockOrder,
 ) -> Result<Option<Refusal>, NoMemory>
@@ -42,9 +43,9 @@ pub(crate) fn enter_block(
     let zones = grid.zones();
     prove!(zones <= 64);
     let before = events.len();
-    let name = next_name(events.as_slice(), order.first);
+    let name = next_name(events, order.first);
     let found = take_block(alloc, grid, events, caller, order)?;
-    if may_stay(alloc, events.as_slice(), name, found)? {
+    if may_stay(alloc, events, name, found)? {
         sweeps(alloc, grid, events, order.first, order.last)?;
         Ok(None)
     } else {
@@ -54,7 +55,7 @@ pub(crate) fn enter_block(
 }
 
 // Whether a block may stay: it found a partner, or it has room on the desk.
-fn may_stay(alloc: Global, events: &[Event], name: OrderName, found: bool) -> Result<bool, NoMemory>
+fn may_stay(alloc: Global, events: &History, name: OrderName, found: bool) -> Result<bool, NoMemory>
     requires history { IsSomeHistory events.now }
     ensures { IfOk result (λ may. may ≡ (found || has_room events.now name)) }
 {

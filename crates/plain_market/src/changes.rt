@@ -19,7 +19,8 @@ ghost use Rattle.plain_orders.specs.Histories.{IsSomeHistory};
 
 use crate::border_events::{BorderEvent, border_event};
 use crate::gates::move_hour;
-use market_model::{Command, Event, Events, NoMemory, OrderName, Setup};
+use event_history::History;
+use market_model::{Command, Event, NoMemory, OrderName, Setup};
 use plain_blocks::match_deals;
 use plain_matching::sweeps;
 use plain_orders::left;
@@ -37,7 +38,7 @@ pub(crate) fn change(
     alloc: Global,
     grid: &Grid,
     setup: &Setup,
-    events: &mut Events,
+    events: &mut History,
     command: &Command,
 ) -> Result<(), NoMemory>
     requires grid { grid.now ≡ graph_of setup.now }
@@ -57,7 +58,7 @@ pub(crate) fn change(
 fn then_sweeps(
     alloc: Global,
     grid: &Grid,
-    events: &mut Events,
+    events: &mut History,
     happening: BorderEvent,
 ) -> Result<(), NoMemory>
     requires legal { IsLegalOver grid.now (and_then events.old happening.event) }
@@ -73,7 +74,7 @@ fn change_others(
     alloc: Global,
     grid: &Grid,
     setup: &Setup,
-    events: &mut Events,
+    events: &mut History,
     command: &Command,
 ) -> Result<(), NoMemory>
     requires grid { grid.now ≡ graph_of setup.now }
@@ -97,7 +98,7 @@ fn change_others(
 fn match_blocks(
     alloc: Global,
     grid: &Grid,
-    events: &mut Events,
+    events: &mut History,
     first: u32,
     last: u32,
 ) -> Result<(), NoMemory>
@@ -113,25 +114,25 @@ fn match_blocks(
 
 // Withdraws all that is left of an order or block.
 #[tactic(auto, using(crate::proofs::Growing::stays))]
-fn withdraw(events: &mut Events, name: OrderName) -> Result<(), NoMemory>
+fn withdraw(events: &mut History, name: OrderName) -> Result<(), NoMemory>
     requires history { IsSomeHistory events.old }
     ensures ok { OnOk result (events.new ≡ and_then events.old (event.Withdrawn name (orders.left events.old name))) }
     ensures err { OnErr result (Grew events.old events.new) }
 {
-    let lots = left(events.as_slice(), name);
+    let lots = left(events, name);
     events.push(Event::Withdrawn { name, lots })?;
     Ok(())
 }
 
 // Takes off an order all but some lots.
 #[tactic(auto, using(crate::proofs::Growing::stays))]
-fn reduce(events: &mut Events, name: OrderName, to: u32) -> Result<(), NoMemory>
+fn reduce(events: &mut History, name: OrderName, to: u32) -> Result<(), NoMemory>
     requires history { IsSomeHistory events.old }
     requires less { to ≤ orders.left events.old name }
     ensures ok { OnOk result (events.new ≡ and_then events.old (event.Reduced name (orders.left events.old name - to))) }
     ensures err { OnErr result (Grew events.old events.new) }
 {
-    let by = left(events.as_slice(), name) - to;
+    let by = left(events, name) - to;
     events.push(Event::Reduced { name, by })?;
     Ok(())
 }

@@ -8,6 +8,7 @@ ghost use Rattle.plain_capacity.specs.Hour.{IsLegalOver};
 ghost use Rattle.plain_matching.specs.Grown.{Grew};
 ghost use Rattle.plain_orders.specs.Histories.{IsSomeHistory};
 
+use event_history::History;
 use market_model::{Duplicate, Event, Events, NoMemory, Phase};
 use plain_matching::sweep;
 use plain_orders::withdrawals;
@@ -24,7 +25,7 @@ use zone_graph::Grid;
 pub(crate) fn move_hour(
     alloc: Global,
     grid: &Grid,
-    events: &mut Events,
+    events: &mut History,
     hour: u32,
     phase: Phase,
 ) -> Result<(), NoMemory>
@@ -33,14 +34,15 @@ pub(crate) fn move_hour(
     ensures ok { OnOk result (events.new ≡ events.old ++ market.gate all_parts grid.now hour phase events.old) }
     ensures err { OnErr result (Grew events.old events.new) }
 {
-    let done = gate_events(alloc, events.as_slice(), hour, phase)?;
-    append(events, done.as_slice())?;
+    let withdrawn = withdrawn_by(alloc, events, hour, phase)?;
+    events.push(Event::Gated { hour, phase })?;
+    append(events, withdrawn.as_slice())?;
     sweep(alloc, grid, events, hour)
 }
 
 // Puts events behind others.
 #[tactic(auto, using(crate::proofs::Growing::grows))]
-fn append(events: &mut Events, more: &[Event]) -> Result<(), NoMemory>
+fn append(events: &mut History, more: &[Event]) -> Result<(), NoMemory>
     ensures ok { OnOk result (events.new ≡ events.old ++ more.now) }
     ensures err { OnErr result (Grew events.old events.new) }
 {
@@ -50,17 +52,20 @@ fn append(events: &mut Events, more: &[Event]) -> Result<(), NoMemory>
     Ok(())
 }
 
-// The gate, and the withdrawals of the open orders and blocks that are named by an hour which it
-// closes, in order of entry.
-fn gate_events(alloc: Global, events: &[Event], hour: u32, phase: Phase) -> Result<Events, NoMemory>
+// The withdrawals of the open orders and blocks that are named by an hour, in order of entry, where a
+// gate closes it.
+fn withdrawn_by(
+    alloc: Global,
+    events: &History,
+    hour: u32,
+    phase: Phase,
+) -> Result<Events, NoMemory>
     requires history { IsSomeHistory events.now }
-    ensures { IfOk result (λ made. made ≡ event.Gated hour phase ∷ market.withdrawals events.now hour phase) }
+    ensures { IfOk result (λ made. made ≡ market.withdrawals events.now hour phase) }
 {
-    let mut made = Events::new(alloc);
-    made.push(Event::Gated { hour, phase })?;
     if phase == Phase::Closed {
-        let withdrawn = withdrawals(alloc, events, hour)?;
-        append(&mut made, withdrawn.as_slice())?;
+        withdrawals(alloc, events, hour)
+    } else {
+        Ok(Events::new(alloc))
     }
-    Ok(made)
 }

@@ -14,6 +14,7 @@ ghost use Rattle.plain_matching.specs.Grown.{Grew};
 
 use crate::blocks::enter_block;
 use crate::changes::change;
+use event_history::History;
 use market_model::{
     Command, Duplicate, Event, Events, NoMemory, Refusal, Reply, Setup, refuse_early,
 };
@@ -45,7 +46,7 @@ pub fn reply(
     requires few { entered_count events.now < 2 ^ 32 - 1 }
     ensures reply { IfOk result (λ reply. reply ≡ market.reply_to setup.now events.now caller command.now) }
 {
-    let mut history = events.copy()?;
+    let mut history = History::of(alloc, events.as_slice())?;
     reply_and_append(alloc, grid, setup, &mut history, caller, command)
 }
 
@@ -60,7 +61,7 @@ pub fn reply_and_append(
     alloc: Global,
     grid: &Grid,
     setup: &Setup,
-    events: &mut Events,
+    events: &mut History,
     caller: u32,
     command: &Command,
 ) -> Result<Reply, NoMemory>
@@ -76,7 +77,7 @@ pub fn reply_and_append(
     if let Some(refusal) = early {
         return Ok(Reply::Refused(refusal));
     }
-    let broken = refuse_by_state(alloc, grid, events.as_slice(), caller, command)?;
+    let broken = refuse_by_state(alloc, grid, events, caller, command)?;
     if let Some(refusal) = broken {
         return Ok(Reply::Refused(refusal));
     }
@@ -88,7 +89,7 @@ fn reply_to_let_in(
     alloc: Global,
     grid: &Grid,
     setup: &Setup,
-    events: &mut Events,
+    events: &mut History,
     caller: u32,
     command: &Command,
 ) -> Result<Reply, NoMemory>
@@ -106,7 +107,7 @@ fn reply_to_let_in(
         zone,
     } = command
     {
-        let rows = view(alloc, grid, events.as_slice(), *contract, *side, *zone)?;
+        let rows = view(alloc, grid, events, *contract, *side, *zone)?;
         return Ok(Reply::Seen(rows));
     }
     let before = events.len();
@@ -121,7 +122,7 @@ fn carry_out(
     alloc: Global,
     grid: &Grid,
     setup: &Setup,
-    events: &mut Events,
+    events: &mut History,
     caller: u32,
     command: &Command,
 ) -> Result<Option<Refusal>, NoMemory>

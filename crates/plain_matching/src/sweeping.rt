@@ -15,7 +15,8 @@ ghost use Rattle.plain_matching.specs.Over as over;
 
 use crate::partner::{first_crosses, partner};
 use crate::trade::resting_trade;
-use market_model::{Contract, Event, Events, NoMemory, Part, Side};
+use event_history::History;
+use market_model::{Contract, Event, NoMemory, Part, Side};
 use plain_capacity::contract_rooms;
 use plain_orders::{StandingOrder, line, orders_of};
 use std::alloc::Global;
@@ -28,13 +29,13 @@ use zone_graph::{Grid, Rooms};
 ///
 /// [`NoMemory`], where there is no memory for what the next leg is made from or for the leg: a first
 /// part of the legs then stands behind the events.
-pub fn sweep(alloc: Global, grid: &Grid, events: &mut Events, hour: u32) -> Result<(), NoMemory>
+pub fn sweep(alloc: Global, grid: &Grid, events: &mut History, hour: u32) -> Result<(), NoMemory>
     requires legal { IsLegalOver grid.now events.old }
     ensures ok { OnOk result (events.new ≡ events.old ++ market.sweep market.all_parts grid.now hour events.old) }
     ensures err { OnErr result (GrewByPart (market.sweep market.all_parts grid.now hour events.old) events.old events.new) }
     ensures legal { IsLegalOver grid.now events.new }
 {
-    while let Some(leg) = sweep_leg(alloc, grid, events.as_slice(), hour)? {
+    while let Some(leg) = sweep_leg(alloc, grid, events, hour)? {
         events.push(leg)?;
     }
     Ok(())
@@ -49,7 +50,7 @@ pub fn sweep(alloc: Global, grid: &Grid, events: &mut Events, hour: u32) -> Resu
 pub fn sweeps(
     alloc: Global,
     grid: &Grid,
-    events: &mut Events,
+    events: &mut History,
     first: u32,
     last: u32,
 ) -> Result<(), NoMemory>
@@ -73,7 +74,7 @@ pub fn sweeps(
 pub fn sweep_leg(
     alloc: Global,
     grid: &Grid,
-    events: &[Event],
+    events: &History,
     hour: u32,
 ) -> Result<Option<Event>, NoMemory>
     requires legal { IsLegalOver grid.now events.now }
@@ -99,7 +100,7 @@ pub fn sweep_leg(
 fn leg_in_parts(
     alloc: Global,
     grid: &Grid,
-    events: &[Event],
+    events: &History,
     orders: &[StandingOrder],
     hour: u32,
     parts: &[Part],
@@ -122,7 +123,7 @@ fn leg_in_parts(
 fn leg_in(
     alloc: Global,
     grid: &Grid,
-    events: &[Event],
+    events: &History,
     orders: &[StandingOrder],
     contract: Contract,
 ) -> Result<Option<Event>, NoMemory>

@@ -12,7 +12,8 @@ ghost use Rattle.plain_matching.specs.Over as over;
 
 use crate::partner::{has_crossing, partner};
 use crate::trade::trade;
-use market_model::{Event, Events, NoMemory, OrderName};
+use event_history::History;
+use market_model::{Event, NoMemory, OrderName};
 use plain_capacity::contract_rooms;
 use plain_orders::{StandingOrder, line, orders_of};
 use std::alloc::Global;
@@ -29,7 +30,7 @@ use zone_graph::Grid;
 pub fn take(
     alloc: Global,
     grid: &Grid,
-    events: &mut Events,
+    events: &mut History,
     name: OrderName,
 ) -> Result<(), NoMemory>
     requires legal { IsLegalOver grid.now events.old }
@@ -37,7 +38,7 @@ pub fn take(
     ensures err { OnErr result (GrewByPart (market.take grid.now events.old name) events.old events.new) }
     ensures legal { IsLegalOver grid.now events.new }
 {
-    while let Some(leg) = next_leg(alloc, grid, events.as_slice(), name)? {
+    while let Some(leg) = next_leg(alloc, grid, events, name)? {
         events.push(leg)?;
     }
     Ok(())
@@ -51,7 +52,7 @@ pub fn take(
 pub fn next_leg(
     alloc: Global,
     grid: &Grid,
-    events: &[Event],
+    events: &History,
     name: OrderName,
 ) -> Result<Option<Event>, NoMemory>
     requires legal { IsLegalOver grid.now events.now }
@@ -90,7 +91,7 @@ fn is_open_as(order: &StandingOrder, name: OrderName) -> bool
 fn leg_with_partner(
     alloc: Global,
     grid: &Grid,
-    events: &[Event],
+    events: &History,
     orders: &[StandingOrder],
     own: &StandingOrder,
 ) -> Result<Option<Event>, NoMemory>

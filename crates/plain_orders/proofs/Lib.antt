@@ -3,6 +3,7 @@ pub mod Found
 pub mod Histories
 pub mod LineLaws
 pub mod Listing
+pub mod Near
 pub mod Stable
 pub mod Taken
 pub mod Tells

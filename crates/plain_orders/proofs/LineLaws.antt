@@ -13,7 +13,7 @@ use Rattle.zone_graph.specs.Route.{IsIn}
 use Rattle.market_model.specs.declared.event.Event.{Event}
 use Rattle.market_model.specs.Blocks.{StandingBlock, block_line, block_priority_cmp, block_stands_in, is_of_period, standing_block}
 use Rattle.market_model.specs.Lines.{line, priority_cmp, stands_in}
-use Rattle.market_model.specs.Orders.{Placed, PlacedBlock, Standing, blocks_placed, is_open, placed, standing}
+use Rattle.market_model.specs.Orders.{Placed, PlacedBlock, blocks_placed, is_open, placed, standing}
 use Rattle.market_laws.proofs.Placed.{all_are_sound}
 use Rattle.market_laws.proofs.Tests.{same_contract-eq}
 use Rattle.market_laws.proofs.Restrict.{filter-filter}

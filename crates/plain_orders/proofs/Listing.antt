@@ -38,7 +38,7 @@ from-kept {X} test (Some y) x is = go (test y) refl is
     go false e k = absurd (cc)
 
 -- a filter of what is picked picks what is kept
-kept-filter : {X Y : Type 0} (pick : X → Option Y) (test : Y → Bool) (xs : List X) → filter_map (λ x. kept test (pick x)) xs ≡ filter test (filter_map pick xs)
+pub kept-filter : {X Y : Type 0} (pick : X → Option Y) (test : Y → Bool) (xs : List X) → filter_map (λ x. kept test (pick x)) xs ≡ filter test (filter_map pick xs)
 kept-filter pick test [] = refl
 kept-filter {X} {Y} pick test (x ∷ xs) = go (pick x) (kept-filter pick test xs)
   where

@@ -13,7 +13,7 @@ use Rattle.market_model.specs.declared.event.Event.{Event}
 use Rattle.market_model.specs.declared.event.Event.TheVariants as event
 use Rattle.market_model.specs.declared.setup.Setup.{Setup}
 use Rattle.market_model.specs.History.{and_then, enters_in, of_hour, touches}
-use Rattle.market_model.specs.Orders.{Placed, PlacedBlock, block_placed_by, blocks_placed, entered, entered_by, filled, left, placed, placed_by}
+use Rattle.market_model.specs.Orders.{Placed, PlacedBlock, block_placed_by, blocks_placed, entered, entered_by, filled, left, placed}
 use Rattle.market_model.specs.WellFormed.{BlockLegFits, FitAfter, LegFits}
 use Rattle.market_laws.proofs.Balances.{left-filled-taken_off, maker_has-leg, taker_has-leg}
 use Rattle.market_laws.proofs.Members.{from_filter_map}
@@ -21,7 +21,7 @@ use Rattle.market_laws.proofs.Names.{enters_as, names-once, times_entered}
 use Rattle.market_laws.proofs.Placed.{all_are_sound}
 use Rattle.market_laws.proofs.Soundness.{block_fault-none, lots_in_range-bounds, order_fault-none}
 use Rattle.market_laws.proofs.Tests.{same_name-refl}
-use Rattle.market_laws.proofs.Unique.{entered-is, entered-none, entered-order, enters-block_placed, enters-placed, one_block, one_order, times-some}
+use Rattle.market_laws.proofs.Unique.{entered-is, entered-none, entered-order, enters-block_placed, one_block, one_order, times-some}
 use Rattle.market_laws.proofs.Wholes.{other_name}
 use Rattle.plain_orders.specs.declared.tally.Change.{Change}
 use Rattle.plain_orders.specs.declared.tally.Change.TheVariants as change

@@ -24,7 +24,7 @@ use Rattle.market_laws.proofs.Placed.{from_picked-more}
 use Rattle.market_laws.proofs.States.{filled-more}
 use Rattle.market_laws.proofs.Tests.{same_name-eq}
 use Rattle.market_laws.proofs.Unique.{entered-none, enters-block_placed, enters-placed, order_is_no_block, times-some}
-use Rattle.market_laws.proofs.LocalStates.{blocks_placed-agree, filled-agree, left-agree, placed-agree}
+use Rattle.market_laws.proofs.LocalStates.{Agree, blocks_placed-agree, filled-agree, left-agree, placed-agree}
 use Rattle.plain_orders.specs.declared.tally.Tally.{Tally}
 use Rattle.plain_orders.specs.declared.tally.Change.TheVariants as change
 use Rattle.plain_orders.specs.Tallies.{Tells, after_event, changed, entering, name_in, traded}
@@ -52,25 +52,29 @@ block-elsewhere hour a b block same of_hour i =
     (from_filter (λ (o : PlacedBlock). nat_eq o.name.hour hour) block (blocks_placed b) (subst (IsIn block) same
     (IsIn-filter (λ (o : PlacedBlock). nat_eq o.name.hour hour) block (blocks_placed a) i (eq-eqb block.name.hour hour of_hour)))).0
 
-pub tells-elsewhere : (setup : Setup) (before : List Event) (e : Event) (hour number : ℕ) (tally : Tally) → Comes setup before e → touches hour e ≡ false
-    → Tells before (name_in hour number) tally → Tells (and_then before e) (name_in hour number) tally
-tells-elsewhere setup before e hour number tally comes is tells =
-    let agree = agree-elsewhere setup hour before e comes.fit comes.fit_more is in
+-- what is said of an hour after some events is said after any that agree with them on it
+pub tells-agree : (a b : List Event) (hour number : ℕ) (tally : Tally) → Agree (hour ∷ []) a b → Tells b (name_in hour number) tally
+    → Tells a (name_in hour number) tally
+tells-agree a b hour number tally agree tells =
     let name : OrderName = name_in hour number in
-    let after : List Event = and_then before e in
     let hour_of : (n : OrderName) → n ≡ name → n.hour ≡ hour = λ n s. ap (λ (m : OrderName). m.hour) s in
-    let order_before : (order : Placed) → IsIn order (placed after) → order.name ≡ name → IsIn order (placed before) =
-    λ order i s. order-elsewhere hour after before order (placed-agree (hour ∷ []) after before agree hour (inl refl)) (hour_of order.name s) i in
+    let order_there : (order : Placed) → IsIn order (placed a) → order.name ≡ name → IsIn order (placed b) =
+    λ order i s. order-elsewhere hour a b order (placed-agree (hour ∷ []) a b agree hour (inl refl)) (hour_of order.name s) i in
     record {
-      filled = tells.filled ∙ sym (filled-agree (hour ∷ []) after before agree name (inl refl));
-      left = tells.left ∙ sym (left-agree (hour ∷ []) after before agree name (inl refl));
-      order_moment = λ order i s. tells.order_moment order (order_before order i s) s
+      filled = tells.filled ∙ sym (filled-agree (hour ∷ []) a b agree name (inl refl));
+      left = tells.left ∙ sym (left-agree (hour ∷ []) a b agree name (inl refl));
+      order_moment = λ order i s. tells.order_moment order (order_there order i s) s
           ∙ sym (ap (last_place (gives_moment order)) (agree.same order.name.hour (inl (hour_of order.name s))));
-      order_kind = λ order i s. tells.order_kind order (order_before order i s) s;
+      order_kind = λ order i s. tells.order_kind order (order_there order i s) s;
       block_moment = λ block i s. tells.block_moment block
-          (block-elsewhere hour after before block (blocks_placed-agree (hour ∷ []) after before agree hour (inl refl)) (hour_of block.name s) i) s
+          (block-elsewhere hour a b block (blocks_placed-agree (hour ∷ []) a b agree hour (inl refl)) (hour_of block.name s) i) s
           ∙ sym (ap (last_place (enters_block block)) (agree.same block.name.hour (inl (hour_of block.name s))));
     }
+
+pub tells-elsewhere : (setup : Setup) (before : List Event) (e : Event) (hour number : ℕ) (tally : Tally) → Comes setup before e → touches hour e ≡ false
+    → Tells before (name_in hour number) tally → Tells (and_then before e) (name_in hour number) tally
+tells-elsewhere setup before e hour number tally comes is =
+    tells-agree (and_then before e) before hour number tally (agree-elsewhere setup hour before e comes.fit comes.fit_more is)
 
 -- ---- an event that touches the hour
 

@@ -1,5 +1,5 @@
 -- What the events come to of each order and block of an hour, by its number.
-use Rattle.std.specs.Prelude.{◌≡◌, ◌≢◌, ℕ, ◌+◌, ◌-◌, ◌<◌, ◌≤◌, ◌^◌, List, count_by, length, slice_index_or, if◌then◌else◌}
+use Rattle.std.specs.Prelude.{◌≡◌, ◌≢◌, ℕ, ◌+◌, ◌-◌, ◌<◌, ◌≤◌, ◌^◌, List, [], ◌∷◌, ◌++◌, count_by, length, slice_index_or, if◌then◌else◌}
 use Rattle.order_kinds.specs.declared.order.Kind.{Kind}
 use Rattle.order_kinds.specs.declared.order.Kind.TheVariants as kind
 use Rattle.order_kinds.specs.declared.order.OrderName.{OrderName}
@@ -64,6 +64,14 @@ changed (change.Falls lots) tally = record { filled = tally.filled; left = tally
 -- what a new order or block comes to
 abbrev pub entering : (left moment : ℕ) → Kind → Tally
 entering left moment kind = record { filled = 0; left = left; moment = moment; kind = kind }
+
+-- what nothing has entered comes to
+abbrev pub nothing : Tally
+nothing = entering 0 0 kind.Limit
+
+-- with a place for what an event enters by the hour
+abbrev pub with_place : (hour : ℕ) → Event → List Tally → List Tally
+with_place hour event tallies = if enters_in hour event then tallies ++ nothing ∷ [] else tallies
 
 -- what the order or block of a name comes to after an event, which has this place in its hour
 abbrev pub after_event : OrderName → (moment : ℕ) → Event → Tally → Tally

@@ -10,6 +10,7 @@ ghost use Rattle.plain_orders.specs.Listed as listed;
 use crate::placed::{PlacedBlock, PlacedOrder};
 use crate::standing::{StandingBlock, StandingOrder};
 use crate::tally::tallies_of;
+use event_history::History;
 use market_model::{Event, Events, NoMemory, OrderName};
 use std::alloc::Global;
 
@@ -18,13 +19,13 @@ use std::alloc::Global;
 /// # Errors
 ///
 /// [`NoMemory`], where there is no memory for the sums of the hour or for the list.
-pub fn orders_of(alloc: Global, events: &[Event], hour: u32) -> Result<Vec<StandingOrder>, NoMemory>
+pub fn orders_of(alloc: Global, events: &History, hour: u32) -> Result<Vec<StandingOrder>, NoMemory>
     requires history { IsSomeHistory events.now }
     ensures { IfOk result (λ made. made.items ≡ listed.orders_of events.now hour) }
 {
     let tallies = tallies_of(alloc, events, hour)?;
     let mut orders = Vec::new(alloc);
-    for event in events {
+    for event in events.near(hour) {
         match order_given(event, hour) {
             Some(placed) => {
                 let tally = tallies[placed.name().number as usize];
@@ -44,7 +45,7 @@ pub fn orders_of(alloc: Global, events: &[Event], hour: u32) -> Result<Vec<Stand
 /// [`NoMemory`], where there is no memory for the sums of the hour or for the list.
 pub fn blocks_of(
     alloc: Global,
-    events: &[Event],
+    events: &History,
     first: u32,
 ) -> Result<Vec<StandingBlock>, NoMemory>
     requires history { IsSomeHistory events.now }
@@ -52,7 +53,7 @@ pub fn blocks_of(
 {
     let tallies = tallies_of(alloc, events, first)?;
     let mut blocks = Vec::new(alloc);
-    for event in events {
+    for event in events.near(first) {
         match block_given(event, first) {
             Some(placed) => {
                 let tally = tallies[placed.name().number as usize];
@@ -69,13 +70,13 @@ pub fn blocks_of(
 /// # Errors
 ///
 /// [`NoMemory`], where there is no memory for the sums of the hour or for the names.
-pub fn open_names(alloc: Global, events: &[Event], hour: u32) -> Result<Vec<OrderName>, NoMemory>
+pub fn open_names(alloc: Global, events: &History, hour: u32) -> Result<Vec<OrderName>, NoMemory>
     requires history { IsSomeHistory events.now }
     ensures { IfOk result (λ made. made.items ≡ orders.open_names events.now hour) }
 {
     let tallies = tallies_of(alloc, events, hour)?;
     let mut names = Vec::new(alloc);
-    for event in events {
+    for event in events.near(hour) {
         match name_given(event, hour) {
             Some(name) => {
                 if tallies[name.number as usize].left > 0 {
@@ -94,13 +95,13 @@ pub fn open_names(alloc: Global, events: &[Event], hour: u32) -> Result<Vec<Orde
 /// # Errors
 ///
 /// [`NoMemory`], where there is no memory for the sums of the hour or for the events.
-pub fn withdrawals(alloc: Global, events: &[Event], hour: u32) -> Result<Events, NoMemory>
+pub fn withdrawals(alloc: Global, events: &History, hour: u32) -> Result<Events, NoMemory>
     requires history { IsSomeHistory events.now }
     ensures { IfOk result (λ made. made ≡ market.withdrawals events.now hour phase.Closed) }
 {
     let tallies = tallies_of(alloc, events, hour)?;
     let mut made = Events::new(alloc);
-    for event in events {
+    for event in events.near(hour) {
         match name_given(event, hour) {
             Some(name) => {
                 let lots = tallies[name.number as usize].left;

@@ -10,6 +10,7 @@ ghost use Rattle.plain_orders.specs.Owned as owned;
 use crate::hour::open_names;
 use crate::placed::{PlacedBlock, PlacedOrder};
 use crate::sums::left;
+use event_history::History;
 use market_model::{Event, NoMemory, OrderName};
 use std::alloc::Global;
 
@@ -17,24 +18,24 @@ use std::alloc::Global;
 pub const DESK_ROOM: usize = 4096;
 
 /// The order of this name, if it is open.
-pub fn open_order(events: &[Event], name: OrderName) -> Option<PlacedOrder>
+pub fn open_order(events: &History, name: OrderName) -> Option<PlacedOrder>
     requires history { IsSomeHistory events.now }
     ensures { result ≡ orders.open_order events.now name }
 {
     if left(events, name) > 0 {
-        placed_order(events, name)
+        placed_order(events.near(name.hour), name)
     } else {
         None
     }
 }
 
 /// The block of this name, if it is open.
-pub fn open_block(events: &[Event], name: OrderName) -> Option<PlacedBlock>
+pub fn open_block(events: &History, name: OrderName) -> Option<PlacedBlock>
     requires history { IsSomeHistory events.now }
     ensures { result ≡ orders.open_block events.now name }
 {
     if left(events, name) > 0 {
-        placed_block(events, name)
+        placed_block(events.near(name.hour), name)
     } else {
         None
     }
@@ -85,7 +86,7 @@ fn placed_block(events: &[Event], name: OrderName) -> Option<PlacedBlock>
 }
 
 /// The order of this name, if it is open, a plain limit order, and the caller's.
-pub fn own_limit(events: &[Event], caller: u32, name: OrderName) -> Option<PlacedOrder>
+pub fn own_limit(events: &History, caller: u32, name: OrderName) -> Option<PlacedOrder>
     requires history { IsSomeHistory events.now }
     ensures { result ≡ refusals.own_limit events.now caller name }
 {
@@ -96,7 +97,7 @@ pub fn own_limit(events: &[Event], caller: u32, name: OrderName) -> Option<Place
 }
 
 /// Whether the caller has an open order or block of this name.
-pub fn has_own(events: &[Event], caller: u32, name: OrderName) -> bool
+pub fn has_own(events: &History, caller: u32, name: OrderName) -> bool
     requires history { IsSomeHistory events.now }
     ensures { result ≡ refusals.has_own events.now caller name }
 {
@@ -111,7 +112,7 @@ pub fn has_own(events: &[Event], caller: u32, name: OrderName) -> bool
 /// # Errors
 ///
 /// [`NoMemory`], where there is no memory for the open names of the hour.
-pub fn has_desk_room(alloc: Global, events: &[Event], name: OrderName) -> Result<bool, NoMemory>
+pub fn has_desk_room(alloc: Global, events: &History, name: OrderName) -> Result<bool, NoMemory>
     requires history { IsSomeHistory events.now }
     ensures { IfOk result (λ has. has ≡ refusals.has_desk_room events.now name) }
 {

@@ -4,16 +4,17 @@ ghost use Rattle.std.specs.Prelude.{◌≡◌, ◌+◌};
 ghost use Rattle.market_model.specs.Orders as orders;
 ghost use Rattle.plain_orders.specs.Histories.{IsSomeHistory};
 
+use event_history::History;
 use market_model::{Event, Leg, OrderName};
 
 /// How much is left of an order or block, in lots: what was entered, less what is filled and what
 /// was taken off without a trade.
-pub fn left(events: &[Event], name: OrderName) -> u32
+pub fn left(events: &History, name: OrderName) -> u32
     requires history { IsSomeHistory events.now }
     ensures { result ≡ orders.left events.now name }
 {
     let mut left = 0;
-    for event in events {
+    for event in events.near(name.hour) {
         left = left + entered_lots(event, name) - lost_lots(event, name);
     }
     left

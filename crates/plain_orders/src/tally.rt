@@ -1,12 +1,13 @@
 //! The sums of the orders and blocks of one hour, taken in one pass over the events.
 
-ghost use Rattle.std.specs.Prelude.{◌≡◌, ℕ, ◌+◌, ◌<◌, [], IfOk, length, slice_index_or, if◌then◌else◌};
+ghost use Rattle.std.specs.Prelude.{◌≡◌, ℕ, ◌+◌, ◌<◌, IfOk, OnOk, length, slice_index_or, if◌then◌else◌};
 ghost use Rattle.market_model.specs.History as history;
 ghost use Rattle.market_model.specs.Orders as orders;
 ghost use Rattle.order_kinds.specs.Same.{same_name};
 ghost use Rattle.plain_orders.specs.Histories.{IsSomeHistory};
 ghost use Rattle.plain_orders.specs.Tallies as sums;
 
+use event_history::History;
 use market_model::{Event, Kind, NoMemory, OrderName};
 use std::alloc::Global;
 
@@ -112,18 +113,42 @@ fn ends_peak(kind: Kind, filled: u32) -> bool
 
 /// What the events come to of each order and block that is named by an hour, at its number in the
 /// hour: numbers count from 1, so the first place says nothing.
-pub(crate) fn tallies_of(alloc: Global, events: &[Event], hour: u32) -> Result<Vec<Tally>, NoMemory>
-    requires { IsSomeHistory events.now }
+pub(crate) fn tallies_of(alloc: Global, events: &History, hour: u32) -> Result<Vec<Tally>, NoMemory>
+    requires history { IsSomeHistory events.now }
     ensures size { IfOk result (λ made. length made.items ≡ sums.entered_in events.now hour + 1) }
     ensures tallies { IfOk result (λ made. sums.AreTallies events.now hour made.items) }
 {
-    let mut tallies = vec![in alloc; Tally::NOTHING; entered_in(events, hour) + 1]?;
-    take_all_in(tallies.as_mut_slice(), hour, events);
+    let mut tallies = vec![in alloc; Tally::NOTHING; 1]?;
+    let mut moment = 0;
+    for event in events.near(hour) {
+        if touches(event, hour) {
+            moment += 1;
+            make_place(&mut tallies, hour, event)?;
+            take_in(tallies.as_mut_slice(), hour, moment, event);
+        }
+    }
     Ok(tallies)
 }
 
+// Makes a place for what an event enters by the hour.
+fn make_place(tallies: &mut Vec<Tally>, hour: u32, event: &Event) -> Result<(), NoMemory>
+    ensures { OnOk result (tallies.new.items ≡ sums.with_place hour event.now tallies.old.items) }
+{
+    if enters_in(event, hour) {
+        tallies.push(Tally::NOTHING)?;
+    }
+    Ok(())
+}
+
 /// How many orders and blocks entered that are named by an hour.
-pub(crate) fn entered_in(events: &[Event], hour: u32) -> usize
+pub(crate) fn entered_in(events: &History, hour: u32) -> usize
+    ensures { result ≡ sums.entered_in events.now hour }
+{
+    count_entered(events.near(hour), hour)
+}
+
+// How many orders and blocks enter by some events.
+fn count_entered(events: &[Event], hour: u32) -> usize
     ensures { result ≡ sums.entered_in events.now hour }
 {
     events.iter().filter(|event| enters_in(event, hour)).count()
@@ -136,22 +161,6 @@ fn enters_in(event: &Event, hour: u32) -> bool
     match event {
         Event::Entered { name, .. } | Event::EnteredBlock { name, .. } => name.hour == hour,
         _ => false,
-    }
-}
-
-// Takes all events in, in order.
-fn take_all_in(tallies: &mut [Tally], hour: u32, events: &[Event])
-    requires history { IsSomeHistory events.now }
-    requires size { length tallies.old ≡ sums.entered_in events.now hour + 1 }
-    requires nothing { sums.AreTallies [] hour tallies.old }
-    ensures { sums.AreTallies events.now hour tallies.new }
-{
-    let mut moment = 0;
-    for event in events {
-        if touches(event, hour) {
-            moment += 1;
-            take_in(tallies, hour, moment, event);
-        }
     }
 }
 

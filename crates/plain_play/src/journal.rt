@@ -9,7 +9,8 @@ ghost use Rattle.market_model.specs.Naming.{IsEntryIn};
 ghost use Rattle.market_text.specs.Commands.{commands_of};
 ghost use Rattle.market_text.specs.Session.{IsSession};
 
-use market_model::{Command, Commands, Duplicate, Entries, Entry, Events, Setup};
+use event_history::History;
+use market_model::{Command, Commands, Duplicate, Entries, Entry, Setup};
 use market_text::Session;
 use plain_market::reply_and_append;
 use session_journal::grid_of;
@@ -60,7 +61,7 @@ fn play(
     let zones = grid.zones();
     prove!(zones <= 64);
     let mut given = Counts::new(alloc, commands.len())?;
-    let mut history = Events::new(alloc);
+    let mut history = History::new(alloc)?;
     let mut entries = Entries::new(alloc);
     for turn in turns {
         let place = given.count(*turn as usize);

@@ -1,5 +1,5 @@
 -- The first answer of the quarters of an hour that pass a test, one quarter after the other.
-use Rattle.std.proofs.Common.{◌≡◌, ℕ, suc, ◌+◌, ◌-◌, ◌≤◌, Bool, true, false, ◌∷◌, filter, map, Option, Some, None, refl, arith}
+use Rattle.std.proofs.Common.{◌≡◌, ℕ, ◌+◌, ◌-◌, ◌≤◌, Bool, true, false, filter, map, Option, Some, None, refl}
 use Rattle.std.specs.List.{range_with_len}
 use Rattle.order_kinds.specs.declared.contract.Quarter.{Quarter}
 use Rattle.order_kinds.specs.Period.{quarter_of}

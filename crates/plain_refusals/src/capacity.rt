@@ -8,7 +8,8 @@ ghost use Rattle.market_model.specs.Refusals as refusals;
 ghost use Rattle.plain_capacity.specs.Hour as hours;
 ghost use Rattle.plain_refusals.specs.Asked as range;
 
-use market_model::{Arc, Command, Event, NoMemory, Quarter, Refusal};
+use event_history::History;
+use market_model::{Arc, Command, NoMemory, Quarter, Refusal};
 use plain_capacity::{HourCapacity, hour_capacity};
 use std::alloc::Global;
 use zone_graph::Grid;
@@ -26,7 +27,7 @@ struct Asked {
 pub(crate) fn refuse_offer(
     alloc: Global,
     grid: &Grid,
-    events: &[Event],
+    events: &History,
     command: &Command,
 ) -> Result<Option<Refusal>, NoMemory>
     requires { hours.IsLegalOver grid.now events.now }
@@ -51,7 +52,7 @@ pub(crate) fn refuse_offer(
 pub(crate) fn refuse_request(
     alloc: Global,
     grid: &Grid,
-    events: &[Event],
+    events: &History,
     command: &Command,
 ) -> Result<Option<Refusal>, NoMemory>
     requires { hours.IsLegalOver grid.now events.now }
@@ -97,7 +98,7 @@ fn asked_between(
 fn first_below_flow(
     alloc: Global,
     grid: &Grid,
-    events: &[Event],
+    events: &History,
     offer: &Asked,
 ) -> Result<Option<Refusal>, NoMemory>
     requires legal { hours.IsLegalOver grid.now events.now }
@@ -154,7 +155,7 @@ fn below_flow(capacity: &HourCapacity, offer: &Asked, quarter: Quarter) -> Optio
 fn first_no_room(
     alloc: Global,
     grid: &Grid,
-    events: &[Event],
+    events: &History,
     request: &Asked,
 ) -> Result<Option<Refusal>, NoMemory>
     requires legal { hours.IsLegalOver grid.now events.now }

@@ -9,11 +9,12 @@ ghost use Rattle.market_model.specs.Refusals as refusals;
 ghost use Rattle.market_model.specs.Room.{is_closed_phase, phase_of};
 ghost use Rattle.market_model.specs.Rules as rules;
 
-use market_model::{Command, Event, Order, Phase, Refusal};
+use event_history::History;
+use market_model::{Command, Order, Phase, Refusal};
 use plain_capacity::phase_of;
 
 /// The refusal of a command that concerns a closed hour: gates and views are not asked.
-pub(crate) fn refuse_closed(events: &[Event], command: &Command) -> Option<Refusal>
+pub(crate) fn refuse_closed(events: &History, command: &Command) -> Option<Refusal>
     ensures { result ≡ option_map (λ hour. Refusal.Closed hour) (refusals.closed_hour events.now command.now) }
 {
     let hour = closed_hour(events, command)?;
@@ -21,7 +22,7 @@ pub(crate) fn refuse_closed(events: &[Event], command: &Command) -> Option<Refus
 }
 
 // The first closed hour of those that a command concerns.
-fn closed_hour(events: &[Event], command: &Command) -> Option<u32>
+fn closed_hour(events: &History, command: &Command) -> Option<u32>
     ensures { result ≡ refusals.closed_hour events.now command.now }
 {
     match command {
@@ -40,7 +41,7 @@ fn closed_hour(events: &[Event], command: &Command) -> Option<u32>
 }
 
 // The hour, if it is closed.
-fn if_closed(events: &[Event], hour: u32) -> Option<u32>
+fn if_closed(events: &History, hour: u32) -> Option<u32>
     ensures { result ≡ find (λ hour. is_closed_phase (phase_of events.now hour)) (hour ∷ []) }
 {
     if is_closed(events, hour) {
@@ -51,7 +52,7 @@ fn if_closed(events: &[Event], hour: u32) -> Option<u32>
 }
 
 // The first closed hour of a period.
-fn first_closed(events: &[Event], first: u32, last: u32) -> Option<u32>
+fn first_closed(events: &History, first: u32, last: u32) -> Option<u32>
     ensures { result ≡ find (λ hour. is_closed_phase (phase_of events.now hour)) (hours_from first last) }
 {
     for hour in first..=last {
@@ -63,7 +64,7 @@ fn first_closed(events: &[Event], first: u32, last: u32) -> Option<u32>
 }
 
 // The first closed hour of those of some orders.
-fn first_closed_of(events: &[Event], orders: &[Order]) -> Option<u32>
+fn first_closed_of(events: &History, orders: &[Order]) -> Option<u32>
     ensures { result ≡ find (λ hour. is_closed_phase (phase_of events.now hour)) (map (λ order. order.contract.hour) orders.now) }
 {
     orders
@@ -73,14 +74,14 @@ fn first_closed_of(events: &[Event], orders: &[Order]) -> Option<u32>
 }
 
 // Whether nothing is traded in an hour any more.
-fn is_closed(events: &[Event], hour: u32) -> bool
+fn is_closed(events: &History, hour: u32) -> bool
     ensures { result ≡ is_closed_phase (phase_of events.now hour) }
 {
     matches!(phase_of(events, hour), Phase::Closed)
 }
 
 /// The refusal of a gate that does not lead to a later phase.
-pub(crate) fn refuse_gate(events: &[Event], command: &Command) -> Option<Refusal>
+pub(crate) fn refuse_gate(events: &History, command: &Command) -> Option<Refusal>
     ensures { result ≡ refusals.gate_refusal events.now command.now }
 {
     match command {

@@ -8,7 +8,8 @@ ghost use Rattle.plain_refusals.specs.State as state;
 use crate::capacity::{refuse_offer, refuse_request};
 use crate::closing::{refuse_closed, refuse_gate};
 use crate::orders::{refuse_reduction, refuse_unknown};
-use market_model::{Command, Event, NoMemory, Refusal};
+use event_history::History;
+use market_model::{Command, NoMemory, Refusal};
 use std::alloc::Global;
 use zone_graph::Grid;
 
@@ -26,7 +27,7 @@ use zone_graph::Grid;
 pub fn refuse_by_state(
     alloc: Global,
     grid: &Grid,
-    events: &[Event],
+    events: &History,
     caller: u32,
     command: &Command,
 ) -> Result<Option<Refusal>, NoMemory>
@@ -41,7 +42,7 @@ pub fn refuse_by_state(
 
 // The first broken rule on the state of orders and hours.
 #[tactic(auto, unfolding(crate::specs::State::order_refusal))]
-fn refuse_by_orders(events: &[Event], caller: u32, command: &Command) -> Option<Refusal>
+fn refuse_by_orders(events: &History, caller: u32, command: &Command) -> Option<Refusal>
     requires { IsSomeHistory events.now }
     ensures { result ≡ state.order_refusal events.now caller command.now }
 {
@@ -56,7 +57,7 @@ fn refuse_by_orders(events: &[Event], caller: u32, command: &Command) -> Option<
 fn refuse_by_capacity(
     alloc: Global,
     grid: &Grid,
-    events: &[Event],
+    events: &History,
     command: &Command,
 ) -> Result<Option<Refusal>, NoMemory>
     requires { IsLegalOver grid.now events.now }

@@ -8,7 +8,8 @@ ghost use Rattle.plain_capacity.specs.Hour.{IsLegalOver};
 
 use crate::maker::makers_of;
 use crate::rows::{rows_filled, rows_of};
-use market_model::{Contract, Event, NoMemory, Rows, Side};
+use event_history::History;
+use market_model::{Contract, NoMemory, Rows, Side};
 use plain_capacity::contract_rooms;
 use plain_orders::{line, orders_of};
 use std::alloc::Global;
@@ -25,7 +26,7 @@ use zone_graph::Grid;
 pub fn view(
     alloc: Global,
     grid: &Grid,
-    events: &[Event],
+    events: &History,
     contract: Contract,
     side: Side,
     zone: u32,

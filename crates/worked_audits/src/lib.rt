@@ -9,4 +9,5 @@ mod audit_tests;
 mod divided_tests;
 #[cfg(test)]
 mod reply_tests;
+#[cfg(test)]
 mod sessions;

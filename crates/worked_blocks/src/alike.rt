@@ -1,6 +1,6 @@
 //! The deals of the matchers beside those that stand in a list of events.
 
-ghost use Rattle.std.specs.Prelude.{◌+◌, ◌≤◌, IfOk, length};
+ghost use Rattle.std.specs.Prelude.{◌≡◌, ◌+◌, ◌≤◌, IfOk, length, take};
 ghost use Rattle.block_match.specs.Meeting.{HaveZones};
 ghost use Rattle.plain_capacity.specs.Hour.{IsLegalOver};
 
@@ -8,10 +8,11 @@ use crate::books::{book_after, resting_block, rooms_after};
 use crate::tally::Tally;
 use block_book::BlockBook;
 use block_match::{BlockDeal, match_block, match_resting};
+use event_history::History;
 use market_model::{BlockOrder, Event, OrderName};
 use std::alloc::Global;
 use std::test::Fail;
-use zone_graph::{Grid, RouteLeg};
+use zone_graph::{Grid, NoMemory, RouteLeg};
 
 /// Whether a block that has just entered, as the event at a place, was dealt as the matcher has it
 /// over the book and the rooms before it entered: the legs behind its entry are those of its deal, and
@@ -23,20 +24,21 @@ use zone_graph::{Grid, RouteLeg};
 pub fn entry_is_alike(
     alloc: Global,
     grid: &Grid,
-    events: &[Event],
+    events: &History,
     place: usize,
     tally: &mut Tally,
 ) -> Result<bool, Fail>
     requires legal { IsLegalOver grid.now events.now }
     requires place { place ≤ length events.now }
 {
-    let (so_far, done) = events.split_at(place);
+    let (_, done) = events.as_slice().split_at(place);
     let [Event::EnteredBlock { name, order, .. }, legs @ ..] = done else {
         return Ok(false);
     };
-    let deal = deal_of_entry(alloc, grid, so_far, name.number, order)?;
+    let so_far = history_before(alloc, events, place)?;
+    let deal = deal_of_entry(alloc, grid, &so_far, name.number, order)?;
     let maker = deal.as_ref().map(|deal| deal.maker);
-    tally.count_passed(alloc, so_far, order, maker)?;
+    tally.count_passed(alloc, &so_far, order, maker)?;
     tally.count_routes(legs.len());
     Ok(match deal {
         Some(deal) => has_legs(&deal, order.first, order.last, legs),
@@ -44,11 +46,20 @@ pub fn entry_is_alike(
     })
 }
 
+// The events before a place.
+fn history_before(alloc: Global, events: &History, place: usize) -> Result<History, NoMemory>
+    requires { place ≤ length events.now }
+    ensures { IfOk result (λ made. made ≡ take place events.now) }
+{
+    let (before, _) = events.as_slice().split_at(place);
+    History::of(alloc, before)
+}
+
 // The deal of a block that enters after some events under a number.
 fn deal_of_entry(
     alloc: Global,
     grid: &Grid,
-    events: &[Event],
+    events: &History,
     number: u32,
     order: &BlockOrder,
 ) -> Result<Option<BlockDeal>, Fail>
@@ -73,7 +84,7 @@ fn deal_of_entry(
 pub fn deals_are_alike(
     alloc: Global,
     grid: &Grid,
-    events: &[Event],
+    events: &History,
     place: usize,
     first: u32,
     last: u32,
@@ -83,12 +94,13 @@ pub fn deals_are_alike(
     requires place { place ≤ length events.now }
     requires order { first ≤ last }
 {
-    let (before, _) = events.split_at(place);
-    let mut book = book_after(alloc, grid, before, first)?;
+    let before = history_before(alloc, events, place)?;
+    let mut book = book_after(alloc, grid, &before, first)?;
     let mut next = place;
     while next < events.len() {
-        let (so_far, done) = events.split_at(next);
-        let routes = legs_of_next(alloc, grid, so_far, done, &mut book, first, last)?;
+        let so_far = history_before(alloc, events, next)?;
+        let (_, done) = events.as_slice().split_at(next);
+        let routes = legs_of_next(alloc, grid, &so_far, done, &mut book, first, last)?;
         if routes == 0 {
             return Ok(false);
         }
@@ -107,7 +119,7 @@ pub fn deals_are_alike(
 fn legs_of_next(
     alloc: Global,
     grid: &Grid,
-    so_far: &[Event],
+    so_far: &History,
     done: &[Event],
     book: &mut BlockBook,
     first: u32,
@@ -144,7 +156,7 @@ fn take_out(grid: &Grid, book: &mut BlockBook, taker: u32, maker: u32)
 fn is_at_end(
     alloc: Global,
     grid: &Grid,
-    events: &[Event],
+    events: &History,
     book: &BlockBook,
     first: u32,
     last: u32,

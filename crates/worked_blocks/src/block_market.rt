@@ -7,9 +7,10 @@ ghost use Rattle.market_model.specs.Grid.{graph_of};
 
 use crate::alike::{deals_are_alike, entry_is_alike};
 use crate::tally::Tally;
+use event_history::History;
 use market_model::{
-    BlockOrder, Caller, Callers, Command, Duplicate, Event, Events, Names, Pairs, Quarter, Reply,
-    Role, Setup, Word,
+    BlockOrder, Caller, Callers, Command, Duplicate, Event, Names, Pairs, Quarter, Reply, Role,
+    Setup, Word,
 };
 use plain_market::reply_and_append;
 use std::alloc::Global;
@@ -32,7 +33,7 @@ pub struct BlockMarket {
     alloc: Global,
     grid: Grid,
     setup: Setup,
-    events: Events,
+    events: History,
 }
 
 impl Model for BlockMarket {
@@ -58,7 +59,7 @@ impl BlockMarket {
     {
         let setup = setup_of(alloc, zones, pairs)?;
         let grid = Grid::new(alloc, &setup.zones, &setup.borders)?;
-        let events = Events::new(alloc);
+        let events = History::new(alloc)?;
         Ok(BlockMarket {
             alloc,
             grid,
@@ -123,11 +124,10 @@ impl BlockMarket {
 
     // Whether the block whose entry is the event at a place was dealt as the matcher has it.
     fn entered_alike(&self, place: usize, tally: &mut Tally) -> Result<bool, Fail> {
-        let events = self.events.as_slice();
-        if events.len() < place {
+        if self.events.len() < place {
             return Err(Fail::from("no such event"));
         }
-        entry_is_alike(self.alloc, &self.grid, events, place, tally)
+        entry_is_alike(self.alloc, &self.grid, &self.events, place, tally)
     }
 
     // Whether the events from a place on are the deals of a period that the matcher has.
@@ -140,11 +140,18 @@ impl BlockMarket {
     ) -> Result<bool, Fail>
         requires { first ≤ last }
     {
-        let events = self.events.as_slice();
-        if events.len() < place {
+        if self.events.len() < place {
             return Err(Fail::from("no such event"));
         }
-        deals_are_alike(self.alloc, &self.grid, events, place, first, last, tally)
+        deals_are_alike(
+            self.alloc,
+            &self.grid,
+            &self.events,
+            place,
+            first,
+            last,
+            tally,
+        )
     }
 
     // Gives a caller's command, and answers whether it was let in.
@@ -154,7 +161,7 @@ impl BlockMarket {
         if self.events.len() >= MANY_EVENTS {
             return Err(Fail::from("too many events"));
         }
-        let mut events = self.events.copy()?;
+        let mut events = History::of(self.alloc, self.events.as_slice())?;
         let reply = reply_and_append(
             self.alloc,
             &self.grid,

@@ -10,7 +10,8 @@ ghost use Rattle.plain_capacity.specs.Hour.{IsLegalOver};
 ghost use Rattle.route_carrying.specs.Carrying.{FitTogether};
 
 use block_book::{BlockBook, RestingBlock};
-use market_model::{BlockOrder, Event};
+use event_history::History;
+use market_model::BlockOrder;
 use plain_capacity::block_rooms;
 use plain_orders::{StandingBlock, blocks_of};
 use std::alloc::Global;
@@ -62,7 +63,7 @@ pub fn book_of(alloc: Global, zones: u32, blocks: &[RestingBlock]) -> Result<Blo
 pub fn book_after(
     alloc: Global,
     grid: &Grid,
-    events: &[Event],
+    events: &History,
     first: u32,
 ) -> Result<BlockBook, Fail>
     requires { IsLegalOver grid.now events.now }
@@ -93,7 +94,7 @@ fn open_of(alloc: Global, standing: &[StandingBlock]) -> Result<Vec<RestingBlock
 pub fn rooms_after(
     alloc: Global,
     grid: &Grid,
-    events: &[Event],
+    events: &History,
     first: u32,
     last: u32,
 ) -> Result<Rooms, NoMemory>

@@ -2,7 +2,8 @@
 
 ghost use Rattle.plain_orders.specs.Histories.{IsSomeHistory};
 
-use market_model::{BlockOrder, Event, NoMemory, Side};
+use event_history::History;
+use market_model::{BlockOrder, NoMemory, Side};
 use plain_orders::{StandingBlock, block_line, blocks_of};
 use std::alloc::Global;
 
@@ -77,7 +78,7 @@ impl Tally {
     pub fn count_passed(
         &mut self,
         alloc: Global,
-        events: &[Event],
+        events: &History,
         own: &BlockOrder,
         maker: Option<u32>,
     ) -> Result<(), NoMemory>
@@ -101,7 +102,7 @@ impl Tally {
     pub fn count_left(
         &mut self,
         alloc: Global,
-        events: &[Event],
+        events: &History,
         first: u32,
         last: u32,
     ) -> Result<(), NoMemory>
@@ -121,7 +122,7 @@ impl Tally {
 // The line of a period and side after some events.
 fn line_after(
     alloc: Global,
-    events: &[Event],
+    events: &History,
     first: u32,
     last: u32,
     side: Side,

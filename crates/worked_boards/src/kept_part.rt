@@ -7,7 +7,8 @@ ghost use Rattle.plain_orders.specs.Listed as listed;
 ghost use Rattle.worked_boards.specs.Kept as kept;
 
 use crate::parts::{PARTS, contract_at};
-use market_model::{Contract, Event, Side};
+use event_history::History;
+use market_model::{Contract, Side};
 use plain_capacity::contract_rooms;
 use plain_orders::{StandingOrder, line, orders_of};
 use std::alloc::Global;
@@ -44,7 +45,7 @@ impl KeptPart {
 pub(crate) fn parts_of(
     alloc: Global,
     grid: &Grid,
-    events: &[Event],
+    events: &History,
     hour: u32,
 ) -> Result<Vec<KeptPart>, NoMemory>
     requires legal { IsLegalOver grid.now events.now }
@@ -64,7 +65,7 @@ pub(crate) fn parts_of(
 fn part_of(
     alloc: Global,
     grid: &Grid,
-    events: &[Event],
+    events: &History,
     orders: &[StandingOrder],
     contract: Contract,
 ) -> Result<KeptPart, NoMemory>

@@ -19,6 +19,3 @@ pub use refused::Refused;
 pub use small_board::SmallBoard;
 pub use small_market::SmallMarket;
 pub use steps::{HOUR, Step, limit, order};
-
-#[cfg(test)]
-mod tests;

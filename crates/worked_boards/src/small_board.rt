@@ -16,8 +16,9 @@ use crate::kept_part::{KeptPart, parts_of};
 use crate::parts::{contract_at, number_of};
 use crate::refused::Refused;
 use crate::resting::{first_shown, shown_behind};
+use event_history::History;
 use market_model::{
-    Arc, Board, Duplicate, Event, Events, Leg, NoMemory, Order, OrderName, Quarter, Shown, Side,
+    Arc, Board, Duplicate, Event, Leg, NoMemory, Order, OrderName, Quarter, Shown, Side,
     check_order,
 };
 use plain_capacity::{HourCapacity, hour_capacity};
@@ -44,7 +45,7 @@ pub struct SmallBoard {
     grid: Grid,
     hour: u32,
     hand: Option<u32>,
-    events: Events,
+    events: History,
     parts: Vec<KeptPart>,
 }
 
@@ -82,8 +83,8 @@ impl SmallBoard {
         ensures { IfOk result (λ made. made ≡ small.empty_board grid hour) }
     {
         let _zones = grid.zones();
-        let events = Events::new(alloc);
-        let parts = parts_of(alloc, &grid, events.as_slice(), hour)?;
+        let events = History::new(alloc)?;
+        let parts = parts_of(alloc, &grid, &events, hour)?;
         Ok(SmallBoard {
             alloc,
             grid,
@@ -106,11 +107,11 @@ impl SmallBoard {
     /// # Errors
     ///
     /// [`NoMemory`], where memory is wanting.
-    pub fn copy_events(&self) -> Result<Events, NoMemory>
+    pub fn copy_events(&self) -> Result<History, NoMemory>
         ensures events { IfOk result (λ events. events ≡ self.now.events) }
         ensures legal { hours.IsLegalOver self.now.grid self.now.events }
     {
-        self.events.copy()
+        copy_of(self.alloc, &self.events)
     }
 
     /// Its hour.
@@ -148,8 +149,8 @@ impl SmallBoard {
         ensures same { OnOk result (self.new ≡ other.now) }
         ensures unchanged { OnErr result (self.new ≡ self.old) }
     {
-        let events = other.events.copy()?;
-        let parts = parts_of(self.alloc, &self.grid, events.as_slice(), other.hour)?;
+        let events = copy_of(self.alloc, &other.events)?;
+        let parts = parts_of(self.alloc, &self.grid, &events, other.hour)?;
         self.hour = other.hour;
         self.hand = other.hand;
         self.events = events;
@@ -173,7 +174,7 @@ impl SmallBoard {
         if self.hand.is_some() || !self.can_enter(caller, &order) {
             return Err(Refused::Unfit);
         }
-        let name = next_name(self.events.as_slice(), self.hour);
+        let name = next_name(&self.events, self.hour);
         let entry = Event::Entered {
             name,
             caller,
@@ -247,7 +248,7 @@ impl SmallBoard {
         if MOST_OFFERED < lots {
             return Ok(false);
         }
-        let capacity = hour_capacity(self.alloc, &self.grid, self.events.as_slice(), self.hour)?;
+        let capacity = hour_capacity(self.alloc, &self.grid, &self.events, self.hour)?;
         Ok(covers_flows(&capacity, arc, first, last, lots))
     }
 
@@ -267,7 +268,7 @@ impl SmallBoard {
         ensures rests { OnOk result (self.new ≡ small.with_hand self.old None) }
         ensures unchanged { OnErr result (self.new ≡ self.old) }
     {
-        if !has_room(self.alloc, self.events.as_slice(), self.hour, None)? {
+        if !has_room(self.alloc, &self.events, self.hour, None)? {
             return Err(Refused::Unfit);
         }
         self.hand = None;
@@ -285,21 +286,21 @@ impl SmallBoard {
         ensures entered { OnOk result (self.new ≡ with_events self.old (small.with_entries_of self.old.hour caller self.old.events orders.now)) }
         ensures unchanged { OnErr result (self.new ≡ self.old) }
     {
-        let mut events = self.events.copy()?;
+        let mut events = copy_of(self.alloc, &self.events)?;
         for order in orders {
             self.push_entry(&mut events, caller, order)?;
         }
-        if !has_room(self.alloc, events.as_slice(), self.hour, self.hand)? {
+        if !has_room(self.alloc, &events, self.hour, self.hand)? {
             return Err(Refused::Unfit);
         }
-        let parts = parts_of(self.alloc, &self.grid, events.as_slice(), self.hour)?;
+        let parts = parts_of(self.alloc, &self.grid, &events, self.hour)?;
         self.events = events;
         self.parts = parts;
         Ok(())
     }
 
     // Puts the entry of a caller's order behind some events of the hour.
-    fn push_entry(&self, events: &mut Events, caller: u32, order: &Order) -> Result<(), Refused>
+    fn push_entry(&self, events: &mut History, caller: u32, order: &Order) -> Result<(), Refused>
         requires alone { small.AreAlone self.now.grid self.now.hour events.old }
         ensures entered { OnOk result (events.new ≡ small.with_entry_of self.now.hour caller events.old order.now) }
         ensures alone { small.AreAlone self.now.grid self.now.hour events.new }
@@ -310,7 +311,7 @@ impl SmallBoard {
         if !self.can_enter(caller, order) {
             return Err(Refused::Unfit);
         }
-        let name = next_name(events.as_slice(), self.hour);
+        let name = next_name(events, self.hour);
         events.push(Event::Entered {
             name,
             caller,
@@ -326,12 +327,12 @@ impl SmallBoard {
         ensures added { OnOk result (self.new ≡ small.with_hand (small.with_event self.old event) hand) }
         ensures unchanged { OnErr result (self.new ≡ self.old) }
     {
-        let mut events = self.events.copy()?;
+        let mut events = copy_of(self.alloc, &self.events)?;
         events.push(event)?;
-        if !has_room(self.alloc, events.as_slice(), self.hour, hand)? {
+        if !has_room(self.alloc, &events, self.hour, hand)? {
             return Err(Refused::Unfit);
         }
-        let parts = parts_of(self.alloc, &self.grid, events.as_slice(), self.hour)?;
+        let parts = parts_of(self.alloc, &self.grid, &events, self.hour)?;
         self.hand = hand;
         self.events = events;
         self.parts = parts;
@@ -353,7 +354,7 @@ impl Board for SmallBoard {
 
     fn after(&self, number: u32) -> Option<Shown> {
         let hour = self.hour;
-        let placed = open_order(self.events.as_slice(), OrderName { hour, number })?;
+        let placed = open_order(&self.events, OrderName { hour, number })?;
         let order = placed.order();
         let kept = &self.parts.as_slice()[number_of(order.contract.part) as usize];
         shown_behind(kept.line(order.side), number, self.hand)
@@ -365,16 +366,23 @@ impl Board for SmallBoard {
     }
 
     fn make(&mut self, part: u32, leg: &Leg) -> Result<(), NoMemory> {
-        let mut events = self.events.copy()?;
+        let mut events = copy_of(self.alloc, &self.events)?;
         events.push(Event::Leg {
             contract: contract_at(self.hour, part),
             leg: leg.copy()?,
         })?;
-        let parts = parts_of(self.alloc, &self.grid, events.as_slice(), self.hour)?;
+        let parts = parts_of(self.alloc, &self.grid, &events, self.hour)?;
         self.events = events;
         self.parts = parts;
         Ok(())
     }
+}
+
+// A copy of some events.
+fn copy_of(alloc: Global, events: &History) -> Result<History, NoMemory>
+    ensures { IfOk result (λ made. made ≡ events.now) }
+{
+    History::of(alloc, events.as_slice())
 }
 
 // Whether these are a first and a last quarter of an hour.
@@ -412,7 +420,7 @@ fn covers_flow(capacity: &HourCapacity, arc: Arc, number: u32, lots: u32) -> boo
 }
 
 // Whether there is room for those of an hour's open orders that are not in hand.
-fn has_room(alloc: Global, events: &[Event], hour: u32, hand: Option<u32>) -> Result<bool, NoMemory>
+fn has_room(alloc: Global, events: &History, hour: u32, hand: Option<u32>) -> Result<bool, NoMemory>
     requires history { IsSomeHistory events.now }
     ensures { IfOk result (λ has. has ≡ true → small.HasRoom events.now hour hand) }
 {

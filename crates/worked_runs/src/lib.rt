@@ -5,8 +5,11 @@
 
 #[cfg(test)]
 mod record_tests;
+#[cfg(test)]
 mod records;
 #[cfg(test)]
 mod run_tests;
+#[cfg(test)]
 mod sessions;
+#[cfg(test)]
 mod streams;

@@ -6,8 +6,9 @@ ghost use Rattle.plain_capacity.specs.Hour.{IsLegalOver};
 ghost use Rattle.worked_views.specs.Shown.{AreViewsOver};
 
 use crate::views::views_of;
+use event_history::History;
 use local_view::LocalViews;
-use market_model::{Event, Side};
+use market_model::Side;
 use std::alloc::Global;
 use worked_boards::{Refused, SmallBoard, SmallMarket, contract_at};
 use zone_graph::Grid;
@@ -32,7 +33,7 @@ fn shows_on(alloc: Global, board: &SmallBoard, grid: &Grid, parts: u32) -> Resul
     let views = views_of(alloc, board, grid)?;
     let events = board.copy_events()?;
     for part in 0..parts {
-        if !part_shows(alloc, grid, events.as_slice(), board.hour(), &views, part)? {
+        if !part_shows(alloc, grid, &events, board.hour(), &views, part)? {
             return Ok(false);
         }
     }
@@ -43,7 +44,7 @@ fn shows_on(alloc: Global, board: &SmallBoard, grid: &Grid, parts: u32) -> Resul
 fn part_shows(
     alloc: Global,
     grid: &Grid,
-    events: &[Event],
+    events: &History,
     hour: u32,
     views: &LocalViews,
     part: u32,
@@ -66,7 +67,7 @@ fn part_shows(
 fn is_shown(
     alloc: Global,
     grid: &Grid,
-    events: &[Event],
+    events: &History,
     hour: u32,
     views: &LocalViews,
     part: u32,

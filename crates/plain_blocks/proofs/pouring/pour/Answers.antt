@@ -1,8 +1,7 @@
-use Rattle.std.proofs.Common.{◌≡◌, ◌∙◌, ◌<◌, List, Some, None, ap, subst, sym}
+use Rattle.std.proofs.Common.{◌≡◌, ◌∙◌, ◌<◌, List, Some, None, subst, sym}
 use Rattle.market_model.specs.declared.event.Event.{Event}
 use Rattle.market_model.specs.Blocks.{block_leg, block_legs}
 use Rattle.market_model.specs.Orders.{left}
-use Rattle.plain_capacity.specs.Hour.{IsLegalOver}
 use Rattle.plain_matching.proofs.Legs.{IsSoFar, all-so_far, more-so_far, nothing-so_far}
 use Rattle.plain_blocks.proofs.Meetings.{stands-sound}
 use Rattle.plain_blocks.proofs.Pours.{IsPouring, last-leg, next-leg, pouring-legal, pouring-start}
@@ -20,8 +19,7 @@ next_leg-requires c =
     let own = stands-sound c.args.grid.now c.args.events.now c.args.taker.now meet.legal meet.own_stands in
     let other = stands-sound c.args.grid.now c.args.events.now c.args.maker.now meet.legal meet.other_stands in
     record {
-      legal = subst (IsLegalOver c.args.grid.now) (sym c.as_slice.ensures)
-          (pouring-legal c.args.grid.now c.args.events.now c.args.taker.now c.args.maker.now c.loop-leg.events c.loop-leg.invariant.pouring);
+      legal = pouring-legal c.args.grid.now c.args.events.now c.args.taker.now c.args.maker.now c.loop-leg.events c.loop-leg.invariant.pouring;
       taker = own.in_zone;
       maker = other.in_zone;
       period = own.in_order;
@@ -30,7 +28,7 @@ next_leg-requires c =
 pub loop-leg-smaller : goal.loop-leg-smaller
 loop-leg-smaller c =
     let found : block_leg c.args.grid.now c.args.taker.now c.args.maker.now c.loop-leg.events ≡ Some c.in-Some.leg =
-    ap (λ history. block_leg c.args.grid.now c.args.taker.now c.args.maker.now history) (sym c.as_slice.ensures) ∙ sym c.in_ok-leg.ensures.leg ∙ c.in-Some.is in
+    sym c.in_ok-leg.ensures.leg ∙ c.in-Some.is in
     let next = next-leg c.args.grid.now c.next_leg.ensures.grid.is_graph c.args.events.now c.args.taker.now c.args.maker.now c.loop-leg.events
     c.loop-leg.invariant.pouring c.in-Some.leg found in
     subst (λ history. left history c.args.taker.now.name < left c.loop-leg.events c.args.taker.now.name) (sym c.in_ok-push.ensures.ok) next.lower
@@ -38,7 +36,7 @@ loop-leg-smaller c =
 pub loop-leg-preserved : goal.loop-leg-preserved
 loop-leg-preserved c =
     let found : block_leg c.args.grid.now c.args.taker.now c.args.maker.now c.loop-leg.events ≡ Some c.in-Some.leg =
-    ap (λ history. block_leg c.args.grid.now c.args.taker.now c.args.maker.now history) (sym c.as_slice.ensures) ∙ sym c.in_ok-leg.ensures.leg ∙ c.in-Some.is in
+    sym c.in_ok-leg.ensures.leg ∙ c.in-Some.is in
     let next = next-leg c.args.grid.now c.next_leg.ensures.grid.is_graph c.args.events.now c.args.taker.now c.args.maker.now c.loop-leg.events
     c.loop-leg.invariant.pouring c.in-Some.leg found in
     let legs : List Event → List Event = λ history. block_legs c.args.grid.now c.args.taker.now c.args.maker.now history in
@@ -51,6 +49,6 @@ loop-leg-preserved c =
 pub returns-clause-ok : goal.returns-clause-ok
 returns-clause-ok c =
     let none : block_leg c.args.grid.now c.args.taker.now c.args.maker.now c.loop-leg.events ≡ None =
-    ap (λ history. block_leg c.args.grid.now c.args.taker.now c.args.maker.now history) (sym c.as_slice.ensures) ∙ sym c.in_ok-leg.ensures.leg ∙ c.in_default.is in
+    sym c.in_ok-leg.ensures.leg ∙ c.in_default.is in
     all-so_far (λ history. block_legs c.args.grid.now c.args.taker.now c.args.maker.now history) c.args.events.now c.loop-leg.events c.loop-leg.invariant.so_far
     (last-leg c.args.grid.now c.next_leg.ensures.grid.is_graph c.args.events.now c.args.taker.now c.args.maker.now c.loop-leg.events c.loop-leg.invariant.pouring none)

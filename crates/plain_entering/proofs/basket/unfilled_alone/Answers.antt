@@ -1,6 +1,8 @@
+use Rattle.std.proofs.Common.{rules, ◌∙◌, ◌+◌, length, refl, ap}
+use Rattle.plain_matching.specs.Grown.{Grew}
 use Rattle.plain_entering.proofs.Fitting.{can-part, can-zone, taken-legal}
 use Rattle.plain_entering.proofs.Judged.{one-found}
-use Rattle.plain_entering.proofs.Parts.{few-in, taken}
+use Rattle.plain_entering.proofs.Parts.{few-in, taken, taken-back, taken-few, taken-grew}
 use Rattle.plain_entering.proofs.basket.unfilled_alone.Goals as goal
 
 pub enter_and_take-requires-clause-few : goal.enter_and_take-requires-clause-few
@@ -8,9 +10,13 @@ enter_and_take-requires-clause-few c = few-in c.args.events.now c.args.order.now
 
 pub basket_unfilled-requires-clause-start : goal.basket_unfilled-requires-clause-start
 basket_unfilled-requires-clause-start c =
-    taken-legal c.args.grid.now c.args.events.now c.args.caller c.args.order.now c.split_at.result.0.now c.as_slice-after.result.now c.in_ok-name.name c.requires.can
-    (taken c.args.grid.now c.args.events.now c.args.caller c.args.order.now c.enter_and_take.new.events c.split_at.result.0.now c.as_slice-after.result.now
-    c.in_ok-name.name c.len-before.result c.len-before.ensures c.in_ok-name.ensures.name c.in_ok-name.ensures.ok c.as_slice-after.ensures c.split_at.ensures.front)
+    taken-legal c.args.grid.now c.args.events.now c.args.caller c.args.order.now _ c.enter_and_take.new.events c.in_ok-name.name c.requires.can (taken c.args.grid.now c.args.events.now c.args.caller c.args.order.now c.enter_and_take.new.events c.in_ok-name.name (length c.as_slice-before.result.now)
+    (ap length c.as_slice-before.ensures) c.in_ok-name.ensures.name c.in_ok-name.ensures.ok)
+
+pub basket_unfilled-requires-clause-few : goal.basket_unfilled-requires-clause-few
+basket_unfilled-requires-clause-few c =
+    taken-few c.args.grid.now c.args.events.now c.args.caller c.args.order.now _ c.enter_and_take.new.events c.in_ok-name.name (taken c.args.grid.now c.args.events.now c.args.caller c.args.order.now c.enter_and_take.new.events c.in_ok-name.name (length c.as_slice-before.result.now)
+    (ap length c.as_slice-before.ensures) c.in_ok-name.ensures.name c.in_ok-name.ensures.ok) c.requires.few
 
 pub basket_unfilled-requires-clause-part : goal.basket_unfilled-requires-clause-part
 basket_unfilled-requires-clause-part c = can-part c.args.grid.now c.args.events.now c.args.caller c.args.order.now c.requires.can
@@ -18,9 +24,23 @@ basket_unfilled-requires-clause-part c = can-part c.args.grid.now c.args.events.
 pub basket_unfilled-requires-clause-zone : goal.basket_unfilled-requires-clause-zone
 basket_unfilled-requires-clause-zone c = can-zone c.args.grid.now c.args.events.now c.args.caller c.args.order.now c.requires.can
 
+pub returns-in_err-refusal-clause-err : goal.returns-in_err-refusal-clause-err
+returns-in_err-refusal-clause-err c =
+    let grown : Grew c.args.events.now c.basket_unfilled.new.events =
+    taken-grew c.args.grid.now c.args.events.now c.args.caller c.args.order.now _ c.enter_and_take.new.events c.basket_unfilled.new.events c.in_ok-name.name
+    (length c.as_slice-before.result.now + 1) refl (taken c.args.grid.now c.args.events.now c.args.caller c.args.order.now c.enter_and_take.new.events c.in_ok-name.name (length c.as_slice-before.result.now)
+    (ap length c.as_slice-before.ensures) c.in_ok-name.ensures.name c.in_ok-name.ensures.ok) c.basket_unfilled.ensures.cut in
+    search (rules, grown)
+
 pub returns-clause-refusal : goal.returns-clause-refusal
 returns-clause-refusal c =
-    one-found c.args.grid.now c.args.events.now c.args.caller c.args.order.now c.split_at.result.0.now c.as_slice-after.result.now c.in_ok-name.name
-    (taken c.args.grid.now c.args.events.now c.args.caller c.args.order.now c.enter_and_take.new.events c.split_at.result.0.now c.as_slice-after.result.now
-    c.in_ok-name.name c.len-before.result c.len-before.ensures c.in_ok-name.ensures.name c.in_ok-name.ensures.ok c.as_slice-after.ensures c.split_at.ensures.front)
-    c.in_ok-refusal.refusal c.in_ok-refusal.ensures
+    one-found c.args.grid.now c.args.events.now c.args.caller c.args.order.now _ c.enter_and_take.new.events c.in_ok-name.name (taken c.args.grid.now c.args.events.now c.args.caller c.args.order.now c.enter_and_take.new.events c.in_ok-name.name (length c.as_slice-before.result.now)
+    (ap length c.as_slice-before.ensures) c.in_ok-name.ensures.name c.in_ok-name.ensures.ok)
+    c.in_ok-refusal.refusal c.in_ok-refusal.ensures.refusal
+
+pub returns-clause-kept : goal.returns-clause-kept
+returns-clause-kept c =
+    c.cut_back.ensures
+    ∙ taken-back c.args.grid.now c.args.events.now c.args.caller c.args.order.now c.enter_and_take.new.events c.basket_unfilled.new.events c.in_ok-name.name
+    (length c.as_slice-before.result.now) (ap length c.as_slice-before.ensures) (taken c.args.grid.now c.args.events.now c.args.caller c.args.order.now c.enter_and_take.new.events c.in_ok-name.name (length c.as_slice-before.result.now)
+    (ap length c.as_slice-before.ensures) c.in_ok-name.ensures.name c.in_ok-name.ensures.ok) c.basket_unfilled.ensures.cut

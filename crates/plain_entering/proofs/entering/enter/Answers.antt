@@ -1,8 +1,9 @@
-use Rattle.std.proofs.Common.{◌∙◌, sym}
+use Rattle.std.proofs.Common.{rules, ◌∙◌, ◌+◌, Ok, length, refl, sym, ap}
 use Rattle.market_model.specs.Sweep.{all_parts}
+use Rattle.plain_matching.specs.Grown.{Grew}
 use Rattle.plain_entering.proofs.Fitting.{can-part, can-zone, taken-legal}
 use Rattle.plain_entering.proofs.Judged.{order-found}
-use Rattle.plain_entering.proofs.Parts.{entered-is, few-in, taken}
+use Rattle.plain_entering.proofs.Parts.{entered-is, few-in, taken, taken-back, taken-few, taken-grew}
 use Rattle.plain_entering.proofs.entering.enter.Goals as goal
 
 pub enter_and_take-requires-clause-few : goal.enter_and_take-requires-clause-few
@@ -10,9 +11,13 @@ enter_and_take-requires-clause-few c = few-in c.args.events.now c.args.order.now
 
 pub refusal_after-requires-clause-start : goal.refusal_after-requires-clause-start
 refusal_after-requires-clause-start c =
-    taken-legal c.args.grid.now c.args.events.now c.args.caller c.args.order.now c.split_at.result.0.now c.as_slice-after.result.now c.in_ok-name.name c.requires.can
-    (taken c.args.grid.now c.args.events.now c.args.caller c.args.order.now c.enter_and_take.new.events c.split_at.result.0.now c.as_slice-after.result.now
-    c.in_ok-name.name c.len-before.result c.len-before.ensures c.in_ok-name.ensures.name c.in_ok-name.ensures.ok c.as_slice-after.ensures c.split_at.ensures.front)
+    taken-legal c.args.grid.now c.args.events.now c.args.caller c.args.order.now _ c.enter_and_take.new.events c.in_ok-name.name c.requires.can (taken c.args.grid.now c.args.events.now c.args.caller c.args.order.now c.enter_and_take.new.events c.in_ok-name.name (length c.as_slice-before.result.now)
+    (ap length c.as_slice-before.ensures) c.in_ok-name.ensures.name c.in_ok-name.ensures.ok)
+
+pub refusal_after-requires-clause-few : goal.refusal_after-requires-clause-few
+refusal_after-requires-clause-few c =
+    taken-few c.args.grid.now c.args.events.now c.args.caller c.args.order.now _ c.enter_and_take.new.events c.in_ok-name.name (taken c.args.grid.now c.args.events.now c.args.caller c.args.order.now c.enter_and_take.new.events c.in_ok-name.name (length c.as_slice-before.result.now)
+    (ap length c.as_slice-before.ensures) c.in_ok-name.ensures.name c.in_ok-name.ensures.ok) c.requires.few
 
 pub refusal_after-requires-clause-part : goal.refusal_after-requires-clause-part
 refusal_after-requires-clause-part c = can-part c.args.grid.now c.args.events.now c.args.caller c.args.order.now c.requires.can
@@ -20,23 +25,36 @@ refusal_after-requires-clause-part c = can-part c.args.grid.now c.args.events.no
 pub refusal_after-requires-clause-zone : goal.refusal_after-requires-clause-zone
 refusal_after-requires-clause-zone c = can-zone c.args.grid.now c.args.events.now c.args.caller c.args.order.now c.requires.can
 
+pub returns-in_err-refusal-clause-err : goal.returns-in_err-refusal-clause-err
+returns-in_err-refusal-clause-err c =
+    let grown : Grew c.args.events.now c.refusal_after.new.events =
+    taken-grew c.args.grid.now c.args.events.now c.args.caller c.args.order.now _ c.enter_and_take.new.events c.refusal_after.new.events c.in_ok-name.name
+    (length c.as_slice-before.result.now + 1) refl (taken c.args.grid.now c.args.events.now c.args.caller c.args.order.now c.enter_and_take.new.events c.in_ok-name.name (length c.as_slice-before.result.now)
+    (ap length c.as_slice-before.ensures) c.in_ok-name.ensures.name c.in_ok-name.ensures.ok) c.refusal_after.ensures.cut in
+    search (rules, grown)
+
 pub returns-in-Some-clause-refusal : goal.returns-in-Some-clause-refusal
 returns-in-Some-clause-refusal c =
     sym c.in-Some.is
-    ∙ order-found c.args.grid.now c.args.events.now c.args.caller c.args.order.now c.split_at.result.0.now c.as_slice-after.result.now c.in_ok-name.name
-    (taken c.args.grid.now c.args.events.now c.args.caller c.args.order.now c.enter_and_take.new.events c.split_at.result.0.now c.as_slice-after.result.now
-    c.in_ok-name.name c.len-before.result c.len-before.ensures c.in_ok-name.ensures.name c.in_ok-name.ensures.ok c.as_slice-after.ensures c.split_at.ensures.front)
-    c.in_ok-refusal.field-0 c.in_ok-refusal.ensures
+    ∙ order-found c.args.grid.now c.args.events.now c.args.caller c.args.order.now _ c.enter_and_take.new.events c.in_ok-name.name (taken c.args.grid.now c.args.events.now c.args.caller c.args.order.now c.enter_and_take.new.events c.in_ok-name.name (length c.as_slice-before.result.now)
+    (ap length c.as_slice-before.ensures) c.in_ok-name.ensures.name c.in_ok-name.ensures.ok)
+    c.in_ok-refusal.field-0 c.in_ok-refusal.ensures.refusal
+
+pub returns-in-Some-clause-kept : goal.returns-in-Some-clause-kept
+returns-in-Some-clause-kept c = λ _ _.
+    c.cut_back.ensures
+    ∙ taken-back c.args.grid.now c.args.events.now c.args.caller c.args.order.now c.enter_and_take.new.events c.refusal_after.new.events c.in_ok-name.name
+    (length c.as_slice-before.result.now) (ap length c.as_slice-before.ensures) (taken c.args.grid.now c.args.events.now c.args.caller c.args.order.now c.enter_and_take.new.events c.in_ok-name.name (length c.as_slice-before.result.now)
+    (ap length c.as_slice-before.ensures) c.in_ok-name.ensures.name c.in_ok-name.ensures.ok) c.refusal_after.ensures.cut
 
 pub returns-in_ok-finish-in-None-clause-refusal : goal.returns-in_ok-finish-in-None-clause-refusal
 returns-in_ok-finish-in-None-clause-refusal c =
     sym c.in-None.is
-    ∙ order-found c.args.grid.now c.args.events.now c.args.caller c.args.order.now c.split_at.result.0.now c.as_slice-after.result.now c.in_ok-name.name
-    (taken c.args.grid.now c.args.events.now c.args.caller c.args.order.now c.enter_and_take.new.events c.split_at.result.0.now c.as_slice-after.result.now
-    c.in_ok-name.name c.len-before.result c.len-before.ensures c.in_ok-name.ensures.name c.in_ok-name.ensures.ok c.as_slice-after.ensures c.split_at.ensures.front)
-    c.in_ok-refusal.field-0 c.in_ok-refusal.ensures
+    ∙ order-found c.args.grid.now c.args.events.now c.args.caller c.args.order.now _ c.enter_and_take.new.events c.in_ok-name.name (taken c.args.grid.now c.args.events.now c.args.caller c.args.order.now c.enter_and_take.new.events c.in_ok-name.name (length c.as_slice-before.result.now)
+    (ap length c.as_slice-before.ensures) c.in_ok-name.ensures.name c.in_ok-name.ensures.ok)
+    c.in_ok-refusal.field-0 c.in_ok-refusal.ensures.refusal
 
 pub returns-in_ok-finish-in-None-clause-entered : goal.returns-in_ok-finish-in-None-clause-entered
 returns-in_ok-finish-in-None-clause-entered c =
-    λ _. entered-is all_parts c.args.grid.now c.args.events.now c.enter_and_take.new.events c.finish.new.events c.args.caller c.args.order.now c.in_ok-name.name
-    c.in_ok-name.ensures.ok c.in_ok-name.ensures.name c.in_ok-finish-in-None.ensures.ok
+    λ _. entered-is all_parts c.args.grid.now c.args.events.now c.refusal_after.new.events c.finish.new.events c.args.caller c.args.order.now c.in_ok-name.name
+    (c.in_ok-refusal.ensures.kept (ap Ok c.in-None.is) ∙ c.in_ok-name.ensures.ok) c.in_ok-name.ensures.name c.in_ok-finish-in-None.ensures.ok

@@ -1,22 +1,17 @@
-use Rattle.std.proofs.Common.{◌∙◌, ◌<◌, sym, ap, subst, arith, count_by}
+use Rattle.std.proofs.Common.{◌∙◌, sym, ap, subst, arith}
 use Rattle.zone_graph.specs.Graph.{IsGraph}
-use Rattle.market_model.specs.History.{enters_in}
-use Rattle.plain_orders.specs.Histories.{IsSomeHistory}
 use Rattle.plain_orders.proofs.Found.{entered_in-few}
 use Rattle.plain_market.proofs.BlockEntries.{dealt-legal, desk_answer, entered-is, stays-answer}
 use Rattle.plain_market.proofs.blocks.enter_block.Goals as goal
 
 pub next_name-name-requires : goal.next_name-name-requires
-next_name-name-requires c = record {
-  few = subst (λ history. count_by (enters_in c.args.order.now.first) history < 4294967295) (sym c.as_slice.ensures)
-      (omega (arith, c.requires.few, entered_in-few c.args.events.now c.args.order.now.first));
-}
+next_name-name-requires c = record { few = omega (arith, c.requires.few, entered_in-few c.args.events.now c.args.order.now.first) }
 
 pub may_stay-requires : goal.may_stay-requires
 may_stay-requires c =
     let legal = dealt-legal c.args.grid.now c.args.events.now c.take_block.new.events c.args.caller c.args.order.now c.requires.can
     (subst IsGraph c.requires.can.over c.zones-zones.ensures.grid.is_graph) c.in_ok-found.ensures.ok in
-    record { history = subst IsSomeHistory (sym c.as_slice-2.ensures) (record { setup = legal.setup; fit = legal.fit }) }
+    record { history = record { setup = legal.setup; fit = legal.fit } }
 
 pub sweeps-requires : goal.sweeps-requires
 sweeps-requires c = record {
@@ -27,8 +22,8 @@ sweeps-requires c = record {
 pub returns-in_ok-sweeps-clause-refusal : goal.returns-in_ok-sweeps-clause-refusal
 returns-in_ok-sweeps-clause-refusal c =
     sym (ap desk_answer c.if-branch.true) ∙
-    stays-answer c.args.grid.now c.args.events.now c.take_block.new.events c.as_slice.result.now c.as_slice-2.result.now c.args.caller c.args.order.now
-    c.in_ok-found.found c.in_ok-may_stay.field-0 c.next_name-name.result c.as_slice.ensures c.next_name-name.ensures c.as_slice-2.ensures
+    stays-answer c.args.grid.now c.args.events.now c.take_block.new.events c.args.caller c.args.order.now
+    c.in_ok-found.found c.in_ok-may_stay.field-0 c.next_name-name.result c.next_name-name.ensures
     c.in_ok-may_stay.ensures c.in_ok-found.ensures.found c.in_ok-found.ensures.ok
 
 pub returns-in_ok-sweeps-clause-done : goal.returns-in_ok-sweeps-clause-done
@@ -39,6 +34,6 @@ returns-in_ok-sweeps-clause-done c _ =
 pub returns-else-branch-clause-refusal : goal.returns-else-branch-clause-refusal
 returns-else-branch-clause-refusal c =
     sym (ap desk_answer c.if-branch.false) ∙
-    stays-answer c.args.grid.now c.args.events.now c.take_block.new.events c.as_slice.result.now c.as_slice-2.result.now c.args.caller c.args.order.now
-    c.in_ok-found.found c.in_ok-may_stay.field-0 c.next_name-name.result c.as_slice.ensures c.next_name-name.ensures c.as_slice-2.ensures
+    stays-answer c.args.grid.now c.args.events.now c.take_block.new.events c.args.caller c.args.order.now
+    c.in_ok-found.found c.in_ok-may_stay.field-0 c.next_name-name.result c.next_name-name.ensures
     c.in_ok-may_stay.ensures c.in_ok-found.ensures.found c.in_ok-found.ensures.ok

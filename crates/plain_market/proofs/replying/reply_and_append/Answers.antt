@@ -16,7 +16,6 @@ broken c = refused c.args.setup.now c.args.events.now c.args.events.now c.args.c
     (state-some c.args.setup.now c.args.events.now c.args.caller c.args.command.now c.in-Some-broken.refusal
     (early-none c.args.setup.now c.args.caller c.args.command.now (sym c.refuse_early-early.ensures ∙ c.in_default.is))
     (ap (λ g. state_refusal g c.args.events.now c.args.caller c.args.command.now) (sym c.requires.grid)
-    ∙ ap (λ events. state_refusal c.args.grid.now events c.args.caller c.args.command.now) (sym c.as_slice.ensures)
     ∙ sym c.in_ok-broken.ensures.refusal ∙ c.in-Some-broken.is)) refl
 
 pub returns-in-Some-clause-reply : goal.returns-in-Some-clause-reply

@@ -20,7 +20,7 @@ view-requires-clause-zone c =
 
 pub returns-in-View-clause-reply : goal.returns-in-View-clause-reply
 returns-in-View-clause-reply c =
-    ap reply.Seen (c.in_ok-rows.ensures.rows ∙ ap (λ events. view c.args.grid.now events c.in-View.contract c.in-View.side c.in-View.zone) c.as_slice.ensures
+    ap reply.Seen (c.in_ok-rows.ensures.rows
     ∙ ap (λ g. view g c.args.events.now c.in-View.contract c.in-View.side c.in-View.zone) c.requires.grid)
     ∙ (seen c.args.setup.now c.args.events.now c.args.events.now c.args.caller c.args.command.now c.in-View.contract c.in-View.side c.in-View.zone
     c.in-View.is c.requires.let_in refl).reply
@@ -42,5 +42,5 @@ returns-in_ok-events_from-in-None c =
     let made = done c.args.grid.now c.args.setup.now c.args.events.now c.carry_out.new.events c.in_ok-events_from-in-None.field-0 c.args.caller c.args.command.now
     c.len-before.result c.requires.grid c.in_default.not-View c.requires.let_in
     (sym c.in-None.is ∙ c.in_ok-refusal.ensures.refusal) (c.in_ok-refusal.ensures.done (ap Ok c.in-None.is)) c.len-before.ensures
-    (c.in_ok-events_from-in-None.ensures ∙ ap (drop c.len-before.result) c.as_slice-in-None.ensures) in
+    (c.in_ok-events_from-in-None.ensures ∙ ap (drop c.len-before.result) c.as_slice.ensures) in
     record { reply = made.reply; events = made.history; err = tt }

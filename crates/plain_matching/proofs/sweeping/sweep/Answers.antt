@@ -1,4 +1,4 @@
-use Rattle.std.proofs.Common.{◌≡◌, ◌∙◌, ◌<◌, List, Some, None, ap, subst, sym}
+use Rattle.std.proofs.Common.{◌≡◌, ◌∙◌, ◌<◌, List, Some, None, subst, sym}
 use Rattle.market_model.specs.declared.event.Event.{Event}
 use Rattle.market_model.specs.Sweep.{all_parts, left_in_hour, sweep, sweep_leg}
 use Rattle.plain_capacity.specs.Hour.{IsLegalOver}
@@ -8,14 +8,14 @@ use Rattle.plain_matching.proofs.sweeping.sweep.Goals as goal
 pub loop-leg-smaller : goal.loop-leg-smaller
 loop-leg-smaller c =
     let found : sweep_leg all_parts c.args.grid.now c.args.hour c.loop-leg.events ≡ Some c.in-Some.leg =
-    ap (λ history. sweep_leg all_parts c.args.grid.now c.args.hour history) (sym c.as_slice.ensures) ∙ sym c.in_ok-leg.ensures.leg ∙ c.in-Some.is in
+    sym c.in_ok-leg.ensures.leg ∙ c.in-Some.is in
     let next = sweep-next c.args.grid.now c.sweep_leg.ensures.grid.is_graph c.loop-leg.events c.loop-leg.invariant.legal all_parts c.args.hour c.in-Some.leg found in
     subst (λ history. left_in_hour history c.args.hour < left_in_hour c.loop-leg.events c.args.hour) (sym c.in_ok-push.ensures.ok) next.lower
 
 pub loop-leg-preserved : goal.loop-leg-preserved
 loop-leg-preserved c =
     let found : sweep_leg all_parts c.args.grid.now c.args.hour c.loop-leg.events ≡ Some c.in-Some.leg =
-    ap (λ history. sweep_leg all_parts c.args.grid.now c.args.hour history) (sym c.as_slice.ensures) ∙ sym c.in_ok-leg.ensures.leg ∙ c.in-Some.is in
+    sym c.in_ok-leg.ensures.leg ∙ c.in-Some.is in
     let next = sweep-next c.args.grid.now c.sweep_leg.ensures.grid.is_graph c.loop-leg.events c.loop-leg.invariant.legal all_parts c.args.hour c.in-Some.leg found in
     let legs : List Event → List Event = λ history. sweep all_parts c.args.grid.now c.args.hour history in
     record {
@@ -27,6 +27,6 @@ loop-leg-preserved c =
 pub returns-clause-ok : goal.returns-clause-ok
 returns-clause-ok c =
     let none : sweep_leg all_parts c.args.grid.now c.args.hour c.loop-leg.events ≡ None =
-    ap (λ history. sweep_leg all_parts c.args.grid.now c.args.hour history) (sym c.as_slice.ensures) ∙ sym c.in_ok-leg.ensures.leg ∙ c.in_default.is in
+    sym c.in_ok-leg.ensures.leg ∙ c.in_default.is in
     all-so_far (λ history. sweep all_parts c.args.grid.now c.args.hour history) c.args.events.now c.loop-leg.events c.loop-leg.invariant.so_far
     (sweep-end c.args.grid.now c.sweep_leg.ensures.grid.is_graph c.loop-leg.events c.loop-leg.invariant.legal all_parts c.args.hour none)

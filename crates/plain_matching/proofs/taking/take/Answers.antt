@@ -1,4 +1,4 @@
-use Rattle.std.proofs.Common.{◌≡◌, ◌∙◌, ◌<◌, List, Some, None, ap, subst, sym}
+use Rattle.std.proofs.Common.{◌≡◌, ◌∙◌, ◌<◌, List, Some, None, subst, sym}
 use Rattle.market_model.specs.declared.event.Event.{Event}
 use Rattle.market_model.specs.Orders.{left}
 use Rattle.market_model.specs.Taking.{next_leg, take}
@@ -9,14 +9,14 @@ use Rattle.plain_matching.proofs.taking.take.Goals as goal
 pub loop-leg-smaller : goal.loop-leg-smaller
 loop-leg-smaller c =
     let found : next_leg c.args.grid.now c.args.name c.loop-leg.events ≡ Some c.in-Some.leg =
-    ap (λ history. next_leg c.args.grid.now c.args.name history) (sym c.as_slice.ensures) ∙ sym c.in_ok-leg.ensures.leg ∙ c.in-Some.is in
+    sym c.in_ok-leg.ensures.leg ∙ c.in-Some.is in
     let next = take-next c.args.grid.now c.next_leg.ensures.grid.is_graph c.loop-leg.events c.loop-leg.invariant.legal c.args.name c.in-Some.leg found in
     subst (λ history. left history c.args.name < left c.loop-leg.events c.args.name) (sym c.in_ok-push.ensures.ok) next.lower
 
 pub loop-leg-preserved : goal.loop-leg-preserved
 loop-leg-preserved c =
     let found : next_leg c.args.grid.now c.args.name c.loop-leg.events ≡ Some c.in-Some.leg =
-    ap (λ history. next_leg c.args.grid.now c.args.name history) (sym c.as_slice.ensures) ∙ sym c.in_ok-leg.ensures.leg ∙ c.in-Some.is in
+    sym c.in_ok-leg.ensures.leg ∙ c.in-Some.is in
     let next = take-next c.args.grid.now c.next_leg.ensures.grid.is_graph c.loop-leg.events c.loop-leg.invariant.legal c.args.name c.in-Some.leg found in
     let legs : List Event → List Event = λ history. take c.args.grid.now history c.args.name in
     record {
@@ -28,6 +28,6 @@ loop-leg-preserved c =
 pub returns-clause-ok : goal.returns-clause-ok
 returns-clause-ok c =
     let none : next_leg c.args.grid.now c.args.name c.loop-leg.events ≡ None =
-    ap (λ history. next_leg c.args.grid.now c.args.name history) (sym c.as_slice.ensures) ∙ sym c.in_ok-leg.ensures.leg ∙ c.in_default.is in
+    sym c.in_ok-leg.ensures.leg ∙ c.in_default.is in
     all-so_far (λ history. take c.args.grid.now history c.args.name) c.args.events.now c.loop-leg.events c.loop-leg.invariant.so_far
     (take-end c.args.grid.now c.next_leg.ensures.grid.is_graph c.loop-leg.events c.loop-leg.invariant.legal c.args.name none)

@@ -5,14 +5,15 @@ use Rattle.std.specs.Vec.{vec_len}
 use Rattle.order_kinds.specs.declared.order.OrderName.{OrderName}
 use Rattle.market_model.specs.Blocks.{standing_block}
 use Rattle.plain_orders.specs.Listed.{block_given}
-use Rattle.plain_orders.proofs.Histories.{at_place}
 use Rattle.plain_orders.proofs.Listing.{listed-more, listed-same, block-at, blocks-listed, told-at}
+use Rattle.plain_orders.proofs.Near.{near-at, near-blocks}
 use Rattle.plain_orders.proofs.hour.blocks_of.Goals as goal
 use Rattle.plain_orders.proofs.hour.blocks_of.Goals.{in-Some+in_ok-push-in-Some, in-None}
 
 pub index-tally-requires : goal.index-tally-requires
 index-tally-requires c =
-    let at = block-at c.args.events.now c.loop-event.event-index c.event-item.result c.args.first c.in-Some.placed c.requires.history c.loop-event-test.true c.event-item.is
+    let here = near-at c.args.first c.args.events.now c.near-event-items.result.now c.requires.history c.near-event-items.ensures c.loop-event.event-index c.event-item.result c.loop-event-test.true c.event-item.is in
+    let at = block-at c.args.events.now here.there c.event-item.result c.args.first c.in-Some.placed c.requires.history here.within here.is
     (sym c.block_given.ensures ∙ c.in-Some.is) in
     let size = c.in_ok-tallies.ensures.size in
     let long = c.in_ok-tallies.tallies.ok.0 in
@@ -20,32 +21,32 @@ index-tally-requires c =
 
 pub loop-event-preserved : goal.loop-event-preserved
 loop-event-preserved c =
-    let here = at_place c.args.events.now c.loop-event.event-index c.event-item.result c.requires.history c.loop-event-test.true c.event-item.is in
+    let here = near-at c.args.first c.args.events.now c.near-event-items.result.now c.requires.history c.near-event-items.ensures c.loop-event.event-index c.event-item.result c.loop-event-test.true c.event-item.is in
     elim c.match-block_given.branch [
       | in-Some+in_ok-push-in-Some w ↦
           let given : block_given c.args.first c.event-item.result ≡ Some w.in-Some.placed = sym c.block_given.ensures ∙ w.in-Some.is in
-          let at = block-at c.args.events.now c.loop-event.event-index c.event-item.result c.args.first w.in-Some.placed c.requires.history c.loop-event-test.true
-          c.event-item.is given in
+          let at = block-at c.args.events.now here.there c.event-item.result c.args.first w.in-Some.placed c.requires.history here.within here.is given in
           let size = c.in_ok-tallies.ensures.size in
           let within = subst (λ (n : OrderName). n.number < length c.in_ok-tallies.tallies.items) (sym w.name.ensures)
           (at.has_place (length c.in_ok-tallies.tallies.items) (omega (arith, size))) in
           let stands = at.stands w.index-tally.result.now (told-at c.args.events.now c.args.first w.name.result w.in-Some.placed.name c.in_ok-tallies.tallies.items
           w.index-tally.result.now w.name.ensures c.in_ok-tallies.ensures.tallies within w.index-tally.ensures) in
-          let more = listed-more (block_given c.args.first) (standing_block c.args.events.now) (take (c.loop-event.event-index + 1) c.args.events.now)
-          (take c.loop-event.event-index c.args.events.now) c.event-item.result w.in-Some.placed here.more given in
+          let more = listed-more (block_given c.args.first) (standing_block c.args.events.now) (take (c.loop-event.event-index + 1) c.near-event-items.result.now)
+          (take c.loop-event.event-index c.near-event-items.result.now) c.event-item.result w.in-Some.placed here.more given in
           let pushed = w.in_ok-push-in-Some.ensures.items in
           let was = c.loop-event.invariant in
           let value = w.new.ensures in
           rw w.blocks-is (cc (more, pushed, was, value, stands))
       | in-None w ↦
           let given : block_given c.args.first c.event-item.result ≡ None = sym c.block_given.ensures ∙ w.in-None.is in
-          let same = listed-same (block_given c.args.first) (take (c.loop-event.event-index + 1) c.args.events.now)
-          (take c.loop-event.event-index c.args.events.now) c.event-item.result here.more given in
+          let same = listed-same (block_given c.args.first) (take (c.loop-event.event-index + 1) c.near-event-items.result.now)
+          (take c.loop-event.event-index c.near-event-items.result.now) c.event-item.result here.more given in
           rw w.blocks-is (c.loop-event.invariant ∙ ap (map (standing_block c.args.events.now)) (sym same))
     ]
 
 pub returns : goal.returns
 returns c =
     c.loop-event.invariant
-    ∙ ap (λ es. map (standing_block c.args.events.now) (filter_map (block_given c.args.first) es)) (take_all c.loop-event.event-index c.args.events.now c.loop-event-test.false)
+    ∙ ap (λ es. map (standing_block c.args.events.now) (filter_map (block_given c.args.first) es)) (take_all c.loop-event.event-index c.near-event-items.result.now c.loop-event-test.false)
+    ∙ ap (map (standing_block c.args.events.now)) (near-blocks c.args.first c.args.events.now c.near-event-items.result.now c.requires.history c.near-event-items.ensures)
     ∙ blocks-listed c.args.events.now c.args.first

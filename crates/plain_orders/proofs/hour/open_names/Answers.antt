@@ -1,14 +1,17 @@
 use Rattle.std.proofs.Common.{◌∙◌, ◌≡◌, ◌+◌, ap, arith, filter, length, refl, sym, take, Some, None}
+use Rattle.std.proofs.lemmas.List.{take_all}
+use Rattle.std.specs.List.{filter_map}
 use Rattle.std.specs.Vec.{vec_len}
 use Rattle.market_model.specs.Orders.{is_open, name_given}
-use Rattle.plain_orders.proofs.Histories.{at_place}
 use Rattle.plain_orders.proofs.Listing.{filtered-more, filtered-same, listed-same, name-at, told-at}
+use Rattle.plain_orders.proofs.Near.{near-at, near-names}
 use Rattle.plain_orders.proofs.hour.open_names.Goals as goal
 use Rattle.plain_orders.proofs.hour.open_names.Goals.{in-Some+then-index-gt0+in_ok-push-in-Some, in-Some+else-index-gt0, in-None}
 
 pub index-requires : goal.index-requires
 index-requires c =
-    let at = name-at c.args.events.now c.loop-event.event-index c.event-item.result c.args.hour c.in-Some.name c.requires.history c.loop-event-test.true c.event-item.is
+    let here = near-at c.args.hour c.args.events.now c.near-event-items.result.now c.requires.history c.near-event-items.ensures c.loop-event.event-index c.event-item.result c.loop-event-test.true c.event-item.is in
+    let at = name-at c.args.events.now here.there c.event-item.result c.args.hour c.in-Some.name c.requires.history here.within here.is
     (sym c.name_given.ensures ∙ c.in-Some.is) in
     let size = c.in_ok-tallies.ensures.size in
     let long = c.in_ok-tallies.tallies.ok.0 in
@@ -16,34 +19,38 @@ index-requires c =
 
 pub loop-event-preserved : goal.loop-event-preserved
 loop-event-preserved c =
-    let here = at_place c.args.events.now c.loop-event.event-index c.event-item.result c.requires.history c.loop-event-test.true c.event-item.is in
+    let here = near-at c.args.hour c.args.events.now c.near-event-items.result.now c.requires.history c.near-event-items.ensures c.loop-event.event-index c.event-item.result c.loop-event-test.true c.event-item.is in
     let size = c.in_ok-tallies.ensures.size in
     let was = c.loop-event.invariant in
     elim c.match-name_given.branch [
       | in-Some+then-index-gt0+in_ok-push-in-Some w ↦
           let given : name_given c.args.hour c.event-item.result ≡ Some w.in-Some.name = sym c.name_given.ensures ∙ w.in-Some.is in
-          let at = name-at c.args.events.now c.loop-event.event-index c.event-item.result c.args.hour w.in-Some.name c.requires.history c.loop-event-test.true
-          c.event-item.is given in
+          let at = name-at c.args.events.now here.there c.event-item.result c.args.hour w.in-Some.name c.requires.history here.within here.is given in
           let within = at.has_place (length c.in_ok-tallies.tallies.items) (omega (arith, size)) in
           let opened = at.opens w.index.result.now (told-at c.args.events.now c.args.hour w.in-Some.name w.in-Some.name c.in_ok-tallies.tallies.items
           w.index.result.now refl c.in_ok-tallies.ensures.tallies within w.index.ensures) w.if-index-gt0.true in
-          let more = filtered-more (name_given c.args.hour) (is_open c.args.events.now) (take (c.loop-event.event-index + 1) c.args.events.now)
-          (take c.loop-event.event-index c.args.events.now) c.event-item.result w.in-Some.name here.more given opened in
+          let more = filtered-more (name_given c.args.hour) (is_open c.args.events.now) (take (c.loop-event.event-index + 1) c.near-event-items.result.now)
+          (take c.loop-event.event-index c.near-event-items.result.now) c.event-item.result w.in-Some.name here.more given opened in
           let pushed = w.in_ok-push-in-Some.ensures.items in
           rw w.names-is (cc (more, pushed, was))
       | in-Some+else-index-gt0 w ↦
           let given : name_given c.args.hour c.event-item.result ≡ Some w.in-Some.name = sym c.name_given.ensures ∙ w.in-Some.is in
-          let at = name-at c.args.events.now c.loop-event.event-index c.event-item.result c.args.hour w.in-Some.name c.requires.history c.loop-event-test.true
-          c.event-item.is given in
+          let at = name-at c.args.events.now here.there c.event-item.result c.args.hour w.in-Some.name c.requires.history here.within here.is given in
           let within = at.has_place (length c.in_ok-tallies.tallies.items) (omega (arith, size)) in
           let closed = at.closes w.index.result.now (told-at c.args.events.now c.args.hour w.in-Some.name w.in-Some.name c.in_ok-tallies.tallies.items
           w.index.result.now refl c.in_ok-tallies.ensures.tallies within w.index.ensures) w.if-index-gt0.false in
-          let same = filtered-same (name_given c.args.hour) (is_open c.args.events.now) (take (c.loop-event.event-index + 1) c.args.events.now)
-          (take c.loop-event.event-index c.args.events.now) c.event-item.result w.in-Some.name here.more given closed in
+          let same = filtered-same (name_given c.args.hour) (is_open c.args.events.now) (take (c.loop-event.event-index + 1) c.near-event-items.result.now)
+          (take c.loop-event.event-index c.near-event-items.result.now) c.event-item.result w.in-Some.name here.more given closed in
           rw w.names-is (was ∙ sym same)
       | in-None w ↦
           let given : name_given c.args.hour c.event-item.result ≡ None = sym c.name_given.ensures ∙ w.in-None.is in
-          let same = listed-same (name_given c.args.hour) (take (c.loop-event.event-index + 1) c.args.events.now)
-          (take c.loop-event.event-index c.args.events.now) c.event-item.result here.more given in
+          let same = listed-same (name_given c.args.hour) (take (c.loop-event.event-index + 1) c.near-event-items.result.now)
+          (take c.loop-event.event-index c.near-event-items.result.now) c.event-item.result here.more given in
           rw w.names-is (was ∙ ap (filter (is_open c.args.events.now)) (sym same))
     ]
+
+pub returns : goal.returns
+returns c =
+    c.loop-event.invariant
+    ∙ ap (λ es. filter (is_open c.args.events.now) (filter_map (name_given c.args.hour) es)) (take_all c.loop-event.event-index c.near-event-items.result.now c.loop-event-test.false)
+    ∙ ap (filter (is_open c.args.events.now)) (near-names c.args.hour c.args.events.now c.near-event-items.result.now c.near-event-items.ensures)

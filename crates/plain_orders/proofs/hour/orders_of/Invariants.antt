@@ -5,4 +5,4 @@ use Rattle.plain_orders.specs.Listed.{order_given}
 use Rattle.plain_orders.proofs.hour.orders_of.Given as goal
 
 abbrev pub invariant-loop-event : goal.invariant-loop-event
-invariant-loop-event l = l.orders.items ≡ map (standing l.events) (filter_map (order_given l.hour) (take l.event-index l.events))
+invariant-loop-event l = l.orders.items ≡ map (standing l.events) (filter_map (order_given l.hour) (take l.event-index l.event-items))

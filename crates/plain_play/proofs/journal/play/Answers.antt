@@ -22,9 +22,9 @@ loop-turn-init c =
     record {
       matched = ap length c.in_ok-given.ensures ∙ length-replicate (length commands) 0;
       counted = subst (λ given. CountsTurns given turns 0) (sym c.in_ok-given.ensures) (CountsTurns-none (length commands) turns);
-      played = subst (λ entries. IsPlayed setup commands turns 0 entries c.new-history.result) (sym c.new-entries.ensures)
-          (subst (λ history. IsPlayed setup commands turns 0 [] history) (sym c.new-history.ensures) (nothing-played setup commands turns));
-      few = subst (λ history. entered_count history ≤ 0) (sym c.new-history.ensures) (omega arith);
+      played = subst (λ entries. IsPlayed setup commands turns 0 entries c.in_ok-history.history) (sym c.new-entries.ensures)
+          (subst (λ history. IsPlayed setup commands turns 0 [] history) (sym c.in_ok-history.ensures) (nothing-played setup commands turns));
+      few = subst (λ history. entered_count history ≤ 0) (sym c.in_ok-history.ensures) (omega arith);
       named = subst (λ entries. All (IsEntryIn setup) entries) (sym c.new-entries.ensures) (λ k d h. absurd (omega (arith, h)));
     }
 

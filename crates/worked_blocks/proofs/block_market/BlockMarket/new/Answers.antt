@@ -9,5 +9,5 @@ invariant_of-result c = record {
   is_setup = subst IsGraph c.in_ok-grid.ensures.graph c.in_ok-grid.ensures.grid.is_graph;
   over = c.in_ok-grid.ensures.graph;
   two_callers = c.in_ok-setup.ensures.callers;
-  history = subst (IsHistory c.in_ok-setup.setup) (sym c.new-events.ensures) (empty_history c.in_ok-setup.setup);
+  history = subst (IsHistory c.in_ok-setup.setup) (sym c.in_ok-events.ensures) (empty_history c.in_ok-setup.setup);
 }

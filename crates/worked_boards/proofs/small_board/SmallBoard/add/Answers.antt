@@ -1,8 +1,4 @@
-use Rattle.std.proofs.Common.{◌∙◌, ◌++◌, ◌∷◌, [], sym, ap, subst}
-use Rattle.plain_capacity.specs.Hour.{IsLegalOver}
-use Rattle.plain_orders.specs.Histories.{IsSomeHistory}
-use Rattle.worked_boards.specs.Kept.{AreKept}
-use Rattle.worked_boards.specs.Small.{HasRoom}
+use Rattle.std.proofs.Common.{◌∙◌, ◌++◌, ◌∷◌, [], ap}
 use Rattle.worked_boards.proofs.SmallBoards.{added-grown, added-legal, own_of}
 use Rattle.worked_boards.proofs.small_board.SmallBoard.add.Goals as goal
 
@@ -10,19 +6,18 @@ pub has_room-requires : goal.has_room-requires
 has_room-requires c =
     let whole = added-legal (own_of c.self.inside) c.args.self.now c.self.view_is c.self.invariant.grown c.args.event c.push.new.self c.requires.fits
     (c.in_ok-push.ensures.ok ∙ ap (λ es. es ++ c.args.event ∷ []) c.in_ok-events.ensures) in
-    record { history = subst IsSomeHistory (sym c.as_slice.ensures) (record { setup = whole.setup; fit = whole.fit }) }
+    record { history = record { setup = whole.setup; fit = whole.fit } }
 
 pub parts_of-requires : goal.parts_of-requires
 parts_of-requires c = record {
-  legal = subst (IsLegalOver c.self.inside.grid) (sym c.as_slice-2.ensures)
-      (added-legal (own_of c.self.inside) c.args.self.now c.self.view_is c.self.invariant.grown c.args.event c.push.new.self c.requires.fits
-      (c.in_ok-push.ensures.ok ∙ ap (λ es. es ++ c.args.event ∷ []) c.in_ok-events.ensures));
+  legal = added-legal (own_of c.self.inside) c.args.self.now c.self.view_is c.self.invariant.grown c.args.event c.push.new.self c.requires.fits
+      (c.in_ok-push.ensures.ok ∙ ap (λ es. es ++ c.args.event ∷ []) c.in_ok-events.ensures);
 }
 
 pub invariant_of-self : goal.invariant_of-self
 invariant_of-self c = record {
   grown = added-grown (own_of c.self.inside) c.args.self.now c.self.view_is c.self.invariant.grown c.args.event c.push.new.self c.requires.fits
       (c.in_ok-push.ensures.ok ∙ ap (λ es. es ++ c.args.event ∷ []) c.in_ok-events.ensures)
-      c.args.hand c.requires.touches (subst (λ es. HasRoom es c.self.inside.hour c.args.hand) c.as_slice.ensures (c.in_ok-has_room.ensures c.if-not-branch.false));
-  kept = subst (λ es. AreKept c.self.inside.grid c.self.inside.hour es c.in_ok-parts.parts.items) c.as_slice-2.ensures c.in_ok-parts.ensures;
+      c.args.hand c.requires.touches (c.in_ok-has_room.ensures c.if-not-branch.false);
+  kept = c.in_ok-parts.ensures;
 }

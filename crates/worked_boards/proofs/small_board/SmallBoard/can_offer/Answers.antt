@@ -2,7 +2,6 @@ use Rattle.std.proofs.Common.{◌≤ℤ◌, pos, subst}
 use Rattle.order_kinds.specs.Period.{quarter_of}
 use Rattle.market_model.specs.Board.{BoardState}
 use Rattle.market_model.specs.Capacity.{flow}
-use Rattle.plain_capacity.specs.Hour.{IsCapacityOf}
 use Rattle.worked_boards.specs.Small.{EachFrom}
 use Rattle.worked_boards.proofs.Fitting.{rows-cover}
 use Rattle.worked_boards.proofs.SmallBoards.{own_of}
@@ -18,6 +17,6 @@ returns c can = record {
   covers = subst (λ (b : BoardState). EachFrom c.args.first c.args.last (λ number. flow b.events (quarter_of b.hour number) c.args.arc ≤ℤ pos c.args.lots)) c.self.view_is
       (rows-cover (own_of c.self.inside) c.in_ok-capacity.capacity c.args.arc c.args.first c.args.last c.args.lots
       (c.are_quarters.ensures.low c.if-not-are_quarters.false) (c.are_quarters.ensures.high c.if-not-are_quarters.false)
-      (subst (λ es. IsCapacityOf c.self.inside.grid es c.self.inside.hour c.in_ok-capacity.capacity) c.as_slice.ensures c.in_ok-capacity.ensures)
+      c.in_ok-capacity.ensures
       (c.covers_flows.ensures can));
 }

@@ -13,7 +13,7 @@ returns-clause-fresh c =
     let seen : BoardState = c.args.self.now in
     let named : next_name seen.events seen.hour ≡ c.next_name-name.result =
     ap (λ (b : BoardState). next_name b.events b.hour) (sym c.self.view_is)
-    ∙ ap (λ es. next_name es c.self.inside.hour) (sym c.as_slice.ensures) ∙ sym c.next_name-name.ensures in
+    ∙ sym c.next_name-name.ensures in
     subst (λ es. IsFresh es (order_of seen c.next_name-name.result.number c.args.caller c.args.order)) (sym (ap (λ (b : BoardState). b.events) c.in_ok-add.ensures.added))
     (subst (λ (n : OrderName). IsFresh (and_then seen.events (event.Entered n c.args.caller c.args.order)) (order_of seen n.number c.args.caller c.args.order)) named
     (entered-fresh seen (subst IsGrown c.self.view_is c.self.invariant.grown) c.args.caller c.args.order (c.can_enter.ensures c.if-not-can_enter.false)))

@@ -2,7 +2,6 @@ use Rattle.std.proofs.Common.{◌∙◌, ap, sym, subst}
 use Rattle.zone_graph.specs.Graph.{Graph}
 use Rattle.market_model.specs.Board.{BoardState}
 use Rattle.plain_capacity.specs.Hour.{IsLegalOver}
-use Rattle.worked_boards.specs.Kept.{AreKept}
 use Rattle.worked_boards.specs.Small.{IsGrown}
 use Rattle.worked_boards.proofs.Grown.{legal}
 use Rattle.worked_boards.proofs.SmallBoards.{own_of}
@@ -10,7 +9,7 @@ use Rattle.worked_boards.proofs.small_board.SmallBoard.follow.Goals as goal
 
 pub parts_of-requires : goal.parts_of-requires
 parts_of-requires c = record {
-  legal = subst (IsLegalOver c.self.inside.grid) (sym (c.as_slice.ensures ∙ c.in_ok-events.ensures))
+  legal = subst (IsLegalOver c.self.inside.grid) (sym c.in_ok-events.ensures)
       (subst (λ (graph : Graph). IsLegalOver graph c.other.inside.events)
       (ap (λ (b : BoardState). b.grid) c.other.view_is ∙ sym c.requires.grid ∙ sym (ap (λ (b : BoardState). b.grid) c.self.view_is))
       (legal (own_of c.other.inside) c.other.invariant.grown));
@@ -22,5 +21,5 @@ invariant_of-self c = record {
       (ap (λ (b : BoardState). b.grid) c.other.view_is ∙ sym c.requires.grid ∙ sym (ap (λ (b : BoardState). b.grid) c.self.view_is))
       (subst (λ es. IsGrown (record { grid = c.other.inside.grid; hour = c.other.inside.hour; parts = 7; events = es; hand = c.other.inside.hand })) (sym c.in_ok-events.ensures)
       c.other.invariant.grown);
-  kept = subst (λ es. AreKept c.self.inside.grid c.other.inside.hour es c.in_ok-parts.parts.items) c.as_slice.ensures c.in_ok-parts.ensures;
+  kept = c.in_ok-parts.ensures;
 }

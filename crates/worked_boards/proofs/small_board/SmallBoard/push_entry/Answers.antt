@@ -11,7 +11,7 @@ pub returns-clause-alone : goal.returns-clause-alone
 returns-clause-alone c =
     let seen : BoardState = c.args.self.now in
     let named : c.next_name-name.result ≡ next_name c.args.events.now seen.hour =
-    c.next_name-name.ensures ∙ ap (λ es. next_name es c.self.inside.hour) c.as_slice.ensures ∙ ap (λ (b : BoardState). next_name c.args.events.now b.hour) c.self.view_is in
+    c.next_name-name.ensures ∙ ap (λ (b : BoardState). next_name c.args.events.now b.hour) c.self.view_is in
     let entered : c.push.new.self ≡ with_entry_of seen.hour c.args.caller c.args.events.now c.args.order.now =
     c.in_ok-push.ensures.ok ∙ ap (λ (n : OrderName). c.args.events.now ++ event.Entered n c.args.caller c.args.order.now ∷ []) named in
     let few : length c.args.events.now < 2 ^ 32 - 1 = omega arith in

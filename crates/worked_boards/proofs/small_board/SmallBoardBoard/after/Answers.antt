@@ -2,22 +2,20 @@ use Rattle.std.proofs.Common.{◌≡◌, ◌∙◌, get_or, true, refl, sym, ap,
 use Rattle.order_kinds.specs.declared.order.Order.{Order}
 use Rattle.order_kinds.specs.Contract.{is_known, part_number}
 use Rattle.market_model.specs.Board.{shown_behind}
-use Rattle.market_model.specs.Orders.{open_order}
 use Rattle.worked_boards.specs.Kept.{line_in, resting}
-use Rattle.worked_boards.proofs.RestingOrders.{name_at}
 use Rattle.worked_boards.proofs.SmallBoards.{behind-at, known-part, none-rests, own_of}
 use Rattle.worked_boards.proofs.small_board.SmallBoardBoard.after.Goals as goal
 
 pub returns-in_err-placed-clause-next : goal.returns-in_err-placed-clause-next
 returns-in_err-placed-clause-next c part side rests =
     absurd (none-rests (own_of c.self.inside) c.args.self.now c.self.view_is c.self.inside.parts.items c.self.invariant c.args.number
-    (ap (λ es. open_order es (name_at (own_of c.self.inside) c.args.number)) (sym c.as_slice.ensures) ∙ sym c.open_order.ensures ∙ c.in_err-placed.was) part side rests)
+    (sym c.open_order.ensures ∙ c.in_err-placed.was) part side rests)
 
 pub number_of-requires : goal.number_of-requires
 number_of-requires c = record {
   known = subst (λ (o : Order). is_known o.contract.part ≡ true) (sym c.order-order.ensures)
       (known-part (own_of c.self.inside) c.args.self.now c.self.view_is c.self.inside.parts.items c.self.invariant c.args.number c.in_ok-placed.placed
-      (ap (λ es. open_order es (name_at (own_of c.self.inside) c.args.number)) (sym c.as_slice.ensures) ∙ sym c.open_order.ensures ∙ c.in_ok-placed.was));
+      (sym c.open_order.ensures ∙ c.in_ok-placed.was));
 }
 
 pub returns-clause-next : goal.returns-clause-next
@@ -26,7 +24,7 @@ returns-clause-next c part side rests =
     ∙ ap (λ l. shown_behind c.args.number (resting c.self.inside.hand l)) (c.line.ensures ∙ ap (λ (o : Order). line_in o.side c.index-as_slice-number_of.result) c.order-order.ensures)
     ∙ behind-at (own_of c.self.inside) c.args.self.now c.self.view_is c.self.inside.parts.items c.self.invariant refl c.args.number c.number_of.result
     c.in_ok-placed.placed c.index-as_slice-number_of.result
-    (ap (λ es. open_order es (name_at (own_of c.self.inside) c.args.number)) (sym c.as_slice.ensures) ∙ sym c.open_order.ensures ∙ c.in_ok-placed.was)
+    (sym c.open_order.ensures ∙ c.in_ok-placed.was)
     (c.number_of.ensures.number ∙ ap (λ (o : Order). part_number o.contract.part) c.order-order.ensures)
-    (subst (λ xs. c.index-as_slice-number_of.result ≡ get_or xs c.number_of.result c.index-as_slice-number_of.result) c.as_slice-2.ensures.value c.index-as_slice-number_of.is)
+    (subst (λ xs. c.index-as_slice-number_of.result ≡ get_or xs c.number_of.result c.index-as_slice-number_of.result) c.as_slice.ensures.value c.index-as_slice-number_of.is)
     part side rests

@@ -1,19 +1,15 @@
-use Rattle.std.proofs.Common.{sym, subst}
 use Rattle.order_kinds.specs.Contract.{contract_at}
 use Rattle.market_model.specs.Board.{with_events}
-use Rattle.plain_capacity.specs.Hour.{IsLegalOver}
-use Rattle.worked_boards.specs.Kept.{AreKept}
 use Rattle.worked_boards.proofs.Grown.{legal}
 use Rattle.worked_boards.proofs.SmallBoards.{leg-added, made-grown, own_of}
 use Rattle.worked_boards.proofs.small_board.SmallBoardBoard.make.Goals as goal
 
 pub parts_of-requires : goal.parts_of-requires
 parts_of-requires c = record {
-  legal = subst (IsLegalOver c.self.inside.grid) (sym c.as_slice.ensures)
-      (legal (with_events (own_of c.self.inside) c.push.new.self)
+  legal = legal (with_events (own_of c.self.inside) c.push.new.self)
       (made-grown (own_of c.self.inside) c.args.self.now c.self.view_is c.self.invariant.grown c.args.part c.args.leg.now c.push.new.self c.requires.fits
       (leg-added c.self.inside.events c.in_ok-events.events c.push.new.self c.contract_at.result (contract_at c.self.inside.hour c.args.part) c.in_ok-copy.field-0 c.args.leg.now
-      c.in_ok-push.ensures.ok c.in_ok-events.ensures c.contract_at.ensures.contract c.in_ok-copy.ensures)));
+      c.in_ok-push.ensures.ok c.in_ok-events.ensures c.contract_at.ensures.contract c.in_ok-copy.ensures));
 }
 
 pub invariant_of-self : goal.invariant_of-self
@@ -21,5 +17,5 @@ invariant_of-self c = record {
   grown = made-grown (own_of c.self.inside) c.args.self.now c.self.view_is c.self.invariant.grown c.args.part c.args.leg.now c.push.new.self c.requires.fits
       (leg-added c.self.inside.events c.in_ok-events.events c.push.new.self c.contract_at.result (contract_at c.self.inside.hour c.args.part) c.in_ok-copy.field-0 c.args.leg.now
       c.in_ok-push.ensures.ok c.in_ok-events.ensures c.contract_at.ensures.contract c.in_ok-copy.ensures);
-  kept = subst (λ es. AreKept c.self.inside.grid c.self.inside.hour es c.in_ok-parts.parts.items) c.as_slice.ensures c.in_ok-parts.ensures;
+  kept = c.in_ok-parts.ensures;
 }

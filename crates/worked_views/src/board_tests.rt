@@ -3,10 +3,10 @@
 ghost use Rattle.std.specs.Prelude.{◌≡◌, ◌<◌, ◌&&◌, true, nat_lt};
 ghost use Rattle.std.specs.List.{list_all};
 
-use super::*;
 use market_model::{Arc, Event, Kind, Leg, Lots, Part, Price, Side};
 use std::alloc::Global;
 use std::test::Fail;
+use worked_boards::{Draws, HOUR, SmallMarket, Step, limit, order};
 
 // The borders of a diamond of four zones, and of two zones.
 const DIAMOND: [(u32, u32); 4] = [(0, 1), (0, 2), (1, 3), (2, 3)];
