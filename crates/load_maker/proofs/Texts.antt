@@ -5,7 +5,7 @@ use Rattle.std.specs.List.{range_with_len}
 use Rattle.std.proofs.lemmas.List.{append-nil, append_assoc}
 use Rattle.std.proofs.lemmas.List.Concat.{flat_map-append}
 use Rattle.std.proofs.lemmas.List.FromFn.{map-range_with_len_more}
-use Rattle.load_maker.specs.declared.given.Given.{Given}
+use Rattle.load_maker.specs.declared.drawn_lines.Given.{Given}
 use Rattle.load_maker.specs.Commands.{command_from, state_left}
 use Rattle.load_maker.specs.Lines.{line_of, text_of}
 use Rattle.load_maker.specs.Session.{header, state_before, command_line, session_text}

@@ -11,8 +11,8 @@ use Rattle.order_kinds.specs.declared.side.Side.TheVariants.{Buy, Sell}
 use Rattle.load_maker.specs.declared.commands.Form.{Form}
 use Rattle.load_maker.specs.declared.commands.Form.TheVariants as form
 use Rattle.load_maker.specs.declared.commands.Terms.{Terms}
-use Rattle.load_maker.specs.declared.given.Given.{Given}
-use Rattle.load_maker.specs.declared.given.Given.TheVariants as given
+use Rattle.load_maker.specs.declared.drawn_lines.Given.{Given}
+use Rattle.load_maker.specs.declared.drawn_lines.Given.TheVariants as given
 use Rattle.load_maker.specs.Draws.{state_after, draw}
 
 -- the two zones of each border, counted from 0: twelve zones in a ring, and eight borders across it

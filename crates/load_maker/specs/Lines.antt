@@ -8,8 +8,8 @@ use Rattle.order_kinds.specs.declared.order.BlockOrder.{BlockOrder}
 use Rattle.order_kinds.specs.Contract.{hour_text, quarter_text, contract_text}
 use Rattle.order_kinds.specs.Price.{digit, cents_text, price_text, lots_text}
 use Rattle.order_kinds.specs.Side.{side_text}
-use Rattle.load_maker.specs.declared.given.Given.{Given}
-use Rattle.load_maker.specs.declared.given.Given.TheVariants as given
+use Rattle.load_maker.specs.declared.drawn_lines.Given.{Given}
+use Rattle.load_maker.specs.declared.drawn_lines.Given.TheVariants as given
 
 -- words with single spaces between them
 abbrev pub spaced : List (List ℕ) → List ℕ

@@ -1,7 +1,7 @@
 -- The text of a generated session.
 use Rattle.std.specs.Prelude.{ℕ, zero, suc, List, [], ◌∷◌, ◌++◌, map, codes}
 use Rattle.std.specs.List.{range_with_len}
-use Rattle.load_maker.specs.declared.given.Given.{Given}
+use Rattle.load_maker.specs.declared.drawn_lines.Given.{Given}
 use Rattle.load_maker.specs.Commands.{borders, command_from, state_left}
 use Rattle.load_maker.specs.Lines.{spaced, zone_name, trader_name, line_of, text_of}
 

@@ -4,8 +4,8 @@ ghost use Rattle.std.specs.Prelude.{◌≡◌, ◌<◌};
 ghost use Rattle.load_maker.specs.Draws.{next_state, state_after};
 ghost use Rattle.load_maker.specs.Commands as drawn;
 
+use crate::drawn_lines::Given;
 use crate::draws::Draws;
-use crate::given::Given;
 use market_model::{BlockOrder, Contract, Kind, Lots, Order, Part, Price, Quarter, Side};
 
 // How many commands at the head of a session offer capacity: one for each arc.

@@ -6,8 +6,8 @@
 #![tactic(auto)]
 
 mod commands;
+mod drawn_lines;
 mod draws;
-mod given;
 mod session;
 mod totals;
 

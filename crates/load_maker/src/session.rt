@@ -5,8 +5,8 @@ ghost use Rattle.load_maker.specs.Lines.{line_of};
 ghost use Rattle.load_maker.specs.Session as sessions;
 
 use crate::commands::draw_command;
+use crate::drawn_lines::Given;
 use crate::draws::Draws;
-use crate::given::Given;
 use std::alloc::Global;
 use std::fmt::Write;
 use zone_graph::{NoMemory, Text};

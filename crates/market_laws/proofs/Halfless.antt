@@ -18,7 +18,7 @@ use Rattle.market_model.specs.declared.event.Event.TheVariants as event
 use Rattle.market_model.specs.declared.refusal.Refusal.{Refusal}
 use Rattle.market_model.specs.declared.setup.Setup.{Setup}
 use Rattle.market_model.specs.Blocks.{StandingBlock, enter_block, entering_block, legs_with, partner_found, with_block}
-use Rattle.market_model.specs.DeepLaws.{is_half}
+use Rattle.market_model.specs.HistoryLaws.{is_half}
 use Rattle.market_model.specs.Entering.{enter, enter_all, legs_taken, name_of_next, rest_of, rest_withdrawn, with_order}
 use Rattle.market_model.specs.Grid.{graph_of}
 use Rattle.market_model.specs.History.{events_of}

@@ -24,7 +24,7 @@ use Rattle.market_model.specs.declared.reply.Reply.{Reply}
 use Rattle.market_model.specs.declared.reply.Reply.TheVariants as reply
 use Rattle.market_model.specs.declared.setup.Setup.{Setup}
 use Rattle.market_model.specs.Blocks.{block_deals, enter_block, match_blocks}
-use Rattle.market_model.specs.DeepLaws.{is_half}
+use Rattle.market_model.specs.HistoryLaws.{is_half}
 use Rattle.market_model.specs.Entering.{enter, enter_all}
 use Rattle.market_model.specs.Grid.{graph_of}
 use Rattle.market_model.specs.History.{and_then, events_of, journal_events}

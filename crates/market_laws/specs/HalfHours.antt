@@ -7,7 +7,7 @@ use Rattle.market_model.specs.declared.command.Command.{Command}
 use Rattle.market_model.specs.declared.event.Event.{Event}
 use Rattle.market_model.specs.declared.event.Event.TheVariants as event
 use Rattle.market_model.specs.declared.setup.Setup.{Setup}
-use Rattle.market_model.specs.DeepLaws.{is_half}
+use Rattle.market_model.specs.HistoryLaws.{is_half}
 use Rattle.market_model.specs.History.{events_of}
 use Rattle.market_model.specs.Market.{reply_by}
 use Rattle.market_model.specs.Rules.{parts_named}

@@ -14,7 +14,7 @@ use Rattle.market_model.specs.declared.event.Event.{Event}
 use Rattle.market_model.specs.declared.event.Event.TheVariants as event
 use Rattle.market_model.specs.declared.event.Leg.{Leg}
 use Rattle.market_model.specs.declared.setup.Setup.{Setup}
-use Rattle.market_model.specs.DeepLaws.{history_of}
+use Rattle.market_model.specs.HistoryLaws.{history_of}
 use Rattle.market_model.specs.Grid.{graph_of}
 use Rattle.market_model.specs.History.{and_then, events_of}
 use Rattle.market_model.specs.Lines.{can_trade, partner, priority_cmp, rooms_for, time_cmp}

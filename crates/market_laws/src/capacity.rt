@@ -1,7 +1,7 @@
 //! The capacity of borders is never oversold.
 
 ghost use Rattle.market_laws.specs.CapacityLaws.{OffersCoverTheFlow, RepliesLeaveCapacity, RepliesOversellNothing};
-ghost use Rattle.market_model.specs.DeepLaws.{CapacityRemains, NothingIsOversold};
+ghost use Rattle.market_model.specs.HistoryLaws.{CapacityRemains, NothingIsOversold};
 
 /// A reply after a well-formed history leaves from nothing to 200000.0 MW on each arc in each
 /// quarter.

@@ -1,7 +1,7 @@
 //! What half hours change.
 
 ghost use Rattle.market_laws.specs.HalfHours.{HalvesChangeNoOtherReply, RepliesStayHalfless};
-ghost use Rattle.market_model.specs.DeepLaws.{HalvesChangeNothingElse};
+ghost use Rattle.market_model.specs.HistoryLaws.{HalvesChangeNothingElse};
 
 /// After a history without orders of half hours, the reply to a command that names none is the same
 /// in a market whose sweeps know none.

@@ -2,7 +2,7 @@
 
 ghost use Rattle.market_laws.specs.Locality.{RepliesStayWithin, TouchedHoursDecide};
 ghost use Rattle.market_model.specs.Concerned.{JournalsKeepToTheirHours};
-ghost use Rattle.market_model.specs.DeepLaws.{EventsStayInTheirHours, RepliesAreLocal};
+ghost use Rattle.market_model.specs.HistoryLaws.{EventsStayInTheirHours, RepliesAreLocal};
 
 /// Two well-formed histories with the same events of the hours that a command touches, in order,
 /// give it the same reply.

@@ -1,6 +1,6 @@
 //! What is left to trade.
 
-ghost use Rattle.market_model.specs.DeepLaws.{NothingLeftToTrade};
+ghost use Rattle.market_model.specs.HistoryLaws.{NothingLeftToTrade};
 ghost use Rattle.market_laws.specs.UncrossedBook.{ReductionsEnableNoTrade, RepliesKeepBooksUncrossed, WithdrawalsEnableNoTrade};
 
 /// A reply after a well-formed history leaves no two open orders of one contract that can trade,

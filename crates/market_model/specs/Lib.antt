@@ -4,7 +4,7 @@ pub mod Capacity
 pub mod Certificate
 pub mod Command
 pub mod Concerned
-pub mod DeepLaws
+pub mod HistoryLaws
 pub mod Entering
 pub mod Grid
 pub mod History

@@ -1,11 +1,8 @@
 -- Each order stands once in a line, so that what is withdrawn of the orders of a line is withdrawn
 -- of each of them once.
-use Rattle.std.proofs.Common.{◌≡◌, ◌∙◌, inl, inr, ℕ, ◌+◌, ◌-◌, ◌≤◌, Bool, true, false, cond, List, [], ◌∷◌, filter, fold, map, nat_lt, sum_by, Option, Some, None, refl, sym, ap, subst, if◌then◌else◌, arith}
+use Rattle.std.proofs.Common.{◌≡◌, ◌∙◌, inl, inr, ℕ, ◌+◌, ◌-◌, ◌≤◌, Bool, true, false, cond, List, [], ◌∷◌, filter, map, nat_lt, sum_by, refl, sym, ap, subst, arith}
 use Rattle.std.proofs.lemmas.Bool.{ltb-false, true≢false}
 use Rattle.std.proofs.lemmas.List.Sums.{sum_by-cons}
-use Rattle.std.specs.List.{cons_option}
-use Rattle.std.specs.Ordering.{is_lt}
-use Rattle.std.specs.declared.cmp.Ordering.{Ordering}
 use Rattle.order_kinds.specs.declared.contract.Contract.{Contract}
 use Rattle.order_kinds.specs.declared.order.OrderName.{OrderName}
 use Rattle.order_kinds.specs.declared.side.Side.{Side}
@@ -13,14 +10,12 @@ use Rattle.order_kinds.specs.Same.{same_name}
 use Rattle.zone_graph.specs.Pour.{lots_if}
 use Rattle.zone_graph.specs.Route.{IsIn}
 use Rattle.market_model.specs.declared.event.Event.{Event}
-use Rattle.market_model.specs.Lines.{line, priority_cmp, stands_in}
-use Rattle.market_model.specs.Orders.{Placed, Standing, placed, placed_by, standing, taken_off_by}
+use Rattle.market_model.specs.Lines.{line, stands_in}
+use Rattle.market_model.specs.Orders.{Placed, Standing, placed, taken_off_by}
 use Rattle.market_model.specs.View.{hidden_withdrawn}
 use Rattle.market_laws.proofs.LineSums.{one_if, sum-line, times_placed}
 use Rattle.market_laws.proofs.Names.{times_entered}
-use Rattle.market_laws.proofs.Tests.{same_name-eq, same_name-refl}
-use Rattle.market_laws.proofs.Unique.{enters-placed}
-use Rattle.zone_graph.specs.InOrder.{put_in_order, in_order}
+use Rattle.market_laws.proofs.Tests.{same_name-refl}
 
 -- what counts where a test passes is no more than all
 sum-if : {X : Type 0} (f : X → ℕ) (p : X → Bool) (xs : List X) → sum_by (λ x. lots_if (p x) (f x)) xs ≤ sum_by f xs

@@ -6,7 +6,7 @@ use Rattle.zone_graph.specs.Graph.{zone_count}
 use Rattle.zone_graph.specs.Pour.{opposite_arc}
 use Rattle.market_model.specs.declared.setup.Setup.{Setup}
 use Rattle.market_model.specs.Capacity.{flow, offered}
-use Rattle.market_model.specs.DeepLaws.{history_of}
+use Rattle.market_model.specs.HistoryLaws.{history_of}
 use Rattle.market_model.specs.Grid.{graph_of}
 use Rattle.market_model.specs.Market.{Turn}
 use Rattle.market_model.specs.WellFormed.{IsMarketSetup}

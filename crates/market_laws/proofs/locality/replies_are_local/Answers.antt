@@ -1,4 +1,4 @@
-use Rattle.market_model.specs.DeepLaws.{history_of}
+use Rattle.market_model.specs.HistoryLaws.{history_of}
 use Rattle.market_model.specs.Sweep.{all_parts}
 use Rattle.market_laws.proofs.Journals.{run-history}
 use Rattle.market_laws.proofs.NamedByHour.{history-named}

@@ -1,7 +1,7 @@
 use Rattle.std.proofs.Common.{pos, neg_ℤ, ◌≤ℤ◌, sym, subst}
 use Rattle.zone_graph.specs.Pour.{opposite_arc}
 use Rattle.market_model.specs.Capacity.{offered}
-use Rattle.market_model.specs.DeepLaws.{history_of}
+use Rattle.market_model.specs.HistoryLaws.{history_of}
 use Rattle.market_model.specs.Sweep.{all_parts}
 use Rattle.market_laws.proofs.Journals.{run-history}
 use Rattle.ship_schedule.specs.Schedule.{forward_arc}
