@@ -2,12 +2,11 @@ pub mod Blocks
 pub mod Board
 pub mod Capacity
 pub mod Certificate
-pub mod Command
 pub mod Concerned
-pub mod HistoryLaws
 pub mod Entering
 pub mod Grid
 pub mod History
+pub mod HistoryLaws
 pub mod HourSet
 pub mod Lines
 pub mod Market

@@ -21,7 +21,9 @@ use std::marker::Model;
 use zone_graph::{Arc, Grid, NoMemory, Rooms};
 
 /// The capacity of one hour after a list of events: what is offered and what flows on each border
-/// in each quarter, which borders are halted, and the phase.
+/// in each quarter, which borders are halted, and the phase. It is summed up anew from the events
+/// whenever it is asked for, as the second opinion on the flows that the engine keeps
+/// (`flow_netting::HourFlows`).
 #[derive(Debug, Drop)]
 pub struct HourCapacity {
     first: Vec<QuarterRow>,
