@@ -37,7 +37,7 @@ fn a_list_of_legs_is_copied(rt: HostRuntime) -> Result<(), Fail> {
 }
 
 #[test]
-fn names_are_of_letters_digits_low_lines_and_hyphens(rt: HostRuntime) {
+fn names_are_of_letters_digits_underscores_and_hyphens(rt: HostRuntime) {
     for (bytes, want) in [
         (b"DE".as_slice(), true),
         (b"a-z_09", true),
