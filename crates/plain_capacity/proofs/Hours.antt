@@ -1,6 +1,7 @@
 -- The capacity of an hour, event by event.
-use Rattle.std.proofs.Common.{◌≡◌, ◌∙◌, ◌+◌, ◌<◌, ℕ, pos, zero, suc, Bool, true, false, List, [], ◌∷◌, ◌++◌, length, take, get_or, replicate, unwrap_or, refl, sym, ap, subst, arith}
+use Rattle.std.proofs.Common.{◌≡◌, ◌∙◌, ◌+◌, ◌<◌, ℕ, pos, zero, suc, Bool, true, false, List, [], ◌∷◌, ◌++◌, length, take, get_or, replicate, unwrap_or, None, refl, sym, ap, subst, arith}
 use Rattle.std.proofs.lemmas.List.{length-replicate}
+use Rattle.std.proofs.Math.IntN.{+ℤ_idr}
 use Rattle.std.proofs.Math.Seq.{take-append_seam}
 use Rattle.order_kinds.specs.declared.contract.Quarter.{Quarter}
 use Rattle.order_kinds.specs.declared.phase.Phase.TheVariants as phase
@@ -17,7 +18,7 @@ use Rattle.market_model.specs.WellFormed.{Fits}
 use Rattle.market_laws.proofs.Capacities.{last_said-more}
 use Rattle.market_laws.proofs.Uses.{IsWithinOffers}
 use Rattle.plain_capacity.specs.Rows.{IsNoted, IsQuarterOf}
-use Rattle.plain_capacity.specs.Hour.{CanNoteIn, Capacity, HasBorder, IsCapacityOf, halted_at, idle, rows_in, size_of}
+use Rattle.plain_capacity.specs.Hour.{CanNoteIn, Capacity, HasBorder, IsCapacityOf, halted_at, idle, is_of_orders, rows_in, size_of}
 use Rattle.plain_capacity.proofs.Legal.{can-note, noted-is}
 
 -- what is true of quarters 1 to 4 is true of each quarter
@@ -105,6 +106,30 @@ module _ (graph : Graph) (before : List Event) (e : Event) (hour : ℕ) (capacit
         halts border there ∙ ap (unwrap_or (halt_by border hour e)) (is.halts border known) ∙ sym (last_said-more (halt_by border hour) false before e);
     phase = phased ∙ ap (unwrap_or (phase_by hour e)) is.phase ∙ sym (last_said-more (phase_by hour) phase.Open before e);
   }
+
+-- an event of orders changes no row
+pub same-rows : (quarter : Quarter) (e : Event) (rows : List Row) → is_of_orders e ≡ true → IsNoted quarter e rows rows
+same-rows quarter (event.Entered name caller order) rows is = record { size = refl; offers = λ arc. refl; flows = λ arc. sym (+ℤ_idr _) }
+same-rows quarter (event.EnteredBlock name caller order) rows is = record { size = refl; offers = λ arc. refl; flows = λ arc. sym (+ℤ_idr _) }
+same-rows quarter (event.Withdrawn name lots) rows is = record { size = refl; offers = λ arc. refl; flows = λ arc. sym (+ℤ_idr _) }
+same-rows quarter (event.Reduced name by) rows is = record { size = refl; offers = λ arc. refl; flows = λ arc. sym (+ℤ_idr _) }
+same-rows quarter (event.Leg contract leg) rows is = absurd (cc)
+same-rows quarter (event.BlockLeg first last leg) rows is = absurd (cc)
+same-rows quarter (event.Granted arc first last lots) rows is = absurd (cc)
+same-rows quarter (event.Offered arc first last lots) rows is = absurd (cc)
+same-rows quarter (event.Halted border first last) rows is = absurd (cc)
+same-rows quarter (event.Resumed border first last) rows is = absurd (cc)
+same-rows quarter (event.Gated gated moved) rows is = absurd (cc)
+
+-- and says nothing of halts and of the phase
+pub no-halt : (border hour : ℕ) (e : Event) → is_of_orders e ≡ true → halt_by border hour e ≡ None
+no-halt border hour (event.Halted halted first last) is = absurd (cc)
+no-halt border hour (event.Resumed resumed first last) is = absurd (cc)
+no-halt border hour _ is = refl
+
+pub no-phase : (hour : ℕ) (e : Event) → is_of_orders e ≡ true → phase_by hour e ≡ None
+no-phase hour (event.Gated gated moved) is = absurd (cc)
+no-phase hour _ is = refl
 
 -- ---- an event by its place among others
 

@@ -19,8 +19,8 @@ use Rattle.market_laws.proofs.Restrict.{filter-filter, fold-filter}
 use Rattle.market_laws.proofs.Uses.{within_offers}
 use Rattle.event_history.specs.Near.{IsNear}
 use Rattle.plain_capacity.specs.Rows.{IsNoted}
-use Rattle.plain_capacity.specs.Hour.{CanNoteIn, Capacity, IsCapacityOf, IsLegalOver, halted_at, rows_in, size_of}
-use Rattle.plain_capacity.proofs.Hours.{can-note-in, noted-in, take-more}
+use Rattle.plain_capacity.specs.Hour.{CanNoteIn, Capacity, IsCapacityOf, IsLegalOver, halted_at, is_of_orders, rows_in, size_of}
+use Rattle.plain_capacity.proofs.Hours.{can-note-in, no-halt, no-phase, noted-in, same-rows, take-more}
 
 -- ---- phases and halts
 
@@ -142,3 +142,10 @@ module _ (graph : Graph) (events near : List Event) (legal : IsLegalOver graph e
     next-is new quarters size halts phased =
         subst (λ l. IsCapacityOf graph l hour new) (sym (take-more near i e within at))
         (noted-in graph (take i near) e hour capacity of new quarters size halts phased)
+
+    -- an event of orders leaves it as it is
+    pub next-same : is_of_orders e ≡ true → IsCapacityOf graph (take (i + 1) near) hour capacity
+    next-same of_orders =
+        next-is capacity (λ number first last. same-rows (quarter_of hour number) e (rows_in capacity number) of_orders) refl
+        (λ border there. ap (λ said. unwrap_or said (halted_at capacity border)) (sym (no-halt border hour e of_orders)))
+        (ap (λ said. unwrap_or said capacity.phase) (sym (no-phase hour e of_orders)))

@@ -90,6 +90,14 @@ pub record IsCapacityOf (graph : Graph) (events : List Event) (hour : ℕ) (capa
   pub halts : (border : ℕ) → border < border_count graph → halted_at capacity border ≡ is_halted events border hour
   pub phase : capacity.phase ≡ phase_of events hour
 
+-- an event enters an order or block, or takes lots off one: capacity is as before
+abbrev pub is_of_orders : Event → Bool
+is_of_orders (event.Entered name caller order) = true
+is_of_orders (event.EnteredBlock name caller order) = true
+is_of_orders (event.Withdrawn name lots) = true
+is_of_orders (event.Reduced name by) = true
+is_of_orders _ = false
+
 -- the border that an event halts or resumes in an hour is there
 abbrev pub HasBorder : (size hour : ℕ) → Event → Type 0
 HasBorder size hour (event.Halted border first last) = is_within first last hour ≡ true → border < size

@@ -194,6 +194,19 @@ impl HourCapacity {
     }
 }
 
+// Whether an event enters an order or block, or takes lots off one: it changes no capacity.
+fn is_of_orders(event: &Event) -> bool
+    ensures { result ≡ hours.is_of_orders event.now }
+{
+    matches!(
+        event,
+        Event::Entered { .. }
+            | Event::EnteredBlock { .. }
+            | Event::Withdrawn { .. }
+            | Event::Reduced { .. }
+    )
+}
+
 // The quarter of this number of an hour.
 fn quarter_of(hour: u32, number: u32) -> Quarter
     ensures { result ≡ periods.quarter_of hour number }
@@ -245,7 +258,9 @@ pub fn hour_capacity(
     let near = events.near(hour);
     let mut capacity = HourCapacity::new(alloc, grid)?;
     for event in near {
-        capacity.note(hour, event);
+        if !is_of_orders(event) {
+            capacity.note(hour, event);
+        }
     }
     Ok(capacity)
 }

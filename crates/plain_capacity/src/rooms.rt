@@ -1,6 +1,6 @@
 //! The rooms of all arcs for a contract and for blocks.
 
-ghost use Rattle.std.specs.Prelude.{◌≡◌, ◌≤◌, true, IfOk, length};
+ghost use Rattle.std.specs.Prelude.{◌≡◌, ◌≤◌, true, IfOk, IfSome, length};
 ghost use Rattle.order_kinds.specs.Contract as contracts;
 ghost use Rattle.order_kinds.specs.Period as periods;
 ghost use Rattle.zone_graph.specs.declared.route.Arc.{Arc};
@@ -9,7 +9,7 @@ ghost use Rattle.zone_graph.specs.Rooms as rows;
 ghost use Rattle.market_model.specs.Room as rooms;
 ghost use Rattle.plain_capacity.specs.Hour as hours;
 
-use crate::hour::hour_capacity;
+use crate::hour::{HourCapacity, hour_capacity};
 use event_history::History;
 use order_kinds::{Contract, Part};
 use std::alloc::Global;
@@ -28,7 +28,51 @@ pub fn contract_rooms(
     ensures size { IfOk result (λ made. length made ≡ graphs.border_count grid.now) }
     ensures rooms { IfOk result (λ made. (arc : Arc) → graphs.HasArc grid.now arc → rows.room_of made arc ≡ rooms.room events.now (periods.contract_quarters contract) arc) }
 {
-    hour_capacity(alloc, grid, events, contract.hour)?.rooms(grid, contract.part)
+    contract_rooms_over(alloc, grid, events, &mut None, contract)
+}
+
+/// The same rooms, from the capacity of the contract's hour: it is summed up where there is none yet,
+/// and stays for the other contracts of the hour.
+///
+/// # Errors
+///
+/// [`NoMemory`], where there is no memory for the capacity of the hour or for the rooms.
+pub fn contract_rooms_over(
+    alloc: Global,
+    grid: &Grid,
+    events: &History,
+    capacity: &mut Option<HourCapacity>,
+    contract: Contract,
+) -> Result<Rooms, NoMemory>
+    requires legal { hours.IsLegalOver grid.now events.now }
+    requires part { contracts.is_known contract.part ≡ true }
+    requires summed { IfSome capacity.old (hours.IsCapacityOf grid.now events.now contract.hour) }
+    ensures size { IfOk result (λ made. length made ≡ graphs.border_count grid.now) }
+    ensures rooms { IfOk result (λ made. (arc : Arc) → graphs.HasArc grid.now arc → rows.room_of made arc ≡ rooms.room events.now (periods.contract_quarters contract) arc) }
+    ensures summed { IfSome capacity.new (hours.IsCapacityOf grid.now events.now contract.hour) }
+{
+    let summed = or_sum_up(alloc, grid, events, contract.hour, capacity.take())?;
+    let rooms = summed.rooms(grid, contract.part)?;
+    *capacity = Some(summed);
+    Ok(rooms)
+}
+
+// The capacity of an hour, summed up where it is not given.
+fn or_sum_up(
+    alloc: Global,
+    grid: &Grid,
+    events: &History,
+    hour: u32,
+    given: Option<HourCapacity>,
+) -> Result<HourCapacity, NoMemory>
+    requires legal { hours.IsLegalOver grid.now events.now }
+    requires given { IfSome given (hours.IsCapacityOf grid.now events.now hour) }
+    ensures { IfOk result (hours.IsCapacityOf grid.now events.now hour) }
+{
+    match given {
+        Some(capacity) => Ok(capacity),
+        None => hour_capacity(alloc, grid, events, hour),
+    }
 }
 
 /// The room that each arc has for blocks of these hours after the events of a first part of a legal

@@ -18,7 +18,7 @@ use cut_proof::{border_bound, reach};
 use event_history::History;
 use market_model::{NoMemory, Order, Side, Zones};
 use plain_capacity::contract_rooms;
-use plain_orders::{StandingOrder, line, orders_of};
+use plain_orders::{StandingOrder, line, open_orders};
 use std::alloc::Global;
 use zone_graph::Grid;
 
@@ -84,7 +84,7 @@ fn opposite_line(
     ensures sound { IfOk result (λ made. crossing.AreSound made.items) }
     ensures few { IfOk result (λ made. length made.items < 2 ^ 32) }
 {
-    let orders = orders_of(alloc, events, order.contract.hour)?;
+    let orders = open_orders(alloc, events, order.contract.hour)?;
     line(
         alloc,
         orders.as_slice(),

@@ -24,15 +24,18 @@ use Rattle.market_laws.proofs.Tests.{same_name-eq}
 use Rattle.market_laws.proofs.Trades.{from_line}
 use Rattle.market_laws.proofs.Restrict.{find-filter}
 use Rattle.plain_capacity.specs.Hour.{IsLegalOver}
-use Rattle.plain_orders.specs.Listed.{is_order_of, line_of, orders_of}
+use Rattle.plain_orders.specs.Listed.{is_order_of, line_of, open_orders, stands_open}
 use Rattle.plain_orders.proofs.LineLaws.{line-of_orders}
 use Rattle.plain_matching.specs.Over.{AreInZones, AreRoomsFor, is_open_as}
 
 -- who is open under a name is found among the orders of the name's hour
-pub open_as-is : (events : List Event) (name : OrderName) → find (is_open_as name) (orders_of events name.hour) ≡ standing_order events name
+pub open_as-is : (events : List Event) (name : OrderName) → find (is_open_as name) (open_orders events name.hour) ≡ standing_order events name
 open_as-is events name =
-    find-map (is_open_as name) (standing events) (filter (is_order_of name.hour) (placed events))
-    ∙ ap (option_map (standing events)) (find-filter (λ order. is_open_as name (standing events order)) (is_order_of name.hour) (placed events) in_hour)
+    find-map (is_open_as name) (standing events) (filter (stands_open events) (filter (is_order_of name.hour) (placed events)))
+    ∙ ap (option_map (standing events))
+    (find-filter (λ order. is_open_as name (standing events order)) (stands_open events) (filter (is_order_of name.hour) (placed events))
+    (λ order i open_here. (and_parts (same_name order.name name) (nat_lt 0 (left events order.name)) open_here).1)
+    ∙ find-filter (λ order. is_open_as name (standing events order)) (is_order_of name.hour) (placed events) in_hour)
   where
     in_hour : (order : Placed) → IsIn order (placed events) → is_open_as name (standing events order) ≡ true → is_order_of name.hour order ≡ true
     in_hour order i open_here =
@@ -51,28 +54,29 @@ of_placed graph events legal order i =
     let sound = (all_are_sound legal.setup events legal.fit).orders order i in
     record { in_zone = subst (λ g. HasZone g order.order.zone) (sym legal.over) sound.in_zone; in_part = sound.in_part; named = sound.named }
 
-pub order-sound : (graph : Graph) (events : List Event) (hour : ℕ) (own : Standing) → IsLegalOver graph events → IsIn own (orders_of events hour) → IsSoundOrder graph own
+pub order-sound : (graph : Graph) (events : List Event) (hour : ℕ) (own : Standing) → IsLegalOver graph events → IsIn own (open_orders events hour) → IsSoundOrder graph own
 order-sound graph events hour own legal i =
-    let stands = from_map (standing events) own (filter (is_order_of hour) (placed events)) i in
-    let there = from_filter (is_order_of hour) stands.0 (placed events) stands.1 in
+    let stands = from_map (standing events) own (filter (stands_open events) (filter (is_order_of hour) (placed events))) i in
+    let opened = from_filter (stands_open events) stands.0 (filter (is_order_of hour) (placed events)) stands.1 in
+    let there = from_filter (is_order_of hour) stands.0 (placed events) opened.0 in
     subst (λ s. IsSoundOrder graph s) (sym stands.2) (of_placed graph events legal stands.0 there.0)
 
 -- the one that is found is of the name's hour
 pub record IsFoundAs (graph : Graph) (events : List Event) (name : OrderName) (own : Standing) : Type 0 where
-  pub is_in : IsIn own (orders_of events name.hour)
+  pub is_in : IsIn own (open_orders events name.hour)
   pub hour : own.order.contract.hour ≡ name.hour
 
 pub found_as : (graph : Graph) (events : List Event) (name : OrderName) (own : Standing) → IsLegalOver graph events
-    → find (is_open_as name) (orders_of events name.hour) ≡ Some own → IsFoundAs graph events name own
+    → find (is_open_as name) (open_orders events name.hour) ≡ Some own → IsFoundAs graph events name own
 found_as graph events name own legal found =
-    let r = from_find (is_open_as name) own (orders_of events name.hour) found in
+    let r = from_find (is_open_as name) own (open_orders events name.hour) found in
     let both = and_parts (same_name own.name name) (nat_lt 0 own.left) r.1 in
     let sound = order-sound graph events name.hour own legal r.0 in
     record { is_in = r.0; hour = sym sound.named ∙ ap (λ (n : OrderName). n.hour) (same_name-eq own.name name both.0) }
 
 -- the lines of the orders of an hour
 pub lines-are : (graph : Graph) (events : List Event) (orders : List Standing) (contract : Contract) (side : Side) → IsLegalOver graph events
-    → orders ≡ orders_of events contract.hour → line_of orders contract side ≡ line events contract side
+    → orders ≡ open_orders events contract.hour → line_of orders contract side ≡ line events contract side
 lines-are graph events orders contract side legal same =
     ap (λ os. line_of os contract side) same ∙ line-of_orders events contract side (record { setup = legal.setup; fit = legal.fit })
 
@@ -88,7 +92,7 @@ line-zones graph events contract side legal = record { each = zone }
 
 -- one of the orders of its contract's hour
 pub own-sound : (graph : Graph) (events : List Event) (orders : List Standing) (own : Standing) → IsLegalOver graph events
-    → orders ≡ orders_of events own.order.contract.hour → IsIn own orders → IsSoundOrder graph own
+    → orders ≡ open_orders events own.order.contract.hour → IsIn own orders → IsSoundOrder graph own
 own-sound graph events orders own legal same i =
     order-sound graph events own.order.contract.hour own legal (subst (λ os. IsIn own os) same i)
 
@@ -100,7 +104,7 @@ pub record IsReady (graph : Graph) (events : List Event) (own : Standing) (other
 
 -- the line in which an order seeks its partner
 pub other_line-is : (graph : Graph) (events : List Event) (orders : List Standing) (own : Standing) (order : Order) (side : Side) (found others : List Standing)
-    → IsLegalOver graph events → orders ≡ orders_of events own.order.contract.hour → order ≡ own.order → side ≡ opposite order.side
+    → IsLegalOver graph events → orders ≡ open_orders events own.order.contract.hour → order ≡ own.order → side ≡ opposite order.side
     → found ≡ line_of orders order.contract side → others ≡ found → others ≡ line events own.order.contract (opposite own.order.side)
 other_line-is graph events orders own order side found others legal same of_order of_side is_found are_others =
     are_others ∙ is_found ∙ ap (λ s. line_of orders order.contract s) of_side
@@ -108,7 +112,7 @@ other_line-is graph events orders own order side found others legal same of_orde
     ∙ lines-are graph events orders own.order.contract (opposite own.order.side) legal same
 
 pub ready : (graph : Graph) (events : List Event) (orders : List Standing) (own : Standing) (order : Order) (side : Side) (found others : List Standing)
-    (made : List (ℕ × ℕ)) → IsLegalOver graph events → orders ≡ orders_of events own.order.contract.hour → order ≡ own.order → side ≡ opposite order.side
+    (made : List (ℕ × ℕ)) → IsLegalOver graph events → orders ≡ open_orders events own.order.contract.hour → order ≡ own.order → side ≡ opposite order.side
     → found ≡ line_of orders order.contract side → others ≡ found → AreRoomsFor graph events order.contract made → IsReady graph events own others made
 ready graph events orders own order side found others made legal same of_order of_side is_found are_others are =
     let line_is = other_line-is graph events orders own order side found others legal same of_order of_side is_found are_others in

@@ -1,6 +1,6 @@
 //! The legs of an hour's sweep.
 
-ghost use Rattle.std.specs.Prelude.{◌≡◌, ◌++◌, true, IfOk, OnOk, OnErr, length};
+ghost use Rattle.std.specs.Prelude.{◌≡◌, ◌++◌, true, IfOk, IfSome, OnOk, OnErr, length};
 ghost use Rattle.std.specs.List.{list_all};
 ghost use Rattle.order_kinds.specs.Contract as contracts;
 ghost use Rattle.order_kinds.specs.Period.{hours_from};
@@ -8,7 +8,7 @@ ghost use Rattle.zone_graph.specs.Graph.{HasZone, border_count};
 ghost use Rattle.zone_graph.specs.Grid.{IsGrid};
 ghost use Rattle.zone_graph.specs.Rooms.{room_of};
 ghost use Rattle.market_model.specs.Sweep as market;
-ghost use Rattle.plain_capacity.specs.Hour.{IsLegalOver};
+ghost use Rattle.plain_capacity.specs.Hour.{IsCapacityOf, IsLegalOver};
 ghost use Rattle.plain_orders.specs.Listed as listed;
 ghost use Rattle.plain_matching.specs.Grown.{Grew, GrewByPart};
 ghost use Rattle.plain_matching.specs.Over as over;
@@ -17,8 +17,8 @@ use crate::partner::{first_crosses, partner};
 use crate::trade::resting_trade;
 use event_history::History;
 use market_model::{Contract, Event, NoMemory, Part, Side};
-use plain_capacity::contract_rooms;
-use plain_orders::{StandingOrder, line, orders_of};
+use plain_capacity::{HourCapacity, contract_rooms_over};
+use plain_orders::{StandingOrder, line, open_orders};
 use std::alloc::Global;
 use zone_graph::{Grid, Rooms};
 
@@ -83,7 +83,7 @@ pub fn sweep_leg(
 {
     let zones = grid.zones();
     prove!(zones <= 64);
-    let orders = orders_of(alloc, events, hour)?;
+    let orders = open_orders(alloc, events, hour)?;
     let parts = [
         Part::Hour,
         Part::Half(1),
@@ -106,31 +106,36 @@ fn leg_in_parts(
     parts: &[Part],
 ) -> Result<Option<Event>, NoMemory>
     requires legal { IsLegalOver grid.now events.now }
-    requires orders { orders.now ≡ listed.orders_of events.now hour }
+    requires orders { orders.now ≡ listed.open_orders events.now hour }
     requires parts { list_all contracts.is_known parts.now ≡ true }
     ensures { IfOk result (λ leg. leg ≡ over.leg_in_parts grid.now events.now hour parts.now) }
 {
+    let mut capacity = None;
     for part in parts {
         let contract = Contract { hour, part: *part };
-        if let Some(leg) = leg_in(alloc, grid, events, orders, contract)? {
+        if let Some(leg) = leg_in(alloc, grid, events, &mut capacity, orders, contract)? {
             return Ok(Some(leg));
         }
     }
     Ok(None)
 }
 
-// The leg of the first buy of a contract's line that has a partner.
+// The leg of the first buy of a contract's line that has a partner. The capacity of the hour is summed
+// up where it is asked for and there is none yet.
 fn leg_in(
     alloc: Global,
     grid: &Grid,
     events: &History,
+    capacity: &mut Option<HourCapacity>,
     orders: &[StandingOrder],
     contract: Contract,
 ) -> Result<Option<Event>, NoMemory>
     requires legal { IsLegalOver grid.now events.now }
-    requires orders { orders.now ≡ listed.orders_of events.now contract.hour }
+    requires orders { orders.now ≡ listed.open_orders events.now contract.hour }
     requires part { contracts.is_known contract.part ≡ true }
-    ensures { IfOk result (λ leg. leg ≡ market.leg_in grid.now events.now contract) }
+    requires summed { IfSome capacity.old (IsCapacityOf grid.now events.now contract.hour) }
+    ensures leg { IfOk result (λ leg. leg ≡ market.leg_in grid.now events.now contract) }
+    ensures summed { IfSome capacity.new (IsCapacityOf grid.now events.now contract.hour) }
 {
     let zones = grid.zones();
     prove!(zones <= 64);
@@ -142,7 +147,7 @@ fn leg_in(
     if !first_crosses(buys.as_slice(), sells.as_slice()) {
         return Ok(None);
     }
-    let rooms = contract_rooms(alloc, grid, events, contract)?;
+    let rooms = contract_rooms_over(alloc, grid, events, capacity, contract)?;
     first_leg(alloc, grid, &rooms, buys.as_slice(), sells.as_slice())
 }
 

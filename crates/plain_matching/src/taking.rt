@@ -15,7 +15,7 @@ use crate::trade::trade;
 use event_history::History;
 use market_model::{Event, NoMemory, OrderName};
 use plain_capacity::contract_rooms;
-use plain_orders::{StandingOrder, line, orders_of};
+use plain_orders::{StandingOrder, line, open_orders};
 use std::alloc::Global;
 use zone_graph::Grid;
 
@@ -61,7 +61,7 @@ pub fn next_leg(
 {
     let zones = grid.zones();
     prove!(zones <= 64);
-    let orders = orders_of(alloc, events, name.hour)?;
+    let orders = open_orders(alloc, events, name.hour)?;
     match open_as(orders.as_slice(), name) {
         Some(own) => leg_with_partner(alloc, grid, events, orders.as_slice(), &own),
         None => Ok(None),
@@ -96,7 +96,7 @@ fn leg_with_partner(
     own: &StandingOrder,
 ) -> Result<Option<Event>, NoMemory>
     requires legal { IsLegalOver grid.now events.now }
-    requires orders { orders.now ≡ listed.orders_of events.now own.now.order.contract.hour }
+    requires orders { orders.now ≡ listed.open_orders events.now own.now.order.contract.hour }
     requires own { IsIn own.now orders.now }
     ensures { IfOk result (λ leg. leg ≡ over.leg_with_partner grid.now events.now own.now) }
 {

@@ -18,7 +18,7 @@ use Rattle.market_laws.proofs.Placed.{all_are_sound}
 use Rattle.market_laws.proofs.Tests.{same_contract-eq}
 use Rattle.market_laws.proofs.Restrict.{filter-filter}
 use Rattle.plain_orders.specs.Histories.{IsSomeHistory}
-use Rattle.plain_orders.specs.Listed.{block_line_of, blocks_of, is_block_of, is_in_block_line, is_in_line, is_order_of, line_of, orders_of}
+use Rattle.plain_orders.specs.Listed.{block_line_of, blocks_of, is_block_of, is_in_block_line, is_in_line, is_order_of, line_of, open_orders, stands_open}
 use Rattle.zone_graph.specs.InOrder.{in_order}
 
 -- priority of blocks is an order in which any two compare
@@ -41,14 +41,22 @@ filter-map {X} {Y} p f (x ∷ xs) = go (p (f x)) (filter-map p f xs)
     go false rest = rest
 
 pub line-of_orders : (events : List Event) (contract : Contract) (side : Side) → IsSomeHistory events
-    → line_of (orders_of events contract.hour) contract side ≡ line events contract side
+    → line_of (open_orders events contract.hour) contract side ≡ line events contract side
 unfolding line
 line-of_orders events contract side history =
     ap (in_order (priority_cmp side)) (
-    filter-map (is_in_line contract side) (standing events) (filter (is_order_of contract.hour) (placed events))
-    ∙ ap (map (standing events)) (filter-filter (stands_in events contract side) (is_order_of contract.hour) (placed events) in_hour)
+    filter-map (is_in_line contract side) (standing events) (filter (stands_open events) (filter (is_order_of contract.hour) (placed events)))
+    ∙ ap (map (standing events))
+    (filter-filter (stands_in events contract side) (stands_open events) (filter (is_order_of contract.hour) (placed events)) opened
+    ∙ filter-filter (stands_in events contract side) (is_order_of contract.hour) (placed events) in_hour)
     )
   where
+    opened : (order : Placed) → IsIn order (filter (is_order_of contract.hour) (placed events)) → stands_in events contract side order ≡ true
+        → stands_open events order ≡ true
+    opened order i stands =
+        let both = and_parts (is_open events order.name && same_contract order.order.contract contract) (same_side order.order.side side) stands in
+        (and_parts (is_open events order.name) (same_contract order.order.contract contract) both.0).0
+
     in_hour : (order : Placed) → IsIn order (placed events) → stands_in events contract side order ≡ true → is_order_of contract.hour order ≡ true
     in_hour order i stands =
         let both = and_parts (is_open events order.name && same_contract order.order.contract contract) (same_side order.order.side side) stands in

@@ -1,8 +1,9 @@
 -- The orders, blocks and names of an hour, listed event by event.
-use Rattle.std.proofs.Common.{◌≡◌, ◌∙◌, ℕ, ◌<◌, ◌≤◌, Bool, true, false, cond, List, [], ◌∷◌, ◌++◌, filter, get_or, length, map, nat_eq, eqb-true, Option, Some, None, refl, sym, ap, subst, if◌then◌else◌, arith}
+use Rattle.std.proofs.Common.{◌≡◌, ◌∙◌, ℕ, ◌<◌, ◌≤◌, Bool, true, false, cond, List, [], ◌∷◌, ◌++◌, filter, get_or, length, map, nat_eq, not, suc, eqb-true, Option, Some, None, refl, sym, ap, subst, if◌then◌else◌, arith}
 use Rattle.std.proofs.lemmas.Bool.{le-ltb, lt-ltb}
 use Rattle.std.proofs.lemmas.List.{append-nil, map_push}
 use Rattle.std.proofs.lemmas.List.Elements.{filter-append, filter_map-append}
+use Rattle.std.proofs.lemmas.List.Sums.{count_by-le-length, length-filter}
 use Rattle.std.specs.List.{cons_option, filter_map}
 use Rattle.order_kinds.specs.declared.order.OrderName.{OrderName}
 use Rattle.order_kinds.specs.Same.{same_name}
@@ -11,8 +12,9 @@ use Rattle.zone_graph.proofs.Places.{item_at_place}
 use Rattle.market_model.specs.declared.event.Event.{Event}
 use Rattle.market_model.specs.declared.event.Event.TheVariants as event
 use Rattle.market_model.specs.Blocks.{standing_block}
-use Rattle.market_model.specs.History.{and_then}
+use Rattle.market_model.specs.History.{and_then, enters_in}
 use Rattle.market_model.specs.Orders.{Placed, PlacedBlock, block_placed_by, blocks_placed, is_open, left, name_given, placed, placed_by, price_now, shown_lots, standing}
+use Rattle.market_model.specs.Refusals.{desk_room, has_desk_room}
 use Rattle.market_laws.proofs.Balances.{left-filled-taken_off}
 use Rattle.market_laws.proofs.Members.{IsIn-filter_map}
 use Rattle.market_laws.proofs.Names.{enters_as}
@@ -22,7 +24,7 @@ use Rattle.market_laws.proofs.Tests.{same_name-refl}
 use Rattle.market_laws.proofs.Unique.{enters-block_placed, enters-placed, entered-order, times-some}
 use Rattle.plain_orders.specs.declared.tally.Tally.{Tally}
 use Rattle.plain_orders.specs.Histories.{HasSoundNumbers, IsSomeHistory}
-use Rattle.plain_orders.specs.Listed.{block_given, is_block_of, is_order_of, kept, order_given, orders_of, blocks_of}
+use Rattle.plain_orders.specs.Listed.{block_given, is_block_of, is_order_of, kept, open_orders, order_given, stands_open, blocks_of}
 use Rattle.plain_orders.specs.Tallies.{AreTallies, Tells, entered_in, name_in, standing_block_by, standing_by}
 use Rattle.plain_orders.proofs.Taken.{has-place, same-name}
 
@@ -84,8 +86,9 @@ pub filtered-listed-more : {Y Z : Type 0} (pick : Event → Option Y) (p : Y →
 filtered-listed-more pick p f front before e y split is passes =
     ap (map f) (filtered-more pick p front before e y split is passes) ∙ map_push f (filter p (filter_map pick before)) y
 
-pub orders-listed : (events : List Event) (hour : ℕ) → map (standing events) (filter_map (order_given hour) events) ≡ orders_of events hour
-orders-listed events hour = ap (map (standing events)) (kept-filter placed_by (is_order_of hour) events)
+pub orders-listed : (events : List Event) (hour : ℕ)
+    → map (standing events) (filter (stands_open events) (filter_map (order_given hour) events)) ≡ open_orders events hour
+orders-listed events hour = ap (λ orders. map (standing events) (filter (stands_open events) orders)) (kept-filter placed_by (is_order_of hour) events)
 
 pub blocks-listed : (events : List Event) (first : ℕ) → map (standing_block events) (filter_map (block_given first) events) ≡ blocks_of events first
 blocks-listed events first = ap (map (standing_block events)) (kept-filter block_placed_by (is_block_of first) events)
@@ -100,6 +103,8 @@ pub record OrderAt (events : List Event) (hour : ℕ) (order : Placed) : Type 0 
   pub sound : HasSoundNumbers order.order
   pub stands : (tally : Tally) → Tells events (name_in hour order.name.number) tally
       → (standing_by tally order ≡ standing events order) × (tally.filled ≤ order.order.quantity.0)
+  pub opens : (tally : Tally) → Tells events (name_in hour order.name.number) tally → 0 < tally.left → stands_open events order ≡ true
+  pub closes : (tally : Tally) → Tells events (name_in hour order.name.number) tally → tally.left ≤ 0 → stands_open events order ≡ false
 
 pub order-at : (events : List Event) (place : ℕ) (e : Event) (hour : ℕ) (order : Placed) → IsSomeHistory events → place < length events → e ≡ get_or events place e
     → order_given hour e ≡ Some order → OrderAt events hour order
@@ -115,6 +120,10 @@ order-at events place e hour order history within is given =
           (times-some order.name e events here (enters-placed order e from.0)) of_hour room;
       sound = record { no_fault = ((all_are_sound history.setup events history.fit).orders order there).sound };
       stands = λ tally tells. stands there of_hour tally tells;
+      opens = λ tally tells some. let told = subst (λ n. Tells events n tally) (same-name order.name hour of_hour) tells in
+          let is_left = told.left in lt-ltb 0 (left events order.name) (omega (arith, is_left, some));
+      closes = λ tally tells none. let told = subst (λ n. Tells events n tally) (same-name order.name hour of_hour) tells in
+          let is_left = told.left in le-ltb 0 (left events order.name) (omega (arith, is_left, none));
     }
   where
     stands : IsIn order (placed events) → order.name.hour ≡ hour → (tally : Tally) → Tells events (name_in hour order.name.number) tally
@@ -206,6 +215,43 @@ name-at events place e hour name history within is given =
       closes = λ tally tells none. let told = subst (λ n. Tells events n tally) (same-name name hour enters.1) tells in
           let is_left = told.left in le-ltb 0 (left events name) (omega (arith, is_left, none));
     }
+
+-- as many names are given as orders and blocks enter
+names-length : (hour : ℕ) (events : List Event) → length (filter_map (name_given hour) events) ≡ length (filter (enters_in hour) events)
+names-length hour [] = refl
+names-length hour (e ∷ events) = one e (names-length hour events)
+  where
+    by : (e : Event) (name : OrderName) (b : Bool) → length (filter_map (name_given hour) events) ≡ length (filter (enters_in hour) events)
+        → length (cons_option (if b then Some name else None) (filter_map (name_given hour) events))
+        ≡ length (cond b (e ∷ filter (enters_in hour) events) (filter (enters_in hour) events))
+    by e name true rest = ap (λ n. suc n) rest
+    by e name false rest = rest
+
+    one : (e : Event) → length (filter_map (name_given hour) events) ≡ length (filter (enters_in hour) events)
+        → length (filter_map (name_given hour) (e ∷ events)) ≡ length (filter (enters_in hour) (e ∷ events))
+    one (event.Entered name caller order) rest = by (event.Entered name caller order) name (nat_eq name.hour hour) rest
+    one (event.EnteredBlock name caller order) rest = by (event.EnteredBlock name caller order) name (nat_eq name.hour hour) rest
+    one (event.Leg contract leg) rest = rest
+    one (event.BlockLeg first last leg) rest = rest
+    one (event.Granted arc first last lots) rest = rest
+    one (event.Offered arc first last lots) rest = rest
+    one (event.Halted border first last) rest = rest
+    one (event.Resumed border first last) rest = rest
+    one (event.Gated gated asked) rest = rest
+    one (event.Withdrawn name lots) rest = rest
+    one (event.Reduced name by) rest = rest
+
+-- so there is room on the desk where fewer entered than it holds
+pub few-have-room : (events : List Event) (name : OrderName) → entered_in events name.hour < desk_room → has_desk_room events name ≡ true
+few-have-room events name few =
+    let names = filter_map (name_given name.hour) events in
+    let others = (λ (other : OrderName). not (same_name other name)) in
+    let all = names-length name.hour events ∙ length-filter (enters_in name.hour) events in
+    let opened = length-filter (is_open events) names in
+    let at_most = count_by-le-length (is_open events) names in
+    let but = length-filter others (filter (is_open events) names) in
+    let but_at_most = count_by-le-length others (filter (is_open events) names) in
+    lt-ltb (length (filter others (filter (is_open events) names))) desk_room (omega (arith, all, opened, at_most, but, but_at_most, few))
 
 -- the tally at a place of a list tells
 pub told-at : (events : List Event) (hour : ℕ) (at name : OrderName) (tallies : List Tally) (tally : Tally) → at ≡ name → AreTallies events hour tallies

@@ -6,7 +6,7 @@ use Rattle.order_kinds.specs.Same.{same_contract, same_side}
 use Rattle.market_model.specs.declared.event.Event.{Event}
 use Rattle.market_model.specs.Blocks.{StandingBlock, block_line, block_priority_cmp, is_of_period, standing_block}
 use Rattle.market_model.specs.Lines.{line, priority_cmp}
-use Rattle.market_model.specs.Orders.{Placed, PlacedBlock, Standing, block_placed_by, blocks_placed, placed, placed_by, standing}
+use Rattle.market_model.specs.Orders.{Placed, PlacedBlock, Standing, block_placed_by, blocks_placed, is_open, placed, placed_by, standing}
 use Rattle.plain_orders.specs.Histories.{IsSomeHistory}
 use Rattle.zone_graph.specs.InOrder.{in_order}
 
@@ -29,10 +29,15 @@ order_given hour event = kept (is_order_of hour) (placed_by event)
 abbrev pub block_given : (first : ℕ) → Event → Option PlacedBlock
 block_given first event = kept (is_block_of first) (block_placed_by event)
 
--- all orders, and all blocks, that are named by an hour, in order of entry, as they stand
-abbrev pub orders_of : List Event → (hour : ℕ) → List Standing
-orders_of events hour = map (standing events) (filter (is_order_of hour) (placed events))
+-- an order that entered is open
+abbrev pub stands_open : List Event → Placed → Bool
+stands_open events order = is_open events order.name
 
+-- the open orders that are named by an hour, in order of entry, as they stand
+abbrev pub open_orders : List Event → (hour : ℕ) → List Standing
+open_orders events hour = map (standing events) (filter (stands_open events) (filter (is_order_of hour) (placed events)))
+
+-- all blocks that are named by an hour, in order of entry, as they stand
 abbrev pub blocks_of : List Event → (first : ℕ) → List StandingBlock
 blocks_of events first = map (standing_block events) (filter (is_block_of first) (blocks_placed events))
 
@@ -54,10 +59,10 @@ abbrev pub block_line_of : List StandingBlock → (first last : ℕ) → Side �
 block_line_of blocks first last side =
     in_order (block_priority_cmp side) (filter (is_in_block_line first last side) blocks)
 
--- the orders of an hour make the lines of its contracts
+-- the open orders of an hour make the lines of its contracts
 abbrev pub LinesAreOfOrders : Type 0
 LinesAreOfOrders = (events : List Event) (contract : Contract) (side : Side) → IsSomeHistory events
-    → line_of (orders_of events contract.hour) contract side ≡ line events contract side
+    → line_of (open_orders events contract.hour) contract side ≡ line events contract side
 
 -- the blocks that are named by an hour make the lines of the periods that it begins
 abbrev pub BlockLinesAreOfBlocks : Type 0

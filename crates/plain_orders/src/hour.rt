@@ -14,14 +14,18 @@ use event_history::History;
 use market_model::{Event, Events, NoMemory, OrderName};
 use std::alloc::Global;
 
-/// All orders that are named by an hour, open or not, in order of entry, as they stand.
+/// The open orders that are named by an hour, in order of entry, as they stand.
 ///
 /// # Errors
 ///
 /// [`NoMemory`], where there is no memory for the sums of the hour or for the list.
-pub fn orders_of(alloc: Global, events: &History, hour: u32) -> Result<Vec<StandingOrder>, NoMemory>
+pub fn open_orders(
+    alloc: Global,
+    events: &History,
+    hour: u32,
+) -> Result<Vec<StandingOrder>, NoMemory>
     requires history { IsSomeHistory events.now }
-    ensures { IfOk result (λ made. made.items ≡ listed.orders_of events.now hour) }
+    ensures { IfOk result (λ made. made.items ≡ listed.open_orders events.now hour) }
 {
     let tallies = tallies_of(alloc, events, hour)?;
     let mut orders = Vec::new(alloc);
@@ -29,7 +33,9 @@ pub fn orders_of(alloc: Global, events: &History, hour: u32) -> Result<Vec<Stand
         match order_given(event, hour) {
             Some(placed) => {
                 let tally = tallies[placed.name().number as usize];
-                orders.push(StandingOrder::new(&placed, tally))?;
+                if tally.left > 0 {
+                    orders.push(StandingOrder::new(&placed, tally))?;
+                }
             }
             None => {}
         }

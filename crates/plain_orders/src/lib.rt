@@ -15,7 +15,7 @@ mod standing;
 mod sums;
 mod tally;
 
-pub use hour::{blocks_of, open_names, orders_of, withdrawals};
+pub use hour::{blocks_of, open_names, open_orders, withdrawals};
 pub use lines::{block_line, block_lines_are_of_blocks, line, lines_are_of_orders};
 pub use naming::next_name;
 pub use owning::{DESK_ROOM, has_desk_room, has_own, open_block, open_order, own_limit};

@@ -105,8 +105,8 @@ fn in_block_priority(side: Side, one: &StandingBlock, other: &StandingBlock) -> 
         .then(one.name().number.cmp(&other.name().number))
 }
 
-/// The orders of an hour make the lines of its contracts: what [`line`] answers from what
-/// [`crate::orders_of`] answers is the market's line.
+/// The open orders of an hour make the lines of its contracts: what [`line`] answers from what
+/// [`crate::open_orders`] answers is the market's line.
 pub fn lines_are_of_orders()
     ensures { listed.LinesAreOfOrders }
 {}

@@ -10,6 +10,7 @@ ghost use Rattle.plain_orders.specs.Owned as owned;
 use crate::hour::open_names;
 use crate::placed::{PlacedBlock, PlacedOrder};
 use crate::sums::left;
+use crate::tally::entered_in;
 use event_history::History;
 use market_model::{Event, NoMemory, OrderName};
 use std::alloc::Global;
@@ -116,6 +117,9 @@ pub fn has_desk_room(alloc: Global, events: &History, name: OrderName) -> Result
     requires history { IsSomeHistory events.now }
     ensures { IfOk result (λ has. has ≡ refusals.has_desk_room events.now name) }
 {
+    if entered_in(events, name.hour) < DESK_ROOM {
+        return Ok(true);
+    }
     let names = open_names(alloc, events, name.hour)?;
     Ok(count_others(names.as_slice(), name) < DESK_ROOM)
 }

@@ -35,7 +35,7 @@ use Rattle.market_laws.proofs.Uses.{within_offers}
 use Rattle.market_laws.proofs.Restrict.{map-same}
 use Rattle.route_carrying.specs.Carrying.{FitTogether}
 use Rattle.plain_capacity.specs.Hour.{IsLegalOver}
-use Rattle.plain_orders.specs.Listed.{line_of, orders_of}
+use Rattle.plain_orders.specs.Listed.{line_of, open_orders}
 use Rattle.plain_orders.proofs.LineLaws.{line-of_orders}
 use Rattle.plain_view.specs.declared.filling.Fill.{Fill}
 use Rattle.plain_view.specs.declared.maker.Maker.{Maker}
@@ -201,7 +201,7 @@ module _ (graph : Graph) (is : IsGraph graph) (events : List Event) (legal : IsL
 
 -- the makers that are made of the orders of an hour are those of the line
 pub makers-made : (graph : Graph) (events : List Event) (legal : IsLegalOver graph events) (contract : Contract) (side : Side)
-    (orders orders_seen made made_seen : List Standing) (makers makers_seen : List Maker) → orders ≡ orders_of events contract.hour → orders_seen ≡ orders
+    (orders orders_seen made made_seen : List Standing) (makers makers_seen : List Maker) → orders ≡ open_orders events contract.hour → orders_seen ≡ orders
     → made ≡ line_of orders_seen contract side → made_seen ≡ made → makers ≡ map maker_of made_seen → makers_seen ≡ makers
     → makers_seen ≡ map maker_of (line events contract side)
 makers-made graph events legal contract side orders orders_seen made made_seen makers makers_seen are seen line_is line_seen makers_are makers_are_seen =

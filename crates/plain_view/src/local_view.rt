@@ -11,7 +11,7 @@ use crate::rows::{rows_filled, rows_of};
 use event_history::History;
 use market_model::{Contract, NoMemory, Rows, Side};
 use plain_capacity::contract_rooms;
-use plain_orders::{line, orders_of};
+use plain_orders::{line, open_orders};
 use std::alloc::Global;
 use zone_graph::Grid;
 
@@ -38,7 +38,7 @@ pub fn view(
 {
     let zones = grid.zones();
     prove!(zone < zones);
-    let orders = orders_of(alloc, events, contract.hour)?;
+    let orders = open_orders(alloc, events, contract.hour)?;
     let line = line(alloc, orders.as_slice(), contract, side)?;
     let rooms = contract_rooms(alloc, grid, events, contract)?;
     let mut makers = makers_of(alloc, line.as_slice())?;

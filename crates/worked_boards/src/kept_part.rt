@@ -10,7 +10,7 @@ use crate::parts::{PARTS, contract_at};
 use event_history::History;
 use market_model::{Contract, Side};
 use plain_capacity::contract_rooms;
-use plain_orders::{StandingOrder, line, orders_of};
+use plain_orders::{StandingOrder, line, open_orders};
 use std::alloc::Global;
 use zone_graph::{Grid, NoMemory, Rooms};
 
@@ -51,7 +51,7 @@ pub(crate) fn parts_of(
     requires legal { IsLegalOver grid.now events.now }
     ensures { IfOk result (λ made. kept.AreKept grid.now hour events.now made.items) }
 {
-    let orders = orders_of(alloc, events, hour)?;
+    let orders = open_orders(alloc, events, hour)?;
     let mut parts = Vec::new(alloc);
     for number in 0..PARTS {
         let contract = contract_at(hour, number);
@@ -70,7 +70,7 @@ fn part_of(
     contract: Contract,
 ) -> Result<KeptPart, NoMemory>
     requires legal { IsLegalOver grid.now events.now }
-    requires orders { orders.now ≡ listed.orders_of events.now contract.hour }
+    requires orders { orders.now ≡ listed.open_orders events.now contract.hour }
     requires known { contracts.is_known contract.part ≡ true }
     ensures { IfOk result (λ made. kept.IsKept grid.now events.now contract made) }
 {

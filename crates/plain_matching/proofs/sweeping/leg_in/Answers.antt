@@ -7,14 +7,14 @@ use Rattle.plain_matching.proofs.Orders.{line-zones, lines-are}
 use Rattle.plain_matching.proofs.Places.{nothing-is}
 use Rattle.plain_matching.proofs.sweeping.leg_in.Goals as goal
 
-pub returns-then-is_nothing : goal.returns-then-is_nothing
-returns-then-is_nothing c =
+pub returns-then-is_nothing-clause-leg : goal.returns-then-is_nothing-clause-leg
+returns-then-is_nothing-clause-leg c =
     let are = c.in_ok-buys.ensures ∙ lines-are c.args.grid.now c.args.events.now c.args.orders.now c.args.contract Buy c.requires.legal c.requires.orders in
     sym (no_buys c.args.grid.now c.args.events.now c.args.contract
     (sym are ∙ nothing-is c.in_ok-buys.buys.items (ap is_nothing (sym c.as_slice.ensures.value) ∙ sym c.if-is_nothing.ensures)))
 
-pub returns-then-not-first_crosses : goal.returns-then-not-first_crosses
-returns-then-not-first_crosses c =
+pub returns-then-not-first_crosses-clause-leg : goal.returns-then-not-first_crosses-clause-leg
+returns-then-not-first_crosses-clause-leg c =
     let are_buys = c.in_ok-buys.ensures ∙ lines-are c.args.grid.now c.args.events.now c.args.orders.now c.args.contract Buy c.requires.legal c.requires.orders in
     let are_sells = c.in_ok-sells.ensures ∙ lines-are c.args.grid.now c.args.events.now c.args.orders.now c.args.contract Sell c.requires.legal c.requires.orders in
     sym (no_crossing c.args.grid.now c.args.events.now c.args.contract c.as_slice-2.result.now c.as_slice-3.result.now
@@ -30,8 +30,8 @@ first_leg-requires-clause-sells c =
     let are = c.in_ok-sells.ensures ∙ lines-are c.args.grid.now c.args.events.now c.args.orders.now c.args.contract Sell c.requires.legal c.requires.orders in
     subst (AreInZones c.args.grid.now) (sym (c.as_slice-5.ensures.value ∙ are)) (line-zones c.args.grid.now c.args.events.now c.args.contract Sell c.requires.legal)
 
-pub returns : goal.returns
-returns c =
+pub returns-clause-leg : goal.returns-clause-leg
+returns-clause-leg c =
     let are_buys = c.in_ok-buys.ensures ∙ lines-are c.args.grid.now c.args.events.now c.args.orders.now c.args.contract Buy c.requires.legal c.requires.orders in
     let are_sells = c.in_ok-sells.ensures ∙ lines-are c.args.grid.now c.args.events.now c.args.orders.now c.args.contract Sell c.requires.legal c.requires.orders in
     let are : AreRoomsFor c.args.grid.now c.args.events.now c.args.contract c.in_ok-rooms.rooms =

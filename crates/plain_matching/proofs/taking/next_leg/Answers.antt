@@ -1,7 +1,7 @@
 use Rattle.std.proofs.Common.{◌≡◌, ◌∙◌, IfOk, Some, ap, subst, sym}
 use Rattle.std.specs.List.{find}
 use Rattle.zone_graph.specs.Route.{IsIn}
-use Rattle.plain_orders.specs.Listed.{orders_of}
+use Rattle.plain_orders.specs.Listed.{open_orders}
 use Rattle.plain_matching.specs.Over.{is_open_as}
 use Rattle.plain_matching.proofs.Here.{next_leg-is, no_leg}
 use Rattle.plain_matching.proofs.Orders.{found_as, open_as-is}
@@ -9,14 +9,14 @@ use Rattle.plain_matching.proofs.taking.next_leg.Goals as goal
 
 pub leg_with_partner-requires-clause-orders : goal.leg_with_partner-requires-clause-orders
 leg_with_partner-requires-clause-orders c =
-    let found : find (is_open_as c.args.name) (orders_of c.args.events.now c.args.name.hour) ≡ Some c.in-Some.own =
+    let found : find (is_open_as c.args.name) (open_orders c.args.events.now c.args.name.hour) ≡ Some c.in-Some.own =
     ap (find (is_open_as c.args.name)) (sym (c.as_slice.ensures.value ∙ c.in_ok-orders.ensures)) ∙ sym c.in-Some.ensures in
     c.as_slice-in-Some.ensures.value ∙ c.in_ok-orders.ensures
-    ∙ ap (orders_of c.args.events.now) (sym (found_as c.args.grid.now c.args.events.now c.args.name c.in-Some.own c.requires.legal found).hour)
+    ∙ ap (open_orders c.args.events.now) (sym (found_as c.args.grid.now c.args.events.now c.args.name c.in-Some.own c.requires.legal found).hour)
 
 pub leg_with_partner-requires-clause-own : goal.leg_with_partner-requires-clause-own
 leg_with_partner-requires-clause-own c =
-    let found : find (is_open_as c.args.name) (orders_of c.args.events.now c.args.name.hour) ≡ Some c.in-Some.own =
+    let found : find (is_open_as c.args.name) (open_orders c.args.events.now c.args.name.hour) ≡ Some c.in-Some.own =
     ap (find (is_open_as c.args.name)) (sym (c.as_slice.ensures.value ∙ c.in_ok-orders.ensures)) ∙ sym c.in-Some.ensures in
     subst (λ orders. IsIn c.in-Some.own orders) (sym (c.as_slice-in-Some.ensures.value ∙ c.in_ok-orders.ensures))
     (found_as c.args.grid.now c.args.events.now c.args.name c.in-Some.own c.requires.legal found).is_in
