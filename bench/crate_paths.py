@@ -1,5 +1,5 @@
 #!/usr/bin/env python3
-"""Counts the paths from each crate to those below it, by crates.txt: `rt ci` goes along all of them.
+"""Counts the paths from each crate to those below it, by crates.txt: `rt` goes along all of them when it begins.
 
     bench/crate_paths.py [MOST]
 

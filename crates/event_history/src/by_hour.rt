@@ -11,6 +11,9 @@ use zone_graph::NoMemory;
 // One for each number up to the last hour of the longest delivery day.
 const HOURS: usize = 26;
 
+// After how many events the list of an hour is copied anew.
+const GROWTH: usize = 1024;
+
 /// A list without events for each hour.
 pub(crate) fn no_events(alloc: Global) -> Result<Vec<Events>, NoMemory>
     ensures { IfOk result (λ made. made.items ≡ replicate hour_count []) }
@@ -42,11 +45,15 @@ pub(crate) fn note(lists: &mut [Events], hours: Span, event: &Event) -> Result<(
     Ok(())
 }
 
-// Puts a copy of an event at the end of a list.
+// Puts a copy of an event at the end of a list. Each time that it has grown by so many, the list is copied
+// anew, so that the routes of its legs lie together in memory and are read one after the other.
 fn push_copy(list: &mut Events, event: &Event) -> Result<(), NoMemory>
     ensures ok { OnOk result (list.new ≡ list.old ++ event.now ∷ []) }
     ensures err { OnErr result (list.new ≡ list.old) }
 {
+    if list.len() % GROWTH == 0 {
+        *list = list.copy()?;
+    }
     list.push(event.copy()?)
 }
 
