@@ -162,18 +162,16 @@ fn take_turns<R: Wait + Abort>(
     pass
 }
 
-// Whether the entries of a caller are its first, its second, and so on through its last.
-fn are_in_order(noted: &[(u32, u32)], caller: u32) -> bool {
+// The entries of a caller are its first, its second, and so on through its last.
+fn expect_in_order(rt: &impl Abort, noted: &[(u32, u32)], caller: u32) {
     let mut made: u32 = 0;
     for &(by, nth) in noted {
         if by == caller {
             made = made.wrapping_add(1);
-            if nth != made {
-                return false;
-            }
+            assert_eq!(rt; nth, made, "caller {caller}");
         }
     }
-    made == EACH
+    assert_eq!(rt; made, EACH, "caller {caller}");
 }
 
 #[test]
@@ -216,10 +214,8 @@ fn two_traders_on_threads_make_one_journal(rt: HostRuntime) -> Result<(), Fail> 
         desks: _,
         noted,
     } = lock.into_inner(&rt);
-    assert!(rt;
-        are_in_order(noted.as_slice(), 0) && are_in_order(noted.as_slice(), 1),
-        "each caller's in order"
-    );
+    expect_in_order(&rt, noted.as_slice(), 0);
+    expect_in_order(&rt, noted.as_slice(), 1);
     let mut passes = PassSeats::new(alloc);
     passes.push(ann.into_seat())?;
     passes.push(bob.into_seat())?;
