@@ -9,9 +9,10 @@ use block_book::{BlockBook, RestingBlock};
 use block_match::{BlockDeal, match_block, match_resting};
 use order_kinds::{Price, Side};
 use std::alloc::Global;
+use std::process::Abort;
 use std::test::Fail;
-use worked_grids::{are_legs, diamond, rooms_of_diamond};
-use zone_graph::Arc;
+use worked_grids::{diamond, legs_over, rooms_of_diamond};
+use zone_graph::{Arc, Legs};
 
 // The last hour of the blocks.
 const LAST: u32 = 14;
@@ -69,21 +70,28 @@ fn deal_of_period(alloc: Global, blocks: &[RestingBlock]) -> Result<Option<Block
     Ok(match_resting(alloc, &grid, &book, &rooms, LAST)?)
 }
 
-// Whether a deal goes over both sides of the diamond and has the taker, the maker and the price that
-// are wanted, or there is none where none is wanted.
-fn is_deal(found: &Option<BlockDeal>, want: Option<(u32, u32, i32)>) -> bool {
+// Six lots over one side of the diamond, and four over the other.
+fn both_sides(rt: &(impl Abort + AllocGlobal)) -> Legs {
     let one_side = [Arc::over(0, true), Arc::over(2, true)];
     let other_side = [Arc::over(1, true), Arc::over(3, true)];
-    let legs = [(one_side.as_slice(), 6), (other_side.as_slice(), 4)];
-    match (found, want) {
-        (Some(deal), Some((taker, maker, cents))) => {
-            deal.taker == taker
-                && deal.maker == maker
-                && deal.price == Price(cents)
-                && are_legs(&deal.legs, &legs)
-        }
-        (None, None) => true,
-        _ => false,
+    let sides = [(one_side.as_slice(), 6), (other_side.as_slice(), 4)];
+    legs_over(rt.alloc(), &sides).expect(rt, "memory")
+}
+
+// What was found is a deal over both sides of the diamond that has the taker, the maker and the price
+// that are wanted, or there is none where none is wanted.
+fn expect_deal(
+    rt: &(impl Abort + AllocGlobal),
+    found: &Option<BlockDeal>,
+    want: Option<(u32, u32, i32)>,
+    case: &str,
+) {
+    let terms = found
+        .as_ref()
+        .map(|deal| (deal.taker, deal.maker, deal.price.0));
+    assert_eq!(rt; terms, want, "{case}");
+    if let Some(deal) = found {
+        assert_eq!(rt; deal.legs, both_sides(rt), "{case}");
     }
 }
 
@@ -94,16 +102,16 @@ fn a_block_trades_wholly_over_two_routes_or_not_at_all(rt: HostRuntime) -> Resul
     // There is no room for all of it from its zone.
     let near = block(1, 1, Side::Sell, 3000, 10);
     let far = block(2, 0, Side::Sell, 4000, 10);
-    for (blocks, quantity, cents, want) in [
-        ([ten, eleven], 10, 5000, Some((3, 1, 4000))),
-        ([ten, eleven], 10, 4000, Some((3, 1, 4000))),
-        ([ten, eleven], 10, 3999, None),
-        ([ten, eleven], 11, 5000, None),
-        ([near, far], 10, 5000, Some((3, 2, 4000))),
+    for (case, blocks, quantity, cents, want) in [
+        ("higher", [ten, eleven], 10, 5000, Some((3, 1, 4000))),
+        ("equal", [ten, eleven], 10, 4000, Some((3, 1, 4000))),
+        ("lower", [ten, eleven], 10, 3999, None),
+        ("too many", [ten, eleven], 11, 5000, None),
+        ("near", [near, far], 10, 5000, Some((3, 2, 4000))),
     ] {
         let own = block(3, 3, Side::Buy, cents, quantity);
         let found = deal_of_block(rt.alloc(), &blocks, &own)?;
-        assert!(rt; is_deal(&found, want), "{quantity} {cents}");
+        expect_deal(&rt, &found, want, case);
     }
     Ok(())
 }
@@ -113,12 +121,12 @@ fn of_two_resting_blocks_the_earlier_is_the_maker(rt: HostRuntime) -> Result<(),
     let alone = block(1, 3, Side::Buy, 6000, 7);
     let buy = block(2, 3, Side::Buy, 5000, 10);
     let sell = block(3, 0, Side::Sell, 4000, 10);
-    for (blocks, want) in [
-        ([alone, buy, sell].as_slice(), Some((3, 2, 5000))),
-        (&[alone, sell], None),
+    for (case, blocks, want) in [
+        ("three", [alone, buy, sell].as_slice(), Some((3, 2, 5000))),
+        ("two", &[alone, sell], None),
     ] {
         let found = deal_of_period(rt.alloc(), blocks)?;
-        assert!(rt; is_deal(&found, want));
+        expect_deal(&rt, &found, want, case);
     }
     Ok(())
 }

@@ -5,4 +5,4 @@ mod grids;
 mod rooms;
 
 pub use grids::{diamond, grid_of, ring_of_twelve, two_zones};
-pub use rooms::{are_legs, rooms_of, rooms_of_diamond};
+pub use rooms::{legs_over, rooms_of, rooms_of_diamond};

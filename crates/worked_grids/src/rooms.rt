@@ -6,8 +6,9 @@ ghost use Rattle.zone_graph.specs.Graph.{border_count};
 ghost use Rattle.zone_graph.specs.Pour.{opposite_arc};
 ghost use Rattle.zone_graph.specs.Rooms.{room_of};
 
+use std::alloc::Global;
 use std::test::Fail;
-use zone_graph::{Arc, Grid, Legs, Rooms};
+use zone_graph::{Arc, Grid, Legs, NoMemory, Rooms, Route, RouteLeg};
 
 /// Rooms of so many lots on the forward arc and the backward arc of each border, in turn.
 ///
@@ -59,15 +60,18 @@ pub fn rooms_of_diamond(grid: &Grid) -> Result<Rooms, Fail>
     Ok(rooms)
 }
 
-/// Whether legs go over these arcs, with so many lots each.
-pub fn are_legs(legs: &Legs, want: &[(&[Arc], u32)]) -> bool {
-    if legs.len() != want.len() {
-        return false;
+/// Legs over these arcs, with so many lots each.
+///
+/// # Errors
+///
+/// Where memory is wanting.
+pub fn legs_over(alloc: Global, legs: &[(&[Arc], u32)]) -> Result<Legs, NoMemory> {
+    let mut made = Legs::new(alloc);
+    for (arcs, lots) in legs {
+        made.push(RouteLeg {
+            route: Route::from(Vec::from_slice(alloc, arcs)?),
+            lots: *lots,
+        })?;
     }
-    for (leg, (arcs, lots)) in legs.as_slice().iter().zip(want) {
-        if leg.route.as_slice() != *arcs || leg.lots != *lots {
-            return false;
-        }
-    }
-    true
+    Ok(made)
 }

@@ -3,12 +3,12 @@
 ghost use Rattle.std.specs.Prelude.{◌≡◌, ◌<◌, length, nat_lt};
 ghost use Rattle.std.specs.List.{list_all};
 
-use crate::made::{made, rooms_over};
+use crate::made::{expect_equal, made, rooms_over};
 use route_carrying::{carried, carry};
 use route_choice::pour;
 use std::process::Abort;
-use worked_grids::{are_legs, diamond, grid_of, rooms_of_diamond};
-use zone_graph::{Arc, Rooms};
+use worked_grids::{diamond, grid_of, legs_over, rooms_of_diamond};
+use zone_graph::{Arc, Legs, Rooms};
 
 // The rooms of the two arcs of a border.
 fn both(rooms: &Rooms, border: u32) -> (u32, u32)
@@ -20,28 +20,41 @@ fn both(rooms: &Rooms, border: u32) -> (u32, u32)
     )
 }
 
-// Whether a pour on the diamond goes over these legs, with so many lots each, and leaves these rooms.
-fn is_poured(
+// A pour goes over these legs, with so many lots each.
+fn expect_legs(
+    rt: &(impl Abort + AllocGlobal),
+    poured: &Legs,
+    want: &[(&[Arc], u32)],
+    case: (u32, u32, u32),
+) {
+    let wanted = legs_over(rt.alloc(), want).expect(rt, "memory");
+    expect_equal(rt, poured, &wanted, &case);
+}
+
+// A pour of so many lots at most, between two zones of the diamond, goes over these legs and leaves
+// these rooms.
+fn expect_poured(
     rt: &(impl Abort + AllocGlobal),
     ends: (u32, u32),
     most: u32,
     legs: &[(&[Arc], u32)],
     left: [(u32, u32); 4],
-) -> bool {
+) {
     let grid = made(rt, diamond(rt.alloc()));
     let mut rooms = made(rt, rooms_of_diamond(&grid));
     let (from, to) = ends;
     if from >= grid.zones() || to >= grid.zones() {
-        return false;
+        rt.panic("no such zone");
     }
     let poured = pour(rt.alloc(), &grid, &mut rooms, from, to, most).expect(rt, "memory");
+    expect_legs(rt, &poured, legs, (from, to, most));
     let after = [
         both(&rooms, 0),
         both(&rooms, 1),
         both(&rooms, 2),
         both(&rooms, 3),
     ];
-    are_legs(&poured, legs) && after == left
+    expect_equal(rt, &after, &left, &(from, to, most));
 }
 
 #[test]
@@ -53,17 +66,17 @@ fn a_pour_goes_over_one_route_after_another(rt: HostRuntime) {
     let both_sides = [(one_side.as_slice(), 6), (other_side.as_slice(), 4)];
     let back = [Arc::over(3, false), Arc::over(1, false)];
     for most in [10, 12, u32::MAX] {
-        assert!(rt; is_poured(&rt, (0, 3), most, &both_sides, after), "{most}");
+        expect_poured(&rt, (0, 3), most, &both_sides, after);
     }
     // A part of the room, and the rest is left.
     let one_back = [(back.as_slice(), 1)];
     let rest = [(6, 0), (6, 0), (8, 0), (5, 2)];
-    assert!(rt; is_poured(&rt, (3, 0), 2, &one_back, rest));
+    expect_poured(&rt, (3, 0), 2, &one_back, rest);
     // From a zone to itself, which takes no room.
     let at_home = [([].as_slice(), 9)];
-    assert!(rt; is_poured(&rt, (1, 1), 9, &at_home, before));
+    expect_poured(&rt, (1, 1), 9, &at_home, before);
     // Nothing.
-    assert!(rt; is_poured(&rt, (0, 3), 0, &[], before));
+    expect_poured(&rt, (0, 3), 0, &[], before);
 }
 
 // The rooms of four zones in a row, for each border forward and backward.
@@ -91,6 +104,14 @@ fn carried_along(rooms: &Rooms, lots: u32, route: &[Arc]) -> Option<u32>
     Some(carried(rooms, lots, route))
 }
 
+// Of so many lots a route of the row can carry these.
+fn expect_carried(rt: &impl Abort, rooms: &Rooms, lots: u32, route: &[Arc], want: u32)
+    requires { length rooms.now ≡ 3 }
+{
+    let found = carried_along(rooms, lots, route);
+    expect_equal(rt, &found, &Some(want), &(lots, route));
+}
+
 #[test]
 fn a_route_carries_the_least_of_the_lots_and_its_rooms(rt: HostRuntime) {
     let rooms = rooms_of_row(&rt, [(9, 1), (4, 8), (7, 6)]);
@@ -104,38 +125,33 @@ fn a_route_carries_the_least_of_the_lots_and_its_rooms(rt: HostRuntime) {
         (back.as_slice(), 20, 6),
         (back.as_slice(), 0, 0),
     ] {
-        assert!(rt; carried_along(&rooms, lots, route) == Some(want), "{want}");
+        expect_carried(&rt, &rooms, lots, route, want);
     }
 }
 
 // Carries few lots over two arcs, where both have room and few lots go back.
-fn carry_over_both(rooms: &mut Rooms, first: Arc, second: Arc, lots: u32) -> bool
+fn carry_over_both(rt: &impl Abort, rooms: &mut Rooms, first: Arc, second: Arc, lots: u32)
     requires { length rooms.old ≡ 3 }
     ensures { length rooms.new ≡ 3 }
 {
-    if first.border >= 3 || second.border >= 3 || first.border == second.border {
-        return false;
-    }
+    assert!(rt; first.border < 3 && second.border < 3 && first.border != second.border);
     let room = rooms.at(first).min(rooms.at(second));
     let back = rooms.at(first.opposite()).max(rooms.at(second.opposite()));
-    if lots > room || lots >= 100 || back >= 100 {
-        return false;
-    }
+    assert!(rt; lots <= room && lots < 100 && back < 100);
     carry(rooms, &[first, second], lots);
-    true
 }
 
-// Whether lots that are carried over two arcs of the row leave these rooms.
-fn is_carried(
+// Lots that are carried over two arcs of the row leave these rooms.
+fn expect_left(
     rt: &(impl Abort + AllocGlobal),
     arcs: (Arc, Arc),
     lots: u32,
     left: [(u32, u32); 3],
-) -> bool {
+) {
     let mut rooms = rooms_of_row(rt, [(9, 1), (4, 8), (7, 6)]);
-    let carried = carry_over_both(&mut rooms, arcs.0, arcs.1, lots);
+    carry_over_both(rt, &mut rooms, arcs.0, arcs.1, lots);
     let after = [both(&rooms, 0), both(&rooms, 1), both(&rooms, 2)];
-    carried && after == left
+    expect_equal(rt, &after, &left, &(lots, arcs));
 }
 
 #[test]
@@ -148,6 +164,6 @@ fn lots_that_are_carried_go_from_the_rooms_of_arcs_to_the_opposite_ones(rt: Host
         (back, 5, [(9, 1), (9, 3), (12, 1)]),
         (nothing, 0, [(9, 1), (4, 8), (7, 6)]),
     ] {
-        assert!(rt; is_carried(&rt, arcs, lots, left), "{lots}");
+        expect_left(&rt, arcs, lots, left);
     }
 }

@@ -1,46 +1,46 @@
 //! Zones reached and bounds on small grids.
 
-use crate::made::rooms_over;
+use crate::made::{expect_equal, rooms_over};
 use cut_proof::{border_bound, reach};
 use std::process::Abort;
 use std::test::Fail;
 use worked_grids::{diamond, ring_of_twelve};
 use zone_graph::{Grid, Zones};
 
-// Whether the zones reached towards a zone, or from it, over these rooms are the wanted ones.
-fn is_reached(
+// The zones reached towards a zone, or from it, over these rooms are the wanted ones.
+fn expect_zones(
     rt: &(impl Abort + AllocGlobal),
     grid: &Grid,
     room: &[(u32, u32)],
     asked: (u32, bool),
     want: &[u32],
-) -> bool {
+) {
     let rooms = rooms_over(rt, grid, room);
     let (zone, towards) = asked;
     if zone >= grid.zones() {
-        return false;
+        rt.panic("no such zone");
     }
     let reached = reach(rt.alloc(), grid, &rooms, zone, towards).expect(rt, "memory");
-    reached.as_slice() == want
+    expect_equal(rt, &reached.as_slice(), &want, &asked);
 }
 
-// Whether the bounds of zones over these rooms are the wanted ones, into them and out of them.
-fn is_bound(
+// The bounds of zones over these rooms are the wanted ones, into them and out of them.
+fn expect_bounds_of(
     rt: &(impl Abort + AllocGlobal),
     grid: &Grid,
     room: &[(u32, u32)],
     zones: &[u32],
     want: (u64, u64),
-) -> bool {
+) {
     let rooms = rooms_over(rt, grid, room);
     let count = grid.zones();
     let zones = Zones::from(Vec::from_slice(rt.alloc(), zones).expect(rt, "memory"));
     if zones.as_slice().iter().any(|zone| *zone >= count) {
-        return false;
+        rt.panic("no such zone");
     }
     let entering = border_bound(grid, &rooms, &zones, true);
     let leaving = border_bound(grid, &rooms, &zones, false);
-    (entering, leaving) == want
+    expect_equal(rt, &(entering, leaving), &want, &zones.as_slice());
 }
 
 // The room of each border of the diamond, forward and backward.
@@ -68,7 +68,7 @@ fn expect_reached(
     cases: &[Reached],
 ) {
     for (asked, want) in cases {
-        assert!(rt; is_reached(rt, grid, room, *asked, want), "{asked:?}");
+        expect_zones(rt, grid, room, *asked, want);
     }
 }
 
@@ -100,7 +100,7 @@ fn expect_bounds(
     cases: &[Bounds],
 ) {
     for (zones, want) in cases {
-        assert!(rt; is_bound(rt, grid, room, zones, *want), "{zones:?}");
+        expect_bounds_of(rt, grid, room, zones, *want);
     }
 }
 
@@ -138,6 +138,6 @@ fn a_ring_of_twelve_zones_with_eight_chords(rt: HostRuntime) -> Result<(), Fail>
     let cut = rooms_of_ring((7, 0), true);
     expect_reached(&rt, &grid, &all, &REACHED_ON_THE_RING);
     expect_reached(&rt, &grid, &cut, &REACHED_WHERE_IT_IS_CUT);
-    assert!(rt; is_bound(&rt, &grid, &all, &[0, 1, 2, 3, 4, 5], (32, 40)));
+    expect_bounds_of(&rt, &grid, &all, &[0, 1, 2, 3, 4, 5], (32, 40));
     Ok(())
 }

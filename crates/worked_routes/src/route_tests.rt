@@ -4,14 +4,14 @@ ghost use Rattle.std.specs.Prelude.{◌≡◌, ◌&&◌, length, nat_lt};
 ghost use Rattle.std.specs.List.{list_all};
 ghost use Rattle.zone_graph.specs.Graph.{border_count, zone_count};
 
-use crate::made::rooms_over;
+use crate::made::{expect_equal, rooms_over};
 use cut_proof::reach;
 use route_choice::best_route;
 use std::alloc::Global;
 use std::process::Abort;
 use std::test::Fail;
 use worked_grids::{diamond, grid_of, ring_of_twelve};
-use zone_graph::{Arc, Grid, Rooms};
+use zone_graph::{Arc, Grid, Rooms, Route};
 use zone_search::{Distances, distances};
 
 // Whether all borders join zones of so many.
@@ -43,38 +43,45 @@ fn rooms_but(rt: &impl Abort, grid: &Grid, closed: &[Way]) -> Rooms
     rooms
 }
 
-// Whether a route goes over these arcs.
-fn goes_over(route: &[Arc], ways: &[Way]) -> bool {
-    if route.len() != ways.len() {
-        return false;
+// The route over these arcs.
+fn route_over(rt: &(impl Abort + AllocGlobal), ways: &[Way]) -> Route {
+    let mut route = Route::new(rt.alloc());
+    for (border, forward) in ways {
+        let arc = Arc::over(*border, *forward);
+        route.push(arc).expect(rt, "memory");
     }
-    for (arc, way) in route.iter().zip(ways) {
-        if (arc.border, arc.forward) != *way {
-            return false;
-        }
-    }
-    true
+    route
 }
 
-// Whether the best route between two zones is the wanted one.
-fn is_best(
+// A route is that over these arcs, or there is none where none is wanted.
+fn expect_ways(
+    rt: &(impl Abort + AllocGlobal),
+    route: &Option<Route>,
+    want: Option<&[Way]>,
+    ends: (u32, u32),
+) {
+    let wanted = match want {
+        Some(ways) => Some(route_over(rt, ways)),
+        None => None,
+    };
+    expect_equal(rt, route, &wanted, &ends);
+}
+
+// The best route between two zones is the wanted one.
+fn expect_route(
     rt: &(impl Abort + AllocGlobal),
     grid: &Grid,
     closed: &[Way],
     ends: (u32, u32),
     want: Option<&[Way]>,
-) -> bool {
+) {
     let rooms = rooms_but(rt, grid, closed);
     let (from, to) = ends;
     if from >= grid.zones() || to >= grid.zones() {
-        return false;
+        rt.panic("no such zone");
     }
     let best = best_route(rt.alloc(), grid, &rooms, from, to).expect(rt, "memory");
-    match (best, want) {
-        (Some(route), Some(ways)) => goes_over(route.as_slice(), ways),
-        (None, None) => true,
-        _ => false,
-    }
+    expect_ways(rt, &best, want, ends);
 }
 
 // Arcs without room, two zones, and the best route from the first to the second.
@@ -96,7 +103,7 @@ const BEST: [Best; 6] = [
 // The best routes of some cases are those that are wanted.
 fn expect_best(rt: &(impl Abort + AllocGlobal), grid: &Grid, cases: &[Best]) {
     for (closed, ends, want) in cases {
-        assert!(rt; is_best(rt, grid, closed, *ends, *want), "{ends:?}");
+        expect_route(rt, grid, closed, *ends, *want);
     }
 }
 
@@ -194,7 +201,7 @@ fn expect_distances(rt: &impl Abort, grid: &Grid, asked: (u32, bool), want: [Opt
     requires { zone_count grid.now ≡ 4 }
 {
     let found = on_the_diamond(rt, grid, asked.0, asked.1);
-    assert!(rt; &found[..5] == want.as_slice(), "{asked:?}");
+    expect_equal(rt, &&found[..5], &want.as_slice(), &asked);
 }
 
 #[test]

@@ -3,33 +3,39 @@
 ghost use Rattle.std.specs.Prelude.{◌≡◌, length};
 ghost use Rattle.zone_graph.specs.Graph.{border_count, zone_count};
 
-use crate::made::rooms_over;
+use crate::made::{expect_equal, rooms_over};
 use route_choice::{RouteSearch, best_route};
 use std::process::Abort;
 use std::test::Fail;
 use worked_grids::{diamond, ring_of_twelve};
-use zone_graph::{Arc, Grid, Rooms};
+use zone_graph::{Arc, Grid, Rooms, Route};
 
-// Whether a search for the routes to a zone, or from it, answers the best route between it and
-// another zone, and tells whether there is one.
-fn answers_the_best(
+// A search for the routes to a zone, or from it, answers the best route between it and another zone, and
+// tells whether there is one.
+fn expect_route(
     rt: &(impl Abort + AllocGlobal),
     grid: &Grid,
     rooms: &Rooms,
     ends: (u32, u32),
     towards: bool,
-) -> bool
+)
     requires { length rooms.now ≡ border_count grid.now }
 {
     let (from, to) = ends;
     if from >= grid.zones() || to >= grid.zones() {
-        return false;
+        rt.panic("no such zone");
     }
     let best = best_route(rt.alloc(), grid, rooms, from, to).expect(rt, "memory");
     let (zone, other) = if towards { (to, from) } else { (from, to) };
     let search = RouteSearch::new(grid, rooms, zone, towards);
+    expect_equal(
+        rt,
+        &search.reaches(other),
+        &best.is_some(),
+        &(ends, towards),
+    );
     let found = search.route(rt.alloc(), grid, rooms, other);
-    found.expect(rt, "memory") == best && search.reaches(other) == best.is_some()
+    expect_equal(rt, &found.expect(rt, "memory"), &best, &(ends, towards));
 }
 
 // The way over the lesser borders of the diamond, from its first zone to its last.
@@ -37,39 +43,43 @@ fn lesser_way() -> [Arc; 2] {
     [Arc::over(0, true), Arc::over(2, true)]
 }
 
-// Whether a search over the diamond answers that way.
-fn answers_the_lesser_way(
-    rt: &(impl Abort + AllocGlobal),
-    grid: &Grid,
-    rooms: &Rooms,
-    towards: bool,
-) -> bool
+// What was found, towards the last zone of the diamond or from the first one, is that way.
+fn expect_lesser(rt: &impl Abort, found: &Option<Route>, towards: bool) {
+    match found {
+        Some(route) => expect_equal(rt, &route.as_slice(), &&lesser_way()[..], &towards),
+        None => panic!(rt; "no way, {towards}"),
+    }
+}
+
+// A search over the diamond, towards its last zone or from its first one, answers that way.
+fn expect_the_lesser_way(rt: &(impl Abort + AllocGlobal), grid: &Grid, rooms: &Rooms, towards: bool)
     requires zones { zone_count grid.now ≡ 4 }
     requires size { length rooms.now ≡ border_count grid.now }
 {
     let (zone, other) = if towards { (3, 0) } else { (0, 3) };
     let search = RouteSearch::new(grid, rooms, zone, towards);
-    match search
-        .route(rt.alloc(), grid, rooms, other)
-        .expect(rt, "memory")
-    {
-        Some(route) => route.as_slice() == lesser_way().as_slice(),
-        None => false,
-    }
+    let found = search.route(rt.alloc(), grid, rooms, other);
+    expect_lesser(rt, &found.expect(rt, "memory"), towards);
 }
 
 // Whether a search over the diamond that was made over some rooms is fresh over later ones after a leg
-// over its first arc and its third one.
-fn is_fresh_over(rt: &impl Abort, grid: &Grid, before: &Rooms, later: &[(u32, u32)]) -> bool
+// over its first arc, and after one over its third.
+fn is_fresh_after_each(
+    rt: &impl Abort,
+    grid: &Grid,
+    before: &Rooms,
+    later: &[(u32, u32)],
+) -> (bool, bool)
     requires zones { zone_count grid.now ≡ 4 }
     requires borders { border_count grid.now ≡ 4 }
     requires size { length before.now ≡ border_count grid.now }
 {
     let after = rooms_over(rt, grid, later);
     let search = RouteSearch::new(grid, before, 3, true);
-    let is_first_left = search.is_fresh_after(&after, &[Arc::over(0, true)]);
-    let is_third_left = search.is_fresh_after(&after, &[Arc::over(2, true)]);
-    is_first_left && is_third_left
+    (
+        search.is_fresh_after(&after, &[Arc::over(0, true)]),
+        search.is_fresh_after(&after, &[Arc::over(2, true)]),
+    )
 }
 
 #[test]
@@ -79,10 +89,12 @@ fn of_two_equal_ways_a_search_answers_that_of_the_lesser_border(
     let grid = diamond(rt.alloc())?;
     let before = rooms_over(&rt, &grid, &[(7, 0); 4]);
     for towards in [true, false] {
-        assert!(rt; answers_the_lesser_way(&rt, &grid, &before, towards));
+        expect_the_lesser_way(&rt, &grid, &before, towards);
     }
-    assert!(rt; is_fresh_over(&rt, &grid, &before, &[(1, 6), (7, 0), (1, 6), (7, 0)]));
-    assert!(rt; !is_fresh_over(&rt, &grid, &before, &[(1, 6), (7, 0), (0, 7), (7, 0)]));
+    let with_room = is_fresh_after_each(&rt, &grid, &before, &[(1, 6), (7, 0), (1, 6), (7, 0)]);
+    expect_equal(&rt, &with_room, &(true, true), &"with room");
+    let used_up = is_fresh_after_each(&rt, &grid, &before, &[(1, 6), (7, 0), (0, 7), (7, 0)]);
+    expect_equal(&rt, &used_up, &(true, false), &"used up");
     Ok(())
 }
 
@@ -92,14 +104,8 @@ fn expect_the_best(rt: &(impl Abort + AllocGlobal), grid: &Grid, rooms: &Rooms, 
 {
     for from in 0..zones {
         for to in 0..zones {
-            assert!(rt;
-                answers_the_best(rt, grid, rooms, (from, to), true),
-                "{from} {to}"
-            );
-            assert!(rt;
-                answers_the_best(rt, grid, rooms, (from, to), false),
-                "{from} {to}"
-            );
+            expect_route(rt, grid, rooms, (from, to), true);
+            expect_route(rt, grid, rooms, (from, to), false);
         }
     }
 }

@@ -3,94 +3,99 @@
 ghost use Rattle.std.specs.Prelude.{◌≡◌, ◌<◌, length};
 ghost use Rattle.zone_graph.specs.Graph.{border_count, zone_count};
 
-use crate::made::rooms_over;
+use crate::made::{expect_equal, rooms_over};
 use route_choice::best_route;
 use route_tree::RouteTree;
 use std::process::Abort;
 use std::test::Fail;
 use worked_grids::{diamond, grid_of, ring_of_twelve};
-use zone_graph::{Arc, Grid, Rooms};
+use zone_graph::{Arc, Grid, Rooms, Route};
 
-// Whether a tree tells the best route between its zone and another one, and none where there is none.
-fn tells_the_best(
+// The zones between which a tree tells a route, from the first to the second.
+fn ends_of(tree: &RouteTree, other: u32) -> (u32, u32) {
+    if tree.towards() {
+        (other, tree.zone())
+    } else {
+        (tree.zone(), other)
+    }
+}
+
+// The route that a tree tells between its zone and another one.
+fn told_route(rt: &(impl Abort + AllocGlobal), tree: &RouteTree, other: u32) -> Option<Route> {
+    if !tree.reaches(other) {
+        return None;
+    }
+    let mut arcs = [Arc::over(0, false); 64];
+    let count = tree.route_into(other, &mut arcs);
+    let told = Vec::from_slice(rt.alloc(), &arcs[..count]).expect(rt, "memory");
+    Some(Route::from(told))
+}
+
+// A tree tells the best route between its zone and another one, and none where there is none.
+fn expect_route(
     rt: &(impl Abort + AllocGlobal),
     grid: &Grid,
     rooms: &Rooms,
     tree: &RouteTree,
     other: u32,
-) -> bool
+)
     requires { length rooms.now ≡ border_count grid.now }
 {
-    let (from, to) = if tree.towards() {
-        (other, tree.zone())
-    } else {
-        (tree.zone(), other)
-    };
+    let (from, to) = ends_of(tree, other);
     if from >= grid.zones() || to >= grid.zones() {
-        return false;
+        rt.panic("no such zone");
     }
     let best = best_route(rt.alloc(), grid, rooms, from, to).expect(rt, "memory");
-    if !tree.reaches(other) {
-        return best.is_none();
-    }
-    let mut arcs = [Arc::over(0, false); 64];
-    let count = tree.route_into(other, &mut arcs);
-    match (best, arcs.get(..count)) {
-        (Some(route), Some(told)) => route.as_slice() == told,
-        _ => false,
-    }
+    let told = told_route(rt, tree, other);
+    expect_equal(rt, &told, &best, &(from, to, tree.towards(), rooms));
 }
 
-// Whether a tree is that of a zone in a direction, and tells the best routes between it and all zones.
-fn tells_all(
+// A tree is that of a zone in a direction, and tells the best routes between it and all zones.
+fn expect_routes(
     rt: &(impl Abort + AllocGlobal),
     grid: &Grid,
     rooms: &Rooms,
     tree: &RouteTree,
     asked: (u32, bool),
-) -> bool
+)
     requires { length rooms.now ≡ border_count grid.now }
 {
-    if (tree.zone(), tree.towards()) != asked {
-        return false;
-    }
+    expect_equal(rt, &(tree.zone(), tree.towards()), &asked, &rooms);
     for other in 0..grid.zones() {
-        if !tells_the_best(rt, grid, rooms, tree, other) {
-            return false;
-        }
+        expect_route(rt, grid, rooms, tree, other);
     }
-    true
 }
 
-// Whether the trees of each zone of a grid, in both directions, tell the best routes over these rooms.
-fn all_tell_the_best(rt: &(impl Abort + AllocGlobal), grid: &Grid, room: &[(u32, u32)]) -> bool {
+// The trees of each zone of a grid, in both directions, tell the best routes over these rooms.
+fn expect_trees(rt: &(impl Abort + AllocGlobal), grid: &Grid, room: &[(u32, u32)]) {
     let rooms = rooms_over(rt, grid, room);
     let zones = grid.zones();
     for zone in 0..zones {
         let mut tree = RouteTree::new(grid, &rooms, zone, true);
-        if !tells_all(rt, grid, &rooms, &tree, (zone, true)) {
-            return false;
-        }
+        expect_routes(rt, grid, &rooms, &tree, (zone, true));
         tree.remake(grid, &rooms, zone, false);
-        if !tells_all(rt, grid, &rooms, &tree, (zone, false)) {
-            return false;
-        }
+        expect_routes(rt, grid, &rooms, &tree, (zone, false));
     }
-    true
 }
 
 // Whether a tree of the diamond that was made over some rooms tells the routes over later ones after a
-// leg over its first arc and its third one.
-fn tells_over(rt: &impl Abort, grid: &Grid, before: &Rooms, later: &[(u32, u32)]) -> bool
+// leg over its first arc, and after one over its third.
+fn tells_after_each(
+    rt: &impl Abort,
+    grid: &Grid,
+    before: &Rooms,
+    later: &[(u32, u32)],
+) -> (bool, bool)
     requires zones { zone_count grid.now ≡ 4 }
     requires borders { border_count grid.now ≡ 4 }
     requires size { length before.now ≡ border_count grid.now }
 {
     let after = rooms_over(rt, grid, later);
     let tree = RouteTree::new(grid, before, 3, true);
-    let is_first_left = tree.tells_after(&after, &[Arc::over(0, true)]);
-    let is_third_left = tree.tells_after(&after, &[Arc::over(2, true)]);
-    is_first_left && is_third_left
+    (
+        tree.tells_after(&after, &[Arc::over(0, true)]),
+        tree.tells_after(&after, &[Arc::over(2, true)]),
+    )
 }
 
 // The room of an arc in the rooms of a number: some arcs of each have none.
@@ -120,13 +125,10 @@ fn drawn_rooms(number: u32) -> [(u32, u32); 24]
 // direction, and over 40 drawn rows of rooms.
 fn expect_the_best(rt: &(impl Abort + AllocGlobal), grid: &Grid) {
     for room in [(1, 1), (0, 1), (1, 0)] {
-        assert!(rt; all_tell_the_best(rt, grid, &[room; 24]), "{room:?}");
+        expect_trees(rt, grid, &[room; 24]);
     }
     for number in 0..40 {
-        assert!(rt;
-            all_tell_the_best(rt, grid, &drawn_rooms(number)),
-            "{number}"
-        );
+        expect_trees(rt, grid, &drawn_rooms(number));
     }
 }
 
@@ -182,7 +184,9 @@ fn trees_of_a_line_tell_the_best_routes(rt: HostRuntime) -> Result<(), Fail> {
 fn a_tree_tells_no_more_after_an_arc_is_used_up(rt: HostRuntime) -> Result<(), Fail> {
     let grid = diamond(rt.alloc())?;
     let before = rooms_over(&rt, &grid, &[(7, 0); 4]);
-    assert!(rt; tells_over(&rt, &grid, &before, &[(1, 6), (7, 0), (1, 6), (7, 0)]));
-    assert!(rt; !tells_over(&rt, &grid, &before, &[(1, 6), (7, 0), (0, 7), (7, 0)]));
+    let with_room = tells_after_each(&rt, &grid, &before, &[(1, 6), (7, 0), (1, 6), (7, 0)]);
+    expect_equal(&rt, &with_room, &(true, true), &"with room");
+    let used_up = tells_after_each(&rt, &grid, &before, &[(1, 6), (7, 0), (0, 7), (7, 0)]);
+    expect_equal(&rt, &used_up, &(true, false), &"used up");
     Ok(())
 }
