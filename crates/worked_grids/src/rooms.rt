@@ -1,6 +1,6 @@
 //! Rooms on the arcs of a grid, and legs over them.
 
-ghost use Rattle.std.specs.Prelude.{◌≡◌, ◌<◌, ◌+◌, ◌^◌, IfOk, length};
+ghost use Rattle.std.specs.Prelude.{◌≡◌, ◌<◌, ◌+◌, ◌^◌, IfOk, length, map};
 ghost use Rattle.zone_graph.specs.declared.route.Arc.{Arc};
 ghost use Rattle.zone_graph.specs.Graph.{border_count};
 ghost use Rattle.zone_graph.specs.Pour.{opposite_arc};
@@ -65,7 +65,9 @@ pub fn rooms_of_diamond(grid: &Grid) -> Result<Rooms, Fail>
 /// # Errors
 ///
 /// Where memory is wanting.
-pub fn legs_over(alloc: Global, legs: &[(&[Arc], u32)]) -> Result<Legs, NoMemory> {
+pub fn legs_over(alloc: Global, legs: &[(&[Arc], u32)]) -> Result<Legs, NoMemory>
+    ensures { IfOk result (λ made. made ≡ map (λ leg. record { route = leg.0.now; lots = leg.1 }) legs.now) }
+{
     let mut made = Legs::new(alloc);
     for (arcs, lots) in legs {
         made.push(RouteLeg {
