@@ -1,12 +1,13 @@
 //! Books of blocks beside a plain list of what has to rest in them: generated calls, and a full book
 //! with holes.
 
+ghost use Rattle.std.specs.Prelude.{◌<◌, length};
+
 use crate::draws::Draws;
 use block_book::{BlockBook, Full, RestingBlock};
 use order_kinds::{Price, Side};
-use std::alloc::Global;
+use std::alloc::{AllocError, Global};
 use std::process::Abort;
-use std::test::Fail;
 
 // The last hours of the blocks.
 const FIRST_LAST: u32 = 14;
@@ -27,31 +28,30 @@ struct Both {
 }
 
 impl Both {
-    fn new(alloc: Global) -> Result<Both, Fail> {
-        let book = BlockBook::new(alloc)?;
-        Ok(Both {
+    fn new(rt: &impl Abort, alloc: Global) -> Both {
+        let book = BlockBook::new(alloc).expect(rt, "memory");
+        Both {
             book,
             plain: Vec::new(alloc),
-        })
+        }
     }
 
-    fn copy(&self) -> Result<Both, Fail> {
-        let book = self.book.copy()?;
-        let plain = self.plain.clone()?;
-        Ok(Both { book, plain })
+    fn copy(&self, rt: &impl Abort) -> Both {
+        let book = self.book.copy().expect(rt, "memory");
+        let plain = self.plain.clone().expect(rt, "memory");
+        Both { book, plain }
     }
 
     // Rests a block whose number is free.
-    fn rest(&mut self, rt: &impl Abort, block: RestingBlock) -> Result<(), Fail> {
-        assert!(rt; self.book.get(block.number).is_none());
+    fn rest(&mut self, rt: &impl Abort, block: RestingBlock) {
+        assert_eq!(rt; self.book.get(block.number), None);
         assert_eq!(rt; self.book.rest(block), Ok(()));
-        self.plain.push(block)?;
-        Ok(())
+        self.plain.push(block).expect(rt, "memory");
     }
 
     // A block whose number is free finds the book full.
     fn expect_full(&mut self, rt: &impl Abort, block: RestingBlock) {
-        assert!(rt; self.book.get(block.number).is_none());
+        assert_eq!(rt; self.book.get(block.number), None);
         assert_eq!(rt; self.book.rest(block), Err(Full));
     }
 
@@ -62,84 +62,103 @@ impl Both {
         self.plain.retain(|block| block.number != number);
     }
 
-    // The block behind one that rests, of the same quantity.
-    fn behind(&self, rt: &impl Abort, number: u32) -> Option<RestingBlock> {
-        assert!(rt; self.book.get(number).is_some());
-        self.book.after(number)
+    // The first block of a line, of a quantity or of all.
+    fn first(&self, last: u32, quantity: Option<u32>, side: Side) -> Option<RestingBlock> {
+        match quantity {
+            Some(quantity) => self.book.first(last, quantity, side),
+            None => self.book.first_any(last, side),
+        }
     }
 
-    // The block behind one that rests, of whatever quantity.
-    fn behind_any(&self, rt: &impl Abort, number: u32) -> Option<RestingBlock> {
+    // The block behind one that rests, of the same quantity or of all.
+    fn behind(&self, rt: &impl Abort, number: u32, quantity: Option<u32>) -> Option<RestingBlock> {
         assert!(rt; self.book.get(number).is_some());
-        self.book.after_any(number)
+        match quantity {
+            Some(_) => self.book.after(number),
+            None => self.book.after_any(number),
+        }
     }
 
-    // Adds the line of a quantity, or of all, as it is walked.
-    fn walk(
+    // The line of a quantity, or of all, has the blocks of the list from a place on. Gives the
+    // place behind its last one.
+    fn expect_line(
         &self,
         rt: &impl Abort,
         last: u32,
         quantity: Option<u32>,
         side: Side,
-        walked: &mut Vec<RestingBlock>,
-    ) -> Result<(), Fail> {
-        let mut at = match quantity {
-            Some(quantity) => self.book.first(last, quantity, side),
-            None => self.book.first_any(last, side),
-        };
+        from: usize,
+    ) -> usize {
+        let mut walked = from;
+        let mut at = self.first(last, quantity, side);
         for _ in 0..4096u32 {
             let Some(block) = at else {
                 break;
             };
-            walked.push(block)?;
-            at = match quantity {
-                Some(_) => self.behind(rt, block.number),
-                None => self.behind_any(rt, block.number),
-            };
+            expect_listed(rt, self.plain.as_slice(), walked, block);
+            walked += 1;
+            at = self.behind(rt, block.number, quantity);
         }
-        Ok(())
+        walked
     }
 
     // The lines of all quantities have the blocks of the list, each in priority.
-    fn expect_periods(&mut self, rt: &impl Abort, alloc: Global) -> Result<(), Fail> {
-        self.plain.sort_by_key(|block| (block.last, place(block)))?;
-        let mut walked = Vec::new(alloc);
+    fn expect_periods(&mut self, rt: &impl Abort) {
+        sort_by_period(&mut self.plain).expect(rt, "memory");
+        let mut walked = 0;
         for last in FIRST_LAST..END_LAST {
-            self.walk(rt, last, None, Side::Buy, &mut walked)?;
-            self.walk(rt, last, None, Side::Sell, &mut walked)?;
+            walked = self.expect_line(rt, last, None, Side::Buy, walked);
+            walked = self.expect_line(rt, last, None, Side::Sell, walked);
         }
-        assert_eq!(rt; walked.as_slice(), self.plain.as_slice());
+        assert_eq!(rt; walked, self.plain.len());
         assert_eq!(rt; self.book.len() as usize, self.plain.len());
-        Ok(())
+    }
+
+    // So have the lines of a quantity, from a place on.
+    fn expect_quantity(&self, rt: &impl Abort, quantity: u32, from: usize) -> usize {
+        let mut walked = from;
+        for last in FIRST_LAST..END_LAST {
+            walked = self.expect_line(rt, last, Some(quantity), Side::Buy, walked);
+            walked = self.expect_line(rt, last, Some(quantity), Side::Sell, walked);
+        }
+        walked
     }
 
     // So have the lines of each quantity.
-    fn expect_quantities(&mut self, rt: &impl Abort, alloc: Global) -> Result<(), Fail> {
-        self.plain
-            .sort_by_key(|block| (block.quantity, block.last, place(block)))?;
-        let mut walked = Vec::new(alloc);
+    fn expect_quantities(&mut self, rt: &impl Abort) {
+        sort_by_quantity(&mut self.plain).expect(rt, "memory");
+        let mut walked = 0;
         for quantity in 0..QUANTITIES {
-            for last in FIRST_LAST..END_LAST {
-                self.walk(rt, last, Some(quantity), Side::Buy, &mut walked)?;
-                self.walk(rt, last, Some(quantity), Side::Sell, &mut walked)?;
-            }
+            walked = self.expect_quantity(rt, quantity, walked);
         }
-        assert_eq!(rt; walked.as_slice(), self.plain.as_slice());
-        Ok(())
+        assert_eq!(rt; walked, self.plain.len());
     }
 
     // Book and list have the same blocks, in all lines and by these numbers.
-    fn expect_same(&mut self, rt: &impl Abort, alloc: Global, numbers: u32) -> Result<(), Fail> {
-        self.expect_periods(rt, alloc)?;
-        self.expect_quantities(rt, alloc)?;
+    fn expect_same(&mut self, rt: &impl Abort, numbers: u32) {
+        self.expect_periods(rt);
+        self.expect_quantities(rt);
         for number in 0..numbers {
-            assert_eq!(rt;
-                self.book.get(number),
-                listed(self.plain.as_slice(), number)
-            );
+            let wanted = listed(self.plain.as_slice(), number);
+            assert_eq!(rt; self.book.get(number), wanted, "{number}");
         }
-        Ok(())
     }
+}
+
+fn sort_by_period(plain: &mut Vec<RestingBlock>) -> Result<(), AllocError> {
+    plain.sort_by_key(|block| (block.last, place(block)))
+}
+
+fn sort_by_quantity(plain: &mut Vec<RestingBlock>) -> Result<(), AllocError> {
+    plain.sort_by_key(|block| (block.quantity, block.last, place(block)))
+}
+
+// A list has this block at a place.
+fn expect_listed(rt: &impl Abort, plain: &[RestingBlock], at: usize, block: RestingBlock)
+    ensures { at < length plain.now }
+{
+    assert!(rt; at < plain.len(), "no block is wanted behind {block:?}");
+    assert_eq!(rt; block, plain[at], "at {at}");
 }
 
 // The block of a number in a list.
@@ -178,60 +197,57 @@ fn block(number: u32, from: u32) -> RestingBlock {
 }
 
 // Makes a drawn call.
-fn call(rt: &impl Abort, both: &mut Both, draws: &mut Draws) -> Result<(), Fail> {
+fn call(rt: &impl Abort, both: &mut Both, draws: &mut Draws) {
     let number = draws.below(NUMBERS);
     if both.book.get(number).is_some() || draws.below(8) == 0 {
         both.withdraw(rt, number);
-        return Ok(());
+    } else {
+        both.rest(rt, block(number, draws.below(720)));
     }
-    both.rest(rt, block(number, draws.below(720)))
 }
 
 // Makes drawn calls of an empty book, and looks at it after each.
-fn make_calls(rt: &impl Abort, alloc: Global, seed: u64, calls: u32) -> Result<(), Fail> {
+fn make_calls(rt: &impl Abort, alloc: Global, seed: u64, calls: u32) {
     let mut draws = Draws::new(seed);
-    let mut both = Both::new(alloc)?;
+    let mut both = Both::new(rt, alloc);
     assert!(rt; both.book.is_empty());
     for _ in 0..calls {
-        call(rt, &mut both, &mut draws)?;
-        both.expect_same(rt, alloc, NUMBERS)?;
+        call(rt, &mut both, &mut draws);
+        both.expect_same(rt, NUMBERS);
     }
-    Ok(())
 }
 
 #[test]
-fn generated_calls_against_a_plain_list(rt: HostRuntime) -> Result<(), Fail> {
+fn generated_calls_against_a_plain_list(rt: HostRuntime) {
     for (seed, calls) in [(1, 400), (20260, 400), (3333333333, 400)] {
-        make_calls(&rt, rt.alloc(), seed, calls)?;
+        make_calls(&rt, rt.alloc(), seed, calls);
     }
-    Ok(())
 }
 
-// A book of 4096 blocks, some of one price and moment.
-fn full_book(rt: &impl Abort, alloc: Global) -> Result<Both, Fail> {
-    let mut both = Both::new(alloc)?;
+// Rests 4096 blocks, some of one price and moment.
+fn fill_up(rt: &impl Abort, both: &mut Both) {
     for number in 0..4096u32 {
-        both.rest(rt, block(number, number / 2))?;
+        both.rest(rt, block(number, number / 2));
     }
-    Ok(both)
 }
 
 // A copy is changed, and the book stays as it was.
-fn expect_copy_apart(rt: &impl Abort, alloc: Global, book: &mut Both) -> Result<(), Fail> {
-    let mut copy = book.copy()?;
-    copy.rest(rt, block(5000, 0))?;
+fn expect_copy_apart(rt: &impl Abort, both: &mut Both) {
+    let mut copy = both.copy(rt);
+    copy.rest(rt, block(5000, 0));
     copy.withdraw(rt, 0);
     copy.withdraw(rt, 5001);
-    copy.expect_same(rt, alloc, 5002)?;
-    book.expect_same(rt, alloc, 5002)
+    copy.expect_same(rt, 5002);
+    both.expect_same(rt, 5002);
 }
 
 #[test]
-fn a_copy_of_a_full_book_with_holes_shares_nothing(rt: HostRuntime) -> Result<(), Fail> {
-    let mut book = full_book(&rt, rt.alloc())?;
-    book.expect_full(&rt, block(5000, 0));
-    book.expect_same(&rt, rt.alloc(), 5002)?;
-    book.withdraw(&rt, 77);
-    book.withdraw(&rt, 2000);
-    expect_copy_apart(&rt, rt.alloc(), &mut book)
+fn a_copy_of_a_full_book_with_holes_shares_nothing(rt: HostRuntime) {
+    let mut both = Both::new(&rt, rt.alloc());
+    fill_up(&rt, &mut both);
+    both.expect_full(&rt, block(5000, 0));
+    both.expect_same(&rt, 5002);
+    both.withdraw(&rt, 77);
+    both.withdraw(&rt, 2000);
+    expect_copy_apart(&rt, &mut both);
 }

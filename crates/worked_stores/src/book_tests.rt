@@ -1,7 +1,7 @@
 //! Books of orders beside a plain list of what has to rest in them: generated calls, and a full book
 //! with holes.
 
-ghost use Rattle.std.specs.Prelude.{◌≡◌, ◌<◌};
+ghost use Rattle.std.specs.Prelude.{◌≡◌, ◌<◌, length};
 ghost use Rattle.contract_book.specs.Book.{parts_of};
 ghost use Rattle.contract_book.specs.Resting.{IsSound};
 
@@ -9,9 +9,8 @@ use crate::draws::Draws;
 use crate::resting_orders::{drawn_order, filled, plain};
 use contract_book::{ContractBook, Full, Resting};
 use order_kinds::Side;
-use std::alloc::Global;
+use std::alloc::{AllocError, Global};
 use std::process::Abort;
-use std::test::Fail;
 
 // The parts of the books.
 const PARTS: u32 = 2;
@@ -25,29 +24,28 @@ struct Both {
 }
 
 impl Both {
-    fn new(alloc: Global) -> Result<Both, Fail> {
-        let book = ContractBook::new(alloc, PARTS)?;
-        Ok(Both {
+    fn new(rt: &impl Abort, alloc: Global) -> Both {
+        let book = ContractBook::new(alloc, PARTS).expect(rt, "memory");
+        Both {
             book,
             plain: Vec::new(alloc),
-        })
+        }
     }
 
-    fn copy(&self) -> Result<Both, Fail> {
-        let book = self.book.copy()?;
-        let plain = self.plain.clone()?;
-        Ok(Both { book, plain })
+    fn copy(&self, rt: &impl Abort) -> Both {
+        let book = self.book.copy().expect(rt, "memory");
+        let plain = self.plain.clone().expect(rt, "memory");
+        Both { book, plain }
     }
 
     // Rests an order whose number is free.
-    fn rest(&mut self, rt: &impl Abort, part: u32, order: Resting) -> Result<(), Fail>
+    fn rest(&mut self, rt: &impl Abort, part: u32, order: Resting)
         requires part { part < 2 }
         requires sound { IsSound order }
     {
-        assert!(rt; self.book.get(order.number).is_none());
+        assert_eq!(rt; self.book.get(order.number), None);
         assert_eq!(rt; self.book.rest(part, order), Ok(()));
-        self.plain.push((part, order))?;
-        Ok(())
+        self.plain.push((part, order)).expect(rt, "memory");
     }
 
     // An order whose number is free finds the book full.
@@ -55,7 +53,7 @@ impl Both {
         requires part { part < 2 }
         requires sound { IsSound order }
     {
-        assert!(rt; self.book.get(order.number).is_none());
+        assert_eq!(rt; self.book.get(order.number), None);
         assert_eq!(rt; self.book.rest(part, order), Err(Full));
     }
 
@@ -108,51 +106,56 @@ impl Both {
         self.book.after(number)
     }
 
-    // Adds a line of the book, as it is walked.
-    fn walk(
-        &self,
-        rt: &impl Abort,
-        part: u32,
-        side: Side,
-        walked: &mut Vec<(u32, Resting)>,
-    ) -> Result<(), Fail>
+    // A line of the book has the orders of the list from a place on. Gives the place behind its
+    // last one.
+    fn expect_line(&self, rt: &impl Abort, part: u32, side: Side, from: usize) -> usize
         requires { part < 2 }
     {
+        let mut walked = from;
         let mut at = self.book.first(part, side);
         for _ in 0..4096u32 {
             let Some(order) = at else {
                 break;
             };
-            walked.push((part, order))?;
+            expect_listed(rt, self.plain.as_slice(), walked, part, order);
+            walked += 1;
             at = self.behind(rt, order.number);
         }
-        Ok(())
+        walked
     }
 
     // The lines of the book have the orders of the list, each in priority.
-    fn expect_lines(&mut self, rt: &impl Abort, alloc: Global) -> Result<(), Fail> {
-        self.plain.sort_by_key(|one| place(one.0, &one.1))?;
-        let mut walked = Vec::new(alloc);
+    fn expect_lines(&mut self, rt: &impl Abort) {
+        sort_by_place(&mut self.plain).expect(rt, "memory");
+        let mut walked = 0;
         for part in 0..PARTS {
-            self.walk(rt, part, Side::Buy, &mut walked)?;
-            self.walk(rt, part, Side::Sell, &mut walked)?;
+            walked = self.expect_line(rt, part, Side::Buy, walked);
+            walked = self.expect_line(rt, part, Side::Sell, walked);
         }
-        assert_eq!(rt; walked.as_slice(), self.plain.as_slice());
+        assert_eq!(rt; walked, self.plain.len());
         assert_eq!(rt; self.book.len() as usize, self.plain.len());
-        Ok(())
     }
 
     // Book and list have the same orders, in all lines and by these numbers.
-    fn expect_same(&mut self, rt: &impl Abort, alloc: Global, numbers: u32) -> Result<(), Fail> {
-        self.expect_lines(rt, alloc)?;
+    fn expect_same(&mut self, rt: &impl Abort, numbers: u32) {
+        self.expect_lines(rt);
         for number in 0..numbers {
-            assert_eq!(rt;
-                self.book.get(number),
-                listed(self.plain.as_slice(), number)
-            );
+            let wanted = listed(self.plain.as_slice(), number);
+            assert_eq!(rt; self.book.get(number), wanted, "{number}");
         }
-        Ok(())
     }
+}
+
+fn sort_by_place(plain: &mut Vec<(u32, Resting)>) -> Result<(), AllocError> {
+    plain.sort_by_key(|one| place(one.0, &one.1))
+}
+
+// A list has this order of a part at a place.
+fn expect_listed(rt: &impl Abort, plain: &[(u32, Resting)], at: usize, part: u32, order: Resting)
+    ensures { at < length plain.now }
+{
+    assert!(rt; at < plain.len(), "no order is wanted behind {order:?}");
+    assert_eq!(rt; (part, order), plain[at], "at {at}");
 }
 
 // The order of a number in a list.
@@ -203,42 +206,39 @@ fn change(rt: &impl Abort, both: &mut Both, draws: &mut Draws, order: &Resting) 
 }
 
 // Makes a drawn call.
-fn call(rt: &impl Abort, both: &mut Both, draws: &mut Draws) -> Result<(), Fail> {
+fn call(rt: &impl Abort, both: &mut Both, draws: &mut Draws) {
     let number = draws.below(NUMBERS);
     if let Some(order) = both.book.get(number) {
         change(rt, both, draws, &order);
-        return Ok(());
+    } else {
+        let part = draws.below(PARTS);
+        both.rest(rt, part, drawn_order(draws, number));
     }
-    let part = draws.below(PARTS);
-    both.rest(rt, part, drawn_order(draws, number))
 }
 
 // Below which the numbers of the generated calls are.
 const NUMBERS: u32 = 60;
 
 // Makes drawn calls of an empty book, and looks at it after each.
-fn make_calls(rt: &impl Abort, alloc: Global, seed: u64, calls: u32) -> Result<(), Fail> {
+fn make_calls(rt: &impl Abort, alloc: Global, seed: u64, calls: u32) {
     let mut draws = Draws::new(seed);
-    let mut both = Both::new(alloc)?;
+    let mut both = Both::new(rt, alloc);
     assert!(rt; both.book.is_empty());
     for _ in 0..calls {
-        call(rt, &mut both, &mut draws)?;
-        both.expect_same(rt, alloc, NUMBERS)?;
+        call(rt, &mut both, &mut draws);
+        both.expect_same(rt, NUMBERS);
     }
-    Ok(())
 }
 
 #[test]
-fn generated_calls_against_a_plain_list(rt: HostRuntime) -> Result<(), Fail> {
+fn generated_calls_against_a_plain_list(rt: HostRuntime) {
     for (seed, calls) in [(1, 600), (20260, 600), (3333333333, 600)] {
-        make_calls(&rt, rt.alloc(), seed, calls)?;
+        make_calls(&rt, rt.alloc(), seed, calls);
     }
-    Ok(())
 }
 
-// A book of 4096 orders, some of one price and moment.
-fn full_book(rt: &impl Abort, alloc: Global) -> Result<Both, Fail> {
-    let mut both = Both::new(alloc)?;
+// Rests 4096 orders, some of one price and moment.
+fn fill_up(rt: &impl Abort, both: &mut Both) {
     for number in 0..4096u32 {
         let side = if number % 3 == 0 {
             Side::Buy
@@ -246,28 +246,28 @@ fn full_book(rt: &impl Abort, alloc: Global) -> Result<Both, Fail> {
             Side::Sell
         };
         let order = plain(number, side, 40, 5, u64::from(number / 2));
-        both.rest(rt, number % 2, order)?;
+        both.rest(rt, number % 2, order);
     }
-    Ok(both)
 }
 
 // A copy is changed, and the book stays as it was.
-fn expect_copy_apart(rt: &impl Abort, alloc: Global, book: &mut Both) -> Result<(), Fail> {
-    let mut copy = book.copy()?;
-    copy.rest(rt, 1, plain(5000, Side::Buy, 41, 2, 5000))?;
+fn expect_copy_apart(rt: &impl Abort, both: &mut Both) {
+    let mut copy = both.copy(rt);
+    copy.rest(rt, 1, plain(5000, Side::Buy, 41, 2, 5000));
     copy.fill(0, 5, 1);
     copy.reduce(4095, 2);
     copy.withdraw(rt, 5001);
-    copy.expect_same(rt, alloc, 5002)?;
-    book.expect_same(rt, alloc, 5002)
+    copy.expect_same(rt, 5002);
+    both.expect_same(rt, 5002);
 }
 
 #[test]
-fn a_copy_of_a_full_book_with_holes_shares_nothing(rt: HostRuntime) -> Result<(), Fail> {
-    let mut book = full_book(&rt, rt.alloc())?;
-    book.expect_full(&rt, 1, plain(5000, Side::Buy, 41, 2, 5000));
-    book.expect_same(&rt, rt.alloc(), 5002)?;
-    book.withdraw(&rt, 77);
-    book.withdraw(&rt, 2000);
-    expect_copy_apart(&rt, rt.alloc(), &mut book)
+fn a_copy_of_a_full_book_with_holes_shares_nothing(rt: HostRuntime) {
+    let mut both = Both::new(&rt, rt.alloc());
+    fill_up(&rt, &mut both);
+    both.expect_full(&rt, 1, plain(5000, Side::Buy, 41, 2, 5000));
+    both.expect_same(&rt, 5002);
+    both.withdraw(&rt, 77);
+    both.withdraw(&rt, 2000);
+    expect_copy_apart(&rt, &mut both);
 }

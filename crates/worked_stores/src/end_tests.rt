@@ -13,7 +13,6 @@ use std::alloc::{AllocError, Global};
 use std::io;
 use std::io::{ErrorKind, Read, Write};
 use std::process::Abort;
-use std::test::Fail;
 
 // Why reading stopped before the end.
 #[derive(Clone, Copy, Debug, PartialEq, Eq)]
@@ -124,28 +123,31 @@ fn assert_reads<S: Source>(
 }
 
 #[test]
-fn sources_give_their_bytes(rt: HostRuntime) -> Result<(), Fail> {
-    let mut pieces = BytesSource::new(rt.alloc(), b"abcdefgh", 3, &[2, 5])?;
-    assert_reads(&rt, rt.alloc(), &mut pieces, Err(Stop::Failed), b"abc");
-    assert_reads(&rt, rt.alloc(), &mut pieces, Err(Stop::Failed), b"defgh");
-    assert_reads(&rt, rt.alloc(), &mut pieces, Ok(()), b"");
+fn sources_give_their_bytes(rt: HostRuntime) {
+    let alloc = rt.alloc();
+    let mut pieces = BytesSource::new(alloc, b"abcdefgh", 3, &[2, 5]).expect(&rt, "memory");
+    assert_reads(&rt, alloc, &mut pieces, Err(Stop::Failed), b"abc");
+    assert_reads(&rt, alloc, &mut pieces, Err(Stop::Failed), b"defgh");
+    assert_reads(&rt, alloc, &mut pieces, Ok(()), b"");
 
-    let mut steady = SteadySource::new(rt.alloc(), b"abcdefgh")?;
-    assert_reads(&rt, rt.alloc(), &mut steady, Ok(()), b"abcdefgh");
-    assert_reads(&rt, rt.alloc(), &mut steady, Ok(()), b"");
+    let mut steady = SteadySource::new(alloc, b"abcdefgh").expect(&rt, "memory");
+    assert_reads(&rt, alloc, &mut steady, Ok(()), b"abcdefgh");
+    assert_reads(&rt, alloc, &mut steady, Ok(()), b"");
+}
 
+#[test]
+fn readers_are_sources(rt: HostRuntime) {
     let mut reader = ReadSource::new(b"abcdefgh".as_slice());
     assert_reads(&rt, rt.alloc(), &mut reader, Ok(()), b"abcdefgh");
 
     let mut stumbling = ReadSource::new(Stumbling::new(b"abcdefgh".as_slice()));
     assert_reads(&rt, rt.alloc(), &mut stumbling, Err(Stop::Failed), b"abcd");
     assert_reads(&rt, rt.alloc(), &mut stumbling, Ok(()), b"efgh");
-    Ok(())
 }
 
 #[test]
-fn sinks_take_their_bytes(rt: HostRuntime) -> Result<(), Fail> {
-    let mut pieces = BytesSink::new(rt.alloc(), 3, &[2, 5])?;
+fn sinks_take_their_bytes(rt: HostRuntime) {
+    let mut pieces = BytesSink::new(rt.alloc(), 3, &[2, 5]).expect(&rt, "memory");
     assert_eq!(rt; write_whole(&mut pieces, b"abcdef"), Err(Failed));
     assert_eq!(rt; pieces.bytes(), b"abc".as_slice());
     assert_eq!(rt; write_whole(&mut pieces, b"defgh"), Ok(()));
@@ -153,19 +155,17 @@ fn sinks_take_their_bytes(rt: HostRuntime) -> Result<(), Fail> {
     assert_eq!(rt; write_whole(&mut pieces, b"i"), Err(Failed));
     assert_eq!(rt; pieces.bytes(), b"abcdefgh".as_slice());
 
+    assert_eq!(rt; write_whole(&mut NullSink::new(), b"abcdefgh"), Ok(()));
+}
+
+#[test]
+fn writers_are_sinks(rt: HostRuntime) {
     let mut written = Vec::new(rt.alloc());
     assert_eq!(rt;
         write_whole(&mut WriteSink::new(&mut written), b"abcdefgh"),
         Ok(())
     );
     assert_eq!(rt; written.as_slice(), b"abcdefgh".as_slice());
-
-    let mut parts = Vec::new(rt.alloc());
-    let mut stumbling = WriteSink::new(Stumbling::new(&mut parts));
-    assert_eq!(rt; write_whole(&mut stumbling, b"abcdef"), Err(Failed));
-    assert_eq!(rt; write_whole(&mut stumbling, b"defgh"), Ok(()));
-    drop(stumbling);
-    assert_eq!(rt; parts.as_slice(), b"abcdefgh".as_slice());
 
     // a slice that is full takes nothing more
     let mut room = [0u8; 3];
@@ -174,7 +174,14 @@ fn sinks_take_their_bytes(rt: HostRuntime) -> Result<(), Fail> {
         Err(Failed)
     );
     assert_eq!(rt; room.as_slice(), b"abc".as_slice());
+}
 
-    assert_eq!(rt; write_whole(&mut NullSink::new(), b"abcdefgh"), Ok(()));
-    Ok(())
+#[test]
+fn a_writer_that_stumbles_goes_on_where_it_stopped(rt: HostRuntime) {
+    let mut parts = Vec::new(rt.alloc());
+    let mut stumbling = WriteSink::new(Stumbling::new(&mut parts));
+    assert_eq!(rt; write_whole(&mut stumbling, b"abcdef"), Err(Failed));
+    assert_eq!(rt; write_whole(&mut stumbling, b"defgh"), Ok(()));
+    drop(stumbling);
+    assert_eq!(rt; parts.as_slice(), b"abcdefgh".as_slice());
 }

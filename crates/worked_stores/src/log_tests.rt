@@ -34,13 +34,21 @@ fn make(rt: &impl Abort, log: &mut UndoLog<u32>, step: Step) {
     }
 }
 
+// Makes the steps one after the other, and looks at how many changes the log then has.
+fn make_all(rt: &impl Abort, log: &mut UndoLog<u32>, rows: &[(Step, usize)]) {
+    for (step, len) in rows {
+        make(rt, log, *step);
+        assert_eq!(rt; log.len(), *len, "after {step:?}");
+    }
+}
+
 #[test]
 fn each_call_answers(rt: HostRuntime) -> Result<(), Fail> {
     let mut log = UndoLog::new(rt.alloc())?;
     assert!(rt; log.is_empty());
     assert_eq!(rt; log.spare(), 0);
 
-    log.reserve(2)?;
+    assert_eq!(rt; log.reserve(2), Ok(()));
     assert!(rt; 2 <= log.spare());
     note(&rt, &mut log, 7u32);
     note(&rt, &mut log, 8);
@@ -61,62 +69,70 @@ fn each_call_answers(rt: HostRuntime) -> Result<(), Fail> {
     Ok(())
 }
 
-fn bytes(alloc: Global, byte: u8) -> Result<Vec<u8>, NoMemory> {
+fn bytes(rt: &impl Abort, alloc: Global, byte: u8) -> Vec<u8> {
     let mut bytes = Vec::new(alloc);
-    bytes.resize(2, byte)?;
-    Ok(bytes)
+    bytes.resize(2, byte).expect(rt, "memory");
+    bytes
+}
+
+// Notes two bytes of each value below 200.
+fn note_all(rt: &impl Abort, alloc: Global, log: &mut UndoLog<Vec<u8>>) {
+    for byte in 0..200u8 {
+        note(rt, log, bytes(rt, alloc, byte));
+    }
+}
+
+// Takes back those of the last hundred values.
+fn expect_last_back(rt: &impl Abort, alloc: Global, log: &mut UndoLog<Vec<u8>>) {
+    for byte in (100..200u8).rev() {
+        assert_eq!(rt; log.back(), Some(bytes(rt, alloc, byte)));
+    }
 }
 
 #[test]
 fn records_come_back_in_the_opposite_order(rt: HostRuntime) -> Result<(), Fail> {
     let mut log = UndoLog::new(rt.alloc())?;
-    log.reserve(200)?;
-    for byte in 0..200u8 {
-        note(&rt, &mut log, bytes(rt.alloc(), byte)?);
-    }
+    assert_eq!(rt; log.reserve(200), Ok(()));
+    note_all(&rt, rt.alloc(), &mut log);
     assert_eq!(rt; log.len(), 200);
-    for byte in (100..200u8).rev() {
-        assert_eq!(rt; log.back(), Some(bytes(rt.alloc(), byte)?));
-    }
+    expect_last_back(&rt, rt.alloc(), &mut log);
     assert_eq!(rt; log.len(), 100);
     log.clear();
     assert_eq!(rt; log.back(), None);
 
     // what a log holds goes with it
-    note(&rt, &mut log, bytes(rt.alloc(), 1)?);
+    note(&rt, &mut log, bytes(&rt, rt.alloc(), 1));
     Ok(())
 }
+
+const ROWS: [(Step, usize); 22] = [
+    (Step::Back(None), 0),
+    (Step::Reserve(0), 0),
+    (Step::Reserve(2), 0),
+    (Step::Note(1), 1),
+    (Step::Note(2), 2),
+    (Step::Back(Some(2)), 1),
+    (Step::Note(3), 2),
+    (Step::Reserve(5), 2),
+    (Step::Note(4), 3),
+    (Step::Note(4), 4),
+    (Step::Back(Some(4)), 3),
+    (Step::Back(Some(4)), 2),
+    (Step::Back(Some(3)), 1),
+    (Step::Back(Some(1)), 0),
+    (Step::Back(None), 0),
+    (Step::Note(5), 1),
+    (Step::Note(6), 2),
+    (Step::Clear, 0),
+    (Step::Back(None), 0),
+    (Step::Clear, 0),
+    (Step::Note(7), 1),
+    (Step::Back(Some(7)), 0),
+];
 
 #[test]
 fn a_row_of_steps(rt: HostRuntime) -> Result<(), Fail> {
     let mut log = UndoLog::new(rt.alloc())?;
-    let rows = [
-        (Step::Back(None), 0),
-        (Step::Reserve(0), 0),
-        (Step::Reserve(2), 0),
-        (Step::Note(1), 1),
-        (Step::Note(2), 2),
-        (Step::Back(Some(2)), 1),
-        (Step::Note(3), 2),
-        (Step::Reserve(5), 2),
-        (Step::Note(4), 3),
-        (Step::Note(4), 4),
-        (Step::Back(Some(4)), 3),
-        (Step::Back(Some(4)), 2),
-        (Step::Back(Some(3)), 1),
-        (Step::Back(Some(1)), 0),
-        (Step::Back(None), 0),
-        (Step::Note(5), 1),
-        (Step::Note(6), 2),
-        (Step::Clear, 0),
-        (Step::Back(None), 0),
-        (Step::Clear, 0),
-        (Step::Note(7), 1),
-        (Step::Back(Some(7)), 0),
-    ];
-    for (step, len) in rows {
-        make(&rt, &mut log, step);
-        assert_eq!(rt; log.len(), len, "after {step:?}");
-    }
+    make_all(&rt, &mut log, ROWS.as_slice());
     Ok(())
 }

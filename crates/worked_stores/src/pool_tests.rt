@@ -4,7 +4,6 @@ ghost use Rattle.std.specs.Prelude.{◌≡◌, ◌<◌, length};
 
 use order_pool::{Full, PLACES, Pool};
 use std::process::Abort;
-use std::test::Fail;
 
 // The line holds these items in order, and a walk backwards would meet the same places.
 fn expect_line(rt: &impl Abort, pool: &Pool<u32>, line: u32, wanted: &[u32])
@@ -32,40 +31,45 @@ fn take_live(rt: &impl Abort, pool: &mut Pool<u32>, place: u32) -> u32
     pool.take(place)
 }
 
+// A copy is changed: an item gets another value, and goes to the other line before a new one.
+fn expect_copy_apart(rt: &impl Abort, pool: &Pool<u32>, first: u32)
+    requires { length pool.now.lines ≡ 2 }
+{
+    let mut copy = pool.copy().expect(rt, "memory");
+    assert!(rt; copy.is_live(first));
+    *copy.get_mut(first) = 15;
+    let other = copy.insert(1, None, 50).expect(rt, "a free place");
+    assert!(rt; copy.is_live(first));
+    assert_ne!(rt; other, first);
+    copy.shift(first, 1, Some(other));
+    expect_line(rt, &copy, 0, &[30, 40]);
+    expect_line(rt, &copy, 1, &[15, 50]);
+}
+
 #[test]
-fn lines_are_made_and_a_copy_shares_nothing(rt: HostRuntime) -> Result<(), Fail> {
-    let mut pool = Pool::with_lines(rt.alloc(), 2)?;
-    let third = pool.put(30)?;
-    let second = pool.insert(0, Some(third), 20)?;
-    let first = pool.insert(0, Some(second), 10)?;
-    let _fourth = pool.put(40)?;
+fn lines_are_made_and_a_copy_shares_nothing(rt: HostRuntime) {
+    let mut pool = Pool::with_lines(rt.alloc(), 2).expect(&rt, "memory");
+    let third = pool.put(30).expect(&rt, "a free place");
+    let second = pool.insert(0, Some(third), 20).expect(&rt, "a free place");
+    let first = pool.insert(0, Some(second), 10).expect(&rt, "a free place");
+    assert!(rt; pool.put(40).is_ok());
     expect_line(&rt, &pool, 0, &[10, 20, 30, 40]);
     expect_line(&rt, &pool, 1, &[]);
 
     assert_eq!(rt; take_live(&rt, &mut pool, second), 20);
-    let mut copy = pool.copy()?;
-    assert!(rt; copy.is_live(first));
-    *copy.get_mut(first) = 15;
-    let other = copy.insert(1, None, 50)?;
-    assert!(rt; copy.is_live(first));
-    assert_ne!(rt; other, first);
-    copy.shift(first, 1, Some(other));
-    expect_line(&rt, &copy, 0, &[30, 40]);
-    expect_line(&rt, &copy, 1, &[15, 50]);
+    expect_copy_apart(&rt, &pool, first);
     expect_line(&rt, &pool, 0, &[10, 30, 40]);
     expect_line(&rt, &pool, 1, &[]);
-    Ok(())
 }
 
 #[test]
-fn full_at_4096_items(rt: HostRuntime) -> Result<(), Fail> {
-    let mut pool = Pool::new(rt.alloc())?;
+fn full_at_4096_items(rt: HostRuntime) {
+    let mut pool = Pool::new(rt.alloc()).expect(&rt, "memory");
     for item in 0..PLACES {
-        let _place = pool.put(item)?;
+        assert!(rt; pool.put(item).is_ok());
     }
     assert_eq!(rt; pool.put(4096), Err(Full));
     let _item = take_live(&rt, &mut pool, 77);
-    assert_eq!(rt; pool.put(4097)?, 77);
+    assert_eq!(rt; pool.put(4097), Ok(77));
     assert_eq!(rt; pool.put(4098), Err(Full));
-    Ok(())
 }
