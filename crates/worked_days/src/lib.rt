@@ -13,6 +13,8 @@ mod graph_tests;
 #[cfg(test)]
 mod journal_tests;
 #[cfg(test)]
+mod made;
+#[cfg(test)]
 mod order_tests;
 #[cfg(test)]
 mod peak_tests;

@@ -1,13 +1,13 @@
 //! Commands that break a rule by themselves, and the hours that commands touch.
 
+use crate::made::expect;
 use crate::setups::setup_of;
 use market_model::{
-    BlockOrder, Command, Contract, Hours, Kind, Lots, NoMemory, Order, OrderName, Orders, Part,
-    Price, Quarter, Refusal, Side, refuse_early, touches,
+    BlockOrder, Command, Contract, Hours, Kind, Lots, Order, OrderName, Orders, Part, Price,
+    Quarter, Refusal, Side, refuse_early, touches,
 };
 use std::alloc::Global;
 use std::process::Abort;
-use std::test::Fail;
 use zone_graph::Grid;
 
 const TRADER: u32 = 0;
@@ -53,10 +53,10 @@ fn offer(first: Quarter, last: Quarter, lots: u32) -> Command {
     }
 }
 
-fn basket(alloc: Global, orders: &[Order]) -> Result<Command, NoMemory> {
-    Ok(Command::EnterBasket {
-        orders: Orders::from(Vec::from_slice(alloc, orders)?),
-    })
+fn basket<R: Abort + AllocGlobal>(rt: &R, orders: &[Order]) -> Command {
+    Command::EnterBasket {
+        orders: Orders::from(Vec::from_slice(rt.alloc(), orders).expect(rt, "memory")),
+    }
 }
 
 // The order for another hour.
@@ -70,61 +70,64 @@ fn at_hour(hour: u32) -> Order {
     }
 }
 
-// The first rule that each command of a caller breaks by itself, if it breaks one.
-fn refuses_early<R: Abort + AllocGlobal>(
+// The first rule that a command of a caller breaks by itself, if it breaks one.
+fn refusal_of<R: Abort + AllocGlobal>(rt: &R, caller: u32, command: &Command) -> Option<Refusal> {
+    let setup = setup_of(rt, rt.alloc());
+    let grid = Grid::new(rt.alloc(), &setup.zones, &setup.borders).expect(rt, "a grid");
+    assert!(rt; caller < 2);
+    refuse_early(&grid, &setup, caller, command)
+}
+
+fn refuses<R: Abort + AllocGlobal>(
     rt: &R,
-    cases: &[(u32, Command, Option<Refusal>)],
-) -> Result<(), Fail> {
-    let setup = setup_of(rt.alloc())?;
-    let grid = Grid::new(rt.alloc(), &setup.zones, &setup.borders)?;
-    for (caller, command, refusal) in cases {
-        assert!(rt; *caller < 2);
-        assert_eq!(rt;
-            &refuse_early(&grid, &setup, *caller, command),
-            refusal,
-            "{command:?}"
-        );
-    }
-    Ok(())
+    caller: u32,
+    command: Command,
+    refusal: Option<Refusal>,
+) {
+    let refused = refusal_of(rt, caller, &command);
+    expect(rt, &command, refused, refusal);
+}
+
+// The rule that a command breaks by itself before any other.
+fn breaks<R: Abort + AllocGlobal>(rt: &R, caller: u32, command: Command, rule: Refusal) {
+    refuses(rt, caller, command, Some(rule));
 }
 
 #[test]
-fn the_first_broken_rule_on_names_is_the_refusal(rt: HostRuntime) -> Result<(), Fail> {
-    let basket_of_one_hour = basket(rt.alloc(), &[ORDER, ORDER])?;
+fn the_first_broken_rule_on_names_is_the_refusal(rt: HostRuntime) {
+    let early = enter(at_hour(0));
+    let late = enter(at_hour(26));
+    let far = enter(Order { zone: 3, ..ORDER });
+    breaks(&rt, OPERATOR, enter(ORDER), Refusal::WrongRole);
+    breaks(&rt, TRADER, early, Refusal::UnknownHour);
+    breaks(&rt, TRADER, late, Refusal::UnknownHour);
+    breaks(&rt, TRADER, far, Refusal::UnknownZone);
+    refuses(&rt, TRADER, enter(ORDER), None);
+}
+
+#[test]
+fn the_first_broken_rule_on_periods_is_the_refusal(rt: HostRuntime) {
+    let fifth = offer(quarter(3, 1), quarter(3, 5), 1);
     let halt = Command::Halt {
         from: 0,
         to: 2,
         first: 1,
         last: 1,
     };
-    let cases = [
-        (OPERATOR, enter(ORDER), Some(Refusal::WrongRole)),
-        (TRADER, enter(at_hour(0)), Some(Refusal::UnknownHour)),
-        (TRADER, enter(at_hour(26)), Some(Refusal::UnknownHour)),
-        (
-            OPERATOR,
-            offer(quarter(3, 1), quarter(3, 5), 1),
-            Some(Refusal::UnknownContract),
-        ),
-        (
-            TRADER,
-            enter(Order { zone: 3, ..ORDER }),
-            Some(Refusal::UnknownZone),
-        ),
-        (OPERATOR, halt, Some(Refusal::UnknownBorder)),
-        (
-            TRADER,
-            Command::Blocks { first: 1, last: 25 },
-            Some(Refusal::BadPeriod),
-        ),
-        (TRADER, basket_of_one_hour, Some(Refusal::BadBasket)),
-        (TRADER, enter(ORDER), None),
-    ];
-    refuses_early(&rt, cases.as_slice())
+    let blocks = Command::Blocks { first: 1, last: 25 };
+    breaks(&rt, OPERATOR, fifth, Refusal::UnknownContract);
+    breaks(&rt, OPERATOR, halt, Refusal::UnknownBorder);
+    breaks(&rt, TRADER, blocks, Refusal::BadPeriod);
+    breaks(
+        &rt,
+        TRADER,
+        basket(&rt, &[ORDER, ORDER]),
+        Refusal::BadBasket,
+    );
 }
 
 #[test]
-fn the_first_broken_rule_on_numbers_is_the_refusal(rt: HostRuntime) -> Result<(), Fail> {
+fn the_first_broken_rule_on_numbers_is_the_refusal(rt: HostRuntime) {
     let dear_and_empty = Order {
         price: Price(999901),
         quantity: Lots(0),
@@ -137,66 +140,59 @@ fn the_first_broken_rule_on_numbers_is_the_refusal(rt: HostRuntime) -> Result<()
         },
         ..ORDER
     };
-    let cases = [
-        (
-            TRADER,
-            enter(dear_and_empty),
-            Some(Refusal::PriceOutOfRange),
-        ),
-        (
-            OPERATOR,
-            offer(quarter(3, 2), quarter(4, 1), 1_000_001),
-            Some(Refusal::QuantityOutOfRange),
-        ),
-        (TRADER, enter(one_peak), Some(Refusal::BadPeak)),
-        (
-            OPERATOR,
-            offer(quarter(3, 2), quarter(4, 1), 1_000_000),
-            None,
-        ),
-    ];
-    refuses_early(&rt, cases.as_slice())
+    let too_many = offer(quarter(3, 2), quarter(4, 1), 1_000_001);
+    let most = offer(quarter(3, 2), quarter(4, 1), 1_000_000);
+    breaks(&rt, TRADER, enter(dear_and_empty), Refusal::PriceOutOfRange);
+    breaks(&rt, OPERATOR, too_many, Refusal::QuantityOutOfRange);
+    breaks(&rt, TRADER, enter(one_peak), Refusal::BadPeak);
+    refuses(&rt, OPERATOR, most, None);
 }
 
-// The hours that each command of a caller touches.
-fn touch<R: Abort + AllocGlobal>(rt: &R, cases: &[(u32, Command, u32)]) -> Result<(), Fail> {
-    let setup = setup_of(rt.alloc())?;
-    let grid = Grid::new(rt.alloc(), &setup.zones, &setup.borders)?;
-    for (caller, command, hours) in cases {
-        assert!(rt; *caller < 2);
-        let touched = touches(&grid, &setup, *caller, command);
-        assert_eq!(rt; touched, Hours(*hours), "{command:?}");
-    }
-    Ok(())
+// The hours that a command of a caller touches.
+fn touched_by<R: Abort + AllocGlobal>(rt: &R, caller: u32, command: &Command) -> Hours {
+    let setup = setup_of(rt, rt.alloc());
+    let grid = Grid::new(rt.alloc(), &setup.zones, &setup.borders).expect(rt, "a grid");
+    assert!(rt; caller < 2);
+    touches(&grid, &setup, caller, command)
+}
+
+fn touch<R: Abort + AllocGlobal>(rt: &R, caller: u32, command: Command, hours: u32) {
+    let touched = touched_by(rt, caller, &command);
+    expect(rt, &command, touched, Hours(hours));
 }
 
 #[test]
-fn commands_touch_the_hours_that_they_name(rt: HostRuntime) -> Result<(), Fail> {
+fn commands_touch_the_hours_that_they_name(rt: HostRuntime) {
     let name = OrderName { hour: 7, number: 1 };
-    let basket_of_two_hours = basket(rt.alloc(), &[at_hour(2), at_hour(25)])?;
-    let cases = [
-        (TRADER, Command::EnterBlock { order: BLOCK }, 0b1_1100),
-        (OPERATOR, offer(quarter(3, 2), quarter(4, 1), 1), 0b1100),
-        (TRADER, basket_of_two_hours, 0x100_0002),
-        (TRADER, Command::Reduce { name, to: 0 }, 0b100_0000),
-        (OPERATOR, Command::Reduce { name, to: 0 }, 0),
-    ];
-    touch(&rt, cases.as_slice())
+    let two_hours = offer(quarter(3, 2), quarter(4, 1), 1);
+    let basket_of_two_hours = basket(&rt, &[at_hour(2), at_hour(25)]);
+    touch(&rt, TRADER, Command::EnterBlock { order: BLOCK }, 0b1_1100);
+    touch(&rt, OPERATOR, two_hours, 0b1100);
+    touch(&rt, TRADER, basket_of_two_hours, 0x100_0002);
+    touch(&rt, TRADER, Command::Reduce { name, to: 0 }, 0b100_0000);
+    touch(&rt, OPERATOR, Command::Reduce { name, to: 0 }, 0);
 }
+
+// Hours, and whether the set of hours 3, 5 and 32 has them.
+const FOUND: [(u32, bool); 6] = [
+    (0, false),
+    (3, true),
+    (4, false),
+    (5, true),
+    (32, true),
+    (33, false),
+];
 
 #[test]
 fn hours_are_found_in_a_set(rt: HostRuntime) {
-    let hours = Hours(0x8000_0014);
-    for (hour, want) in [
-        (0, false),
-        (3, true),
-        (4, false),
-        (5, true),
-        (32, true),
-        (33, false),
-    ] {
-        assert_eq!(rt; hours.contains(hour), want, "{hour}");
+    for (hour, want) in FOUND.as_slice() {
+        expect(&rt, hour, Hours(0x8000_0014).contains(*hour), *want);
     }
+}
+
+#[test]
+fn the_first_hour_of_a_set(rt: HostRuntime) {
+    let hours = Hours(0x8000_0014);
     assert_eq!(rt; hours.first(), Some(3));
     assert_eq!(rt; Hours::EMPTY.first(), None);
     assert!(rt; Hours::EMPTY.is_empty() && !hours.is_empty());

@@ -1,55 +1,63 @@
 //! A day that tests share.
 
-ghost use Rattle.std.specs.Prelude.{◌≡◌, ◌≤◌, IfOk, length};
+ghost use Rattle.std.specs.Prelude.{◌≡◌, ◌≤◌, length};
 ghost use Rattle.zone_graph.specs.Grid.{JoinsZones};
 ghost use Rattle.market_model.specs.Grid.{graph_of};
 
-use market_model::{Caller, Callers, Names, NoMemory, Pairs, Role, Setup, Word};
+use crate::made::{put, word};
+use market_model::{Caller, Callers, Names, Pairs, Role, Setup};
 use std::alloc::Global;
+use std::process::Abort;
 
-fn caller_of(alloc: Global, name: &[u8], role: Role) -> Result<Caller, NoMemory> {
-    Ok(Caller {
-        name: Word::new(alloc, name)?,
+fn caller_of(rt: &impl Abort, alloc: Global, name: &[u8], role: Role) -> Caller {
+    Caller {
+        name: word(rt, alloc, name),
         role,
         room: 9,
-    })
+    }
 }
 
 // A trader and an operator.
-fn callers_of(alloc: Global) -> Result<Callers, NoMemory>
-    ensures { IfOk result (λ callers. length callers ≡ 2) }
+fn callers_of(rt: &impl Abort, alloc: Global) -> Callers
+    ensures { length result ≡ 2 }
 {
     let mut callers = Callers::new(alloc);
-    callers.push(caller_of(alloc, b"trader", Role::Trader)?)?;
-    callers.push(caller_of(alloc, b"operator", Role::Operator)?)?;
-    Ok(callers)
+    put(
+        rt,
+        &mut callers,
+        caller_of(rt, alloc, b"trader", Role::Trader),
+    );
+    put(
+        rt,
+        &mut callers,
+        caller_of(rt, alloc, b"operator", Role::Operator),
+    );
+    callers
 }
 
 // Three zones.
-fn zones_of(alloc: Global) -> Result<Names, NoMemory>
-    ensures { IfOk result (λ zones. length zones ≡ 3) }
+fn zones_of(rt: &impl Abort, alloc: Global) -> Names
+    ensures { length result ≡ 3 }
 {
     let mut zones = Names::new(alloc);
-    zones.push(Word::new(alloc, b"DE")?)?;
-    zones.push(Word::new(alloc, b"FR")?)?;
-    zones.push(Word::new(alloc, b"FI")?)?;
-    Ok(zones)
+    put(rt, &mut zones, word(rt, alloc, b"DE"));
+    put(rt, &mut zones, word(rt, alloc, b"FR"));
+    put(rt, &mut zones, word(rt, alloc, b"FI"));
+    zones
 }
 
 // A day of 25 hours, three zones, a border between the first two, a trader and an operator.
-pub(crate) fn setup_of(alloc: Global) -> Result<Setup, NoMemory>
-    ensures zones { IfOk result (λ setup. JoinsZones (graph_of setup)) }
-    ensures callers { IfOk result (λ setup. length setup.callers ≡ 2) }
-    ensures hours { IfOk result (λ setup. setup.hours ≤ 32) }
+pub(crate) fn setup_of(rt: &impl Abort, alloc: Global) -> Setup
+    ensures zones { JoinsZones (graph_of result) }
+    ensures callers { length result.callers ≡ 2 }
+    ensures hours { result.hours ≤ 32 }
 {
     let mut borders = Pairs::new(alloc);
-    borders.push((0, 1))?;
-    let zones = zones_of(alloc)?;
-    let callers = callers_of(alloc)?;
-    Ok(Setup {
+    put(rt, &mut borders, (0, 1));
+    Setup {
         hours: 25,
-        zones,
+        zones: zones_of(rt, alloc),
         borders,
-        callers,
-    })
+        callers: callers_of(rt, alloc),
+    }
 }

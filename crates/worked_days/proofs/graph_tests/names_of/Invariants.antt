@@ -1,6 +1,6 @@
 use Rattle.std.proofs.Common.{◌≡◌, length}
-use Rattle.worked_days.proofs.graph_tests.named_grid.Given as goal
+use Rattle.worked_days.proofs.graph_tests.names_of.Given as goal
 
 -- a zone for each name so far
 abbrev pub invariant-loop-name : goal.invariant-loop-name
-invariant-loop-name l = length l.zones ≡ l.name-index
+invariant-loop-name g l = length l.zones ≡ l.name-index
