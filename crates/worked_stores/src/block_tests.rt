@@ -42,17 +42,16 @@ impl Both {
         Both { book, plain }
     }
 
-    // Rests a block whose number is free.
-    fn rest(&mut self, rt: &impl Abort, block: RestingBlock) {
-        assert_eq!(rt; self.book.get(block.number), None);
-        assert_eq!(rt; self.book.rest(block), Ok(()));
-        self.plain.push(block).expect(rt, "memory");
+    // What the book answers to a block whose number is free.
+    fn answer(&mut self, rt: &impl Abort, block: RestingBlock) -> Result<(), Full> {
+        assert!(rt; self.book.get(block.number).is_none());
+        self.book.rest(block)
     }
 
-    // A block whose number is free finds the book full.
-    fn expect_full(&mut self, rt: &impl Abort, block: RestingBlock) {
-        assert_eq!(rt; self.book.get(block.number), None);
-        assert_eq!(rt; self.book.rest(block), Err(Full));
+    // Rests a block whose number is free.
+    fn rest(&mut self, rt: &impl Abort, block: RestingBlock) {
+        assert_eq!(rt; self.answer(rt, block), Ok(()));
+        self.plain.push(block).expect(rt, "memory");
     }
 
     // Withdraws a block.
@@ -134,13 +133,18 @@ impl Both {
         assert_eq!(rt; walked, self.plain.len());
     }
 
+    // Book and list have the same block of a number.
+    fn expect_number(&self, rt: &impl Abort, number: u32) {
+        let wanted = listed(self.plain.as_slice(), number);
+        assert_eq!(rt; self.book.get(number), wanted, "{number}");
+    }
+
     // Book and list have the same blocks, in all lines and by these numbers.
     fn expect_same(&mut self, rt: &impl Abort, numbers: u32) {
         self.expect_periods(rt);
         self.expect_quantities(rt);
         for number in 0..numbers {
-            let wanted = listed(self.plain.as_slice(), number);
-            assert_eq!(rt; self.book.get(number), wanted, "{number}");
+            self.expect_number(rt, number);
         }
     }
 }
@@ -207,28 +211,34 @@ fn call(rt: &impl Abort, both: &mut Both, draws: &mut Draws) {
 }
 
 // Makes drawn calls of an empty book, and looks at it after each.
-fn make_calls(rt: &impl Abort, alloc: Global, seed: u64, calls: u32) {
-    let mut draws = Draws::new(seed);
-    let mut both = Both::new(rt, alloc);
+fn make_calls(rt: &impl Abort, both: &mut Both, seed: u64, calls: u32) {
     assert!(rt; both.book.is_empty());
+    let mut draws = Draws::new(seed);
     for _ in 0..calls {
-        call(rt, &mut both, &mut draws);
+        call(rt, both, &mut draws);
         both.expect_same(rt, NUMBERS);
     }
+}
+
+// Makes drawn calls of a new book.
+fn draw_calls(rt: &impl Abort, alloc: Global, seed: u64, calls: u32) {
+    let mut both = Both::new(rt, alloc);
+    make_calls(rt, &mut both, seed, calls);
 }
 
 #[test]
 fn generated_calls_against_a_plain_list(rt: HostRuntime) {
     for (seed, calls) in [(1, 400), (20260, 400), (3333333333, 400)] {
-        make_calls(&rt, rt.alloc(), seed, calls);
+        draw_calls(&rt, rt.alloc(), seed, calls);
     }
 }
 
-// Rests 4096 blocks, some of one price and moment.
+// Rests 4096 blocks, some of one price and moment: the book is then full.
 fn fill_up(rt: &impl Abort, both: &mut Both) {
     for number in 0..4096u32 {
         both.rest(rt, block(number, number / 2));
     }
+    assert_eq!(rt; both.answer(rt, block(5000, 0)), Err(Full));
 }
 
 // A copy is changed, and the book stays as it was.
@@ -245,7 +255,6 @@ fn expect_copy_apart(rt: &impl Abort, both: &mut Both) {
 fn a_copy_of_a_full_book_with_holes_shares_nothing(rt: HostRuntime) {
     let mut both = Both::new(&rt, rt.alloc());
     fill_up(&rt, &mut both);
-    both.expect_full(&rt, block(5000, 0));
     both.expect_same(&rt, 5002);
     both.withdraw(&rt, 77);
     both.withdraw(&rt, 2000);

@@ -38,23 +38,22 @@ impl Both {
         Both { book, plain }
     }
 
+    // What the book answers to an order whose number is free.
+    fn answer(&mut self, rt: &impl Abort, part: u32, order: Resting) -> Result<(), Full>
+        requires part { part < 2 }
+        requires sound { IsSound order }
+    {
+        assert!(rt; self.book.get(order.number).is_none());
+        self.book.rest(part, order)
+    }
+
     // Rests an order whose number is free.
     fn rest(&mut self, rt: &impl Abort, part: u32, order: Resting)
         requires part { part < 2 }
         requires sound { IsSound order }
     {
-        assert_eq!(rt; self.book.get(order.number), None);
-        assert_eq!(rt; self.book.rest(part, order), Ok(()));
+        assert_eq!(rt; self.answer(rt, part, order), Ok(()));
         self.plain.push((part, order)).expect(rt, "memory");
-    }
-
-    // An order whose number is free finds the book full.
-    fn expect_full(&mut self, rt: &impl Abort, part: u32, order: Resting)
-        requires part { part < 2 }
-        requires sound { IsSound order }
-    {
-        assert_eq!(rt; self.book.get(order.number), None);
-        assert_eq!(rt; self.book.rest(part, order), Err(Full));
     }
 
     // Withdraws an order.
@@ -136,12 +135,17 @@ impl Both {
         assert_eq!(rt; self.book.len() as usize, self.plain.len());
     }
 
+    // Book and list have the same order of a number.
+    fn expect_number(&self, rt: &impl Abort, number: u32) {
+        let wanted = listed(self.plain.as_slice(), number);
+        assert_eq!(rt; self.book.get(number), wanted, "{number}");
+    }
+
     // Book and list have the same orders, in all lines and by these numbers.
     fn expect_same(&mut self, rt: &impl Abort, numbers: u32) {
         self.expect_lines(rt);
         for number in 0..numbers {
-            let wanted = listed(self.plain.as_slice(), number);
-            assert_eq!(rt; self.book.get(number), wanted, "{number}");
+            self.expect_number(rt, number);
         }
     }
 }
@@ -220,24 +224,29 @@ fn call(rt: &impl Abort, both: &mut Both, draws: &mut Draws) {
 const NUMBERS: u32 = 60;
 
 // Makes drawn calls of an empty book, and looks at it after each.
-fn make_calls(rt: &impl Abort, alloc: Global, seed: u64, calls: u32) {
-    let mut draws = Draws::new(seed);
-    let mut both = Both::new(rt, alloc);
+fn make_calls(rt: &impl Abort, both: &mut Both, seed: u64, calls: u32) {
     assert!(rt; both.book.is_empty());
+    let mut draws = Draws::new(seed);
     for _ in 0..calls {
-        call(rt, &mut both, &mut draws);
+        call(rt, both, &mut draws);
         both.expect_same(rt, NUMBERS);
     }
+}
+
+// Makes drawn calls of a new book.
+fn draw_calls(rt: &impl Abort, alloc: Global, seed: u64, calls: u32) {
+    let mut both = Both::new(rt, alloc);
+    make_calls(rt, &mut both, seed, calls);
 }
 
 #[test]
 fn generated_calls_against_a_plain_list(rt: HostRuntime) {
     for (seed, calls) in [(1, 600), (20260, 600), (3333333333, 600)] {
-        make_calls(&rt, rt.alloc(), seed, calls);
+        draw_calls(&rt, rt.alloc(), seed, calls);
     }
 }
 
-// Rests 4096 orders, some of one price and moment.
+// Rests 4096 orders, some of one price and moment: the book is then full.
 fn fill_up(rt: &impl Abort, both: &mut Both) {
     for number in 0..4096u32 {
         let side = if number % 3 == 0 {
@@ -248,6 +257,8 @@ fn fill_up(rt: &impl Abort, both: &mut Both) {
         let order = plain(number, side, 40, 5, u64::from(number / 2));
         both.rest(rt, number % 2, order);
     }
+    let answer = both.answer(rt, 1, plain(5000, Side::Buy, 41, 2, 5000));
+    assert_eq!(rt; answer, Err(Full));
 }
 
 // A copy is changed, and the book stays as it was.
@@ -265,7 +276,6 @@ fn expect_copy_apart(rt: &impl Abort, both: &mut Both) {
 fn a_copy_of_a_full_book_with_holes_shares_nothing(rt: HostRuntime) {
     let mut both = Both::new(&rt, rt.alloc());
     fill_up(&rt, &mut both);
-    both.expect_full(&rt, 1, plain(5000, Side::Buy, 41, 2, 5000));
     both.expect_same(&rt, 5002);
     both.withdraw(&rt, 77);
     both.withdraw(&rt, 2000);

@@ -6,10 +6,9 @@ ghost use Rattle.std.specs.Io.KnownBytes.{Appends, Consumes, IsAtEnd};
 ghost use Rattle.outside.specs.Faults.{Rose};
 
 use outside::{
-    BytesSink, BytesSource, Failed, NoMemory, NullSink, ReadSource, Sink, Source, SteadySource,
-    WriteSink,
+    BytesSink, BytesSource, Failed, NullSink, ReadSource, Sink, Source, SteadySource, WriteSink,
 };
-use std::alloc::{AllocError, Global};
+use std::alloc::Global;
 use std::io;
 use std::io::{ErrorKind, Read, Write};
 use std::process::Abort;
@@ -18,23 +17,11 @@ use std::process::Abort;
 #[derive(Clone, Copy, Debug, PartialEq, Eq)]
 enum Stop {
     Failed,
-    NoMemory,
     TooLong,
 }
 
-impl From<AllocError> for Stop {
-    ghost use Rattle.std.specs.Prelude.{◌≡◌};
-    ghost use Rattle.worked_stores.specs.declared.end_tests.Stop.TheVariants.{NoMemory};
-
-    ghost from_gives = { λ _ stop. stop ≡ NoMemory };
-
-    fn from(_error: AllocError) -> Stop {
-        Stop::NoMemory
-    }
-}
-
 // Reads to the end of the input, at most 20 times, and gives what came.
-fn read_on<S: Source>(source: &mut S, bytes: &mut Vec<u8>) -> Result<(), Stop>
+fn read_on<S: Source>(rt: &impl Abort, source: &mut S, bytes: &mut Vec<u8>) -> Result<(), Stop>
     ensures consumed { IfOk result (λ _. (more : List ℕ) × (bytes.new.items ≡ bytes.old.items ++ more)
         × Consumes (S.left source.old) (S.left source.new) more) }
     ensures end { OnOk result (IsAtEnd (S.left source.new)) }
@@ -49,7 +36,9 @@ fn read_on<S: Source>(source: &mut S, bytes: &mut Vec<u8>) -> Result<(), Stop>
         if count == 0 {
             return Ok(());
         }
-        bytes.extend_from_slice(&buffer[..count])?;
+        bytes
+            .extend_from_slice(&buffer[..count])
+            .expect(rt, "memory");
     }
     Err(Stop::TooLong)
 }
@@ -118,7 +107,7 @@ fn assert_reads<S: Source>(
     want: &[u8],
 ) {
     let mut bytes = Vec::new(alloc);
-    assert_eq!(rt; read_on(source, &mut bytes), ends);
+    assert_eq!(rt; read_on(rt, source, &mut bytes), ends);
     assert_eq!(rt; bytes.as_slice(), want);
 }
 
@@ -145,15 +134,24 @@ fn readers_are_sources(rt: HostRuntime) {
     assert_reads(&rt, rt.alloc(), &mut stumbling, Ok(()), b"efgh");
 }
 
+// Asserts whether a sink takes a piece whole, and which bytes it then has.
+fn assert_takes(
+    rt: &impl Abort,
+    sink: &mut BytesSink,
+    piece: &[u8],
+    ends: Result<(), Failed>,
+    want: &[u8],
+) {
+    assert_eq!(rt; write_whole(sink, piece), ends);
+    assert_eq!(rt; sink.bytes(), want);
+}
+
 #[test]
 fn sinks_take_their_bytes(rt: HostRuntime) {
     let mut pieces = BytesSink::new(rt.alloc(), 3, &[2, 5]).expect(&rt, "memory");
-    assert_eq!(rt; write_whole(&mut pieces, b"abcdef"), Err(Failed));
-    assert_eq!(rt; pieces.bytes(), b"abc".as_slice());
-    assert_eq!(rt; write_whole(&mut pieces, b"defgh"), Ok(()));
-    assert_eq!(rt; pieces.bytes(), b"abcdefgh".as_slice());
-    assert_eq!(rt; write_whole(&mut pieces, b"i"), Err(Failed));
-    assert_eq!(rt; pieces.bytes(), b"abcdefgh".as_slice());
+    assert_takes(&rt, &mut pieces, b"abcdef", Err(Failed), b"abc");
+    assert_takes(&rt, &mut pieces, b"defgh", Ok(()), b"abcdefgh");
+    assert_takes(&rt, &mut pieces, b"i", Err(Failed), b"abcdefgh");
 
     assert_eq!(rt; write_whole(&mut NullSink::new(), b"abcdefgh"), Ok(()));
 }

@@ -2,7 +2,6 @@
 
 use std::alloc::Global;
 use std::process::Abort;
-use std::test::Fail;
 use undo_log::{NoMemory, UndoLog};
 
 #[derive(Clone, Copy, Debug)]
@@ -42,31 +41,41 @@ fn make_all(rt: &impl Abort, log: &mut UndoLog<u32>, rows: &[(Step, usize)]) {
     }
 }
 
-#[test]
-fn each_call_answers(rt: HostRuntime) -> Result<(), Fail> {
-    let mut log = UndoLog::new(rt.alloc())?;
-    assert!(rt; log.is_empty());
+// An empty log takes two changes where room for them is reserved.
+fn expect_two_noted(rt: &impl Abort, log: &mut UndoLog<u32>) {
     assert_eq!(rt; log.spare(), 0);
-
-    assert_eq!(rt; log.reserve(2), Ok(()));
-    assert!(rt; 2 <= log.spare());
-    note(&rt, &mut log, 7u32);
-    note(&rt, &mut log, 8);
+    make(rt, log, Step::Reserve(2));
+    make(rt, log, Step::Note(7));
+    make(rt, log, Step::Note(8));
     assert_eq!(rt; log.len(), 2);
     assert!(rt; !log.is_empty());
+}
 
-    // no memory is that large: the log stays as it was
+// No memory is so large that a log could reserve all: it stays as it was.
+fn expect_no_memory(rt: &impl Abort, log: &mut UndoLog<u32>) {
     let room = log.spare();
     assert_eq!(rt; log.reserve(usize::MAX), Err(NoMemory));
     assert_eq!(rt; log.spare(), room);
+}
 
-    assert_eq!(rt; log.back(), Some(8));
-    assert_eq!(rt; log.spare(), room + 1);
+// A log of two changes has their room once they are gone.
+fn expect_room_back(rt: &impl Abort, log: &mut UndoLog<u32>) {
+    let room = log.spare();
+    make(rt, log, Step::Back(Some(8)));
+    assert_eq!(rt; log.spare().checked_sub(room), Some(1));
     log.clear();
     assert!(rt; log.is_empty());
-    assert_eq!(rt; log.spare(), room + 2);
-    assert_eq!(rt; log.back(), None);
-    Ok(())
+    assert_eq!(rt; log.spare().checked_sub(room), Some(2));
+    make(rt, log, Step::Back(None));
+}
+
+#[test]
+fn each_call_answers(rt: HostRuntime) {
+    let mut log = UndoLog::new(rt.alloc()).expect(&rt, "memory");
+    assert!(rt; log.is_empty());
+    expect_two_noted(&rt, &mut log);
+    expect_no_memory(&rt, &mut log);
+    expect_room_back(&rt, &mut log);
 }
 
 fn bytes(rt: &impl Abort, alloc: Global, byte: u8) -> Vec<u8> {
@@ -77,9 +86,11 @@ fn bytes(rt: &impl Abort, alloc: Global, byte: u8) -> Vec<u8> {
 
 // Notes two bytes of each value below 200.
 fn note_all(rt: &impl Abort, alloc: Global, log: &mut UndoLog<Vec<u8>>) {
+    assert_eq!(rt; log.reserve(200), Ok(()));
     for byte in 0..200u8 {
         note(rt, log, bytes(rt, alloc, byte));
     }
+    assert_eq!(rt; log.len(), 200);
 }
 
 // Takes back those of the last hundred values.
@@ -87,22 +98,19 @@ fn expect_last_back(rt: &impl Abort, alloc: Global, log: &mut UndoLog<Vec<u8>>) 
     for byte in (100..200u8).rev() {
         assert_eq!(rt; log.back(), Some(bytes(rt, alloc, byte)));
     }
+    assert_eq!(rt; log.len(), 100);
 }
 
 #[test]
-fn records_come_back_in_the_opposite_order(rt: HostRuntime) -> Result<(), Fail> {
-    let mut log = UndoLog::new(rt.alloc())?;
-    assert_eq!(rt; log.reserve(200), Ok(()));
+fn records_come_back_in_the_opposite_order(rt: HostRuntime) {
+    let mut log = UndoLog::new(rt.alloc()).expect(&rt, "memory");
     note_all(&rt, rt.alloc(), &mut log);
-    assert_eq!(rt; log.len(), 200);
     expect_last_back(&rt, rt.alloc(), &mut log);
-    assert_eq!(rt; log.len(), 100);
     log.clear();
     assert_eq!(rt; log.back(), None);
 
     // what a log holds goes with it
     note(&rt, &mut log, bytes(&rt, rt.alloc(), 1));
-    Ok(())
 }
 
 const ROWS: [(Step, usize); 22] = [
@@ -131,8 +139,7 @@ const ROWS: [(Step, usize); 22] = [
 ];
 
 #[test]
-fn a_row_of_steps(rt: HostRuntime) -> Result<(), Fail> {
-    let mut log = UndoLog::new(rt.alloc())?;
+fn a_row_of_steps(rt: HostRuntime) {
+    let mut log = UndoLog::new(rt.alloc()).expect(&rt, "memory");
     make_all(&rt, &mut log, ROWS.as_slice());
-    Ok(())
 }
