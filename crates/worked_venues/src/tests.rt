@@ -30,7 +30,10 @@ fn a_caller_has_its_room_and_no_more(rt: HostRuntime) -> Result<(), Fail> {
     let receipt = party.submit(&rt, alloc, 0, enter(12, 0, Side::Sell, 10, 4000))?;
     assert_eq!(rt; receipt.place, 1);
     let rests = Want::Done { events: 1, lots: 0 };
-    assert!(rt; rests.is_met(&receipt.reply), "the order rests");
+    assert!(rt;
+        rests.is_met(&receipt.reply),
+        "{receipt:?}, and not {rests:?}"
+    );
     assert_eq!(rt; party.front(&rt, 0), 1);
     let again = party.submit(&rt, alloc, 0, enter(12, 0, Side::Sell, 10, 4000));
     assert_eq!(rt; again.err(), Some(SubmitFault::JournalFull { entries: 1 }));

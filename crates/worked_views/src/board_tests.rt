@@ -3,8 +3,9 @@
 ghost use Rattle.std.specs.Prelude.{◌≡◌, ◌<◌, ◌&&◌, true, nat_lt};
 ghost use Rattle.std.specs.List.{list_all};
 
-use market_model::{Arc, Event, Kind, Leg, Lots, Part, Price, Side};
+use market_model::{Arc, Event, Kind, Leg, Lots, Part, Side};
 use std::alloc::Global;
+use std::process::Abort;
 use std::test::Fail;
 use worked_boards::{Draws, HOUR, SmallMarket, Step, limit, order};
 
@@ -16,40 +17,45 @@ const TWO_ZONES: [(u32, u32); 1] = [(0, 1)];
 // A leg: its taker and maker, its lots and price, and its route.
 type Row<'a> = (u32, u32, u32, i32, &'a [Arc]);
 
-// Whether a session has these legs, and the plain market makes the same.
-fn plays(
+// A session has these legs, and the plain market makes the same.
+fn check_session<R: Abort>(
+    rt: &R,
     alloc: Global,
     zones: u8,
     pairs: &[(u32, u32)],
     steps: &[Step],
     legs: &[Row],
-) -> Result<bool, Fail>
+) -> Result<(), Fail>
     requires { list_all (λ ends. nat_lt ends.0 zones && nat_lt ends.1 zones) pairs.now ≡ true }
 {
     let mut market = SmallMarket::new(alloc, zones, pairs, HOUR)?;
-    Ok(market.play_all(steps)? && has_legs(market.events(), legs))
+    let is_alike = market.play_all(steps)?;
+    assert!(rt; is_alike, "the plain market makes something else of a step");
+    check_legs(rt, market.events(), legs);
+    Ok(())
 }
 
-// Whether the legs among some events are these.
-fn has_legs(events: &[Event], rows: &[Row]) -> bool {
+// The legs among some events are these.
+fn check_legs<R: Abort>(rt: &R, events: &[Event], rows: &[Row]) {
     let mut wanted = rows.iter();
     for event in events {
         if let Event::Leg { leg, .. } = event {
-            match wanted.next() {
-                Some(row) if is_row(leg, row) => {}
-                _ => return false,
-            }
+            check_leg(rt, leg, wanted.next());
         }
     }
-    wanted.next().is_none()
+    assert_eq!(rt; wanted.next(), None, "a leg that is wanting");
 }
 
-fn is_row(leg: &Leg, row: &Row) -> bool {
-    leg.taker.number == row.0
-        && leg.maker.number == row.1
-        && leg.lots == row.2
-        && leg.price == Price(row.3)
-        && leg.route.as_slice() == row.4
+// A leg is the one that is wanted.
+fn check_leg<R: Abort>(rt: &R, leg: &Leg, wanted: Option<&Row>) {
+    let row = (
+        leg.taker.number,
+        leg.maker.number,
+        leg.lots,
+        leg.price.0,
+        leg.route.as_slice(),
+    );
+    assert_eq!(rt; Some(&row), wanted);
 }
 
 #[test]
@@ -65,8 +71,7 @@ fn a_taking_goes_over_two_routes(rt: HostRuntime) -> Result<(), Fail> {
     let first = [Arc::over(0, true), Arc::over(2, true)];
     let second = [Arc::over(1, true), Arc::over(3, true)];
     let legs: [Row; 2] = [(2, 1, 60, 4000, &first), (2, 1, 40, 4000, &second)];
-    assert!(rt; plays(rt.alloc(), 4, &DIAMOND, &steps, &legs)?);
-    Ok(())
+    check_session(&rt, rt.alloc(), 4, &DIAMOND, &steps, &legs)
 }
 
 #[test]
@@ -86,8 +91,7 @@ fn an_iceberg_shows_its_peaks_in_turn(rt: HostRuntime) -> Result<(), Fail> {
         (2, 1, 30, 5010, &[]),
         (2, 1, 20, 5020, &[]),
     ];
-    assert!(rt; plays(rt.alloc(), 2, &TWO_ZONES, &steps, &legs)?);
-    Ok(())
+    check_session(&rt, rt.alloc(), 2, &TWO_ZONES, &steps, &legs)
 }
 
 #[test]
@@ -104,8 +108,7 @@ fn a_leg_that_nets_lets_a_sweep_trade(rt: HostRuntime) -> Result<(), Fail> {
     let there = [Arc::over(0, true)];
     let back = [Arc::over(0, false)];
     let legs: [Row; 2] = [(4, 3, 25, 4000, &there), (2, 1, 20, 3000, &back)];
-    assert!(rt; plays(rt.alloc(), 2, &TWO_ZONES, &steps, &legs)?);
-    Ok(())
+    check_session(&rt, rt.alloc(), 2, &TWO_ZONES, &steps, &legs)
 }
 
 #[test]
@@ -127,8 +130,7 @@ fn a_sweep_tries_halves_before_quarters(rt: HostRuntime) -> Result<(), Fail> {
         (4, 3, 30, 4300, &there),
         (2, 1, 20, 4000, &there),
     ];
-    assert!(rt; plays(rt.alloc(), 2, &TWO_ZONES, &steps, &legs)?);
-    Ok(())
+    check_session(&rt, rt.alloc(), 2, &TWO_ZONES, &steps, &legs)
 }
 
 // How many legs there are among some events.
@@ -139,22 +141,23 @@ fn legs_in(events: &[Event]) -> usize {
         .count()
 }
 
-// Whether the plain market makes the same of so many drawn steps, among them more than five legs.
-fn drawn_alike(alloc: Global, seed: u64, steps: u32) -> Result<bool, Fail> {
+// The plain market makes the same of so many drawn steps, among them more than five legs.
+fn check_drawn<R: Abort>(rt: &R, alloc: Global, seed: u64, steps: u32) -> Result<(), Fail> {
     let mut draws = Draws::new(seed);
     let mut market = SmallMarket::new(alloc, 4, &DIAMOND, HOUR)?;
-    for _ in 0..steps {
-        if !market.play_drawn(&draws.step())? {
-            return Ok(false);
-        }
+    for step in 0..steps {
+        let is_alike = market.play_drawn(&draws.step())?;
+        assert!(rt; is_alike, "seed {seed}, step {step}");
     }
-    Ok(5 < legs_in(market.events()))
+    let legs = legs_in(market.events());
+    assert!(rt; 5 < legs, "seed {seed} has {legs} legs");
+    Ok(())
 }
 
 #[test]
 fn drawn_boards_are_matched_as_by_the_plain_market(rt: HostRuntime) -> Result<(), Fail> {
     for seed in 1..4u64 {
-        assert!(rt; drawn_alike(rt.alloc(), seed, 50)?, "seed {seed}");
+        check_drawn(&rt, rt.alloc(), seed, 50)?;
     }
     Ok(())
 }

@@ -1,37 +1,44 @@
 //! The local views of drawn boards beside those of the plain market.
 
 use crate::grids::{DIAMOND, TWELVE_ZONES};
-use crate::showing::shows;
+use crate::showing::{Unlike, first_unlike};
 use market_model::{NoMemory, Order, Part, Side};
 use std::alloc::Global;
 use std::test::Fail;
 use worked_boards::{Draws, HOUR, PARTS, Refused, SmallMarket, order};
 
-/// Whether after so many drawn steps the views of all parts are those of the plain market.
-pub(crate) fn drawn_alike(alloc: Global, seed: u64, steps: u32) -> Result<bool, Fail> {
+/// What the plain market makes of so many drawn steps, or shows after them in all parts, in another way.
+pub(crate) fn unlike_drawn(alloc: Global, seed: u64, steps: u32) -> Result<Option<Unlike>, Fail> {
     let mut draws = Draws::new(seed);
     let mut market = SmallMarket::new(alloc, 4, &DIAMOND, HOUR)?;
-    Ok(plays_alike(alloc, &mut market, &mut draws, steps)?)
+    Ok(unlike_on(alloc, &mut market, &mut draws, steps)?)
 }
 
 // The same, of a market.
-fn plays_alike(
+fn unlike_on(
     alloc: Global,
     market: &mut SmallMarket,
     draws: &mut Draws,
     steps: u32,
-) -> Result<bool, Refused> {
-    Ok(play_steps(market, draws, steps)? && shows(alloc, market, PARTS)?)
+) -> Result<Option<Unlike>, Refused> {
+    match unlike_step(market, draws, steps)? {
+        Some(step) => Ok(Some(Unlike::Step(step))),
+        None => first_unlike(alloc, market, PARTS),
+    }
 }
 
-// Makes so many drawn steps, and answers whether the plain market makes the same of them.
-fn play_steps(market: &mut SmallMarket, draws: &mut Draws, steps: u32) -> Result<bool, NoMemory> {
-    for _ in 0..steps {
+// Makes so many drawn steps, up to the first of which the plain market makes something else.
+fn unlike_step(
+    market: &mut SmallMarket,
+    draws: &mut Draws,
+    steps: u32,
+) -> Result<Option<u32>, NoMemory> {
+    for step in 0..steps {
         if !market.play_drawn(&draws.step())? {
-            return Ok(false);
+            return Ok(Some(step));
         }
     }
-    Ok(true)
+    Ok(None)
 }
 
 // Offers a few lots on each arc.
@@ -80,22 +87,21 @@ fn rest_drawn(
     market.rest_all(0, orders.as_slice())
 }
 
-/// Whether the views of the whole hour with so many orders in twelve zones are those of the plain market.
-pub(crate) fn many_alike(alloc: Global, seed: u64, count: u32) -> Result<bool, Fail> {
+/// What the plain market shows of the whole hour in another way, with so many orders in twelve zones.
+pub(crate) fn unlike_of_many(alloc: Global, seed: u64, count: u32) -> Result<Option<Unlike>, Fail> {
     let mut draws = Draws::new(seed);
     let mut market = SmallMarket::new(alloc, 12, &TWELVE_ZONES, HOUR)?;
-    Ok(rests_alike(alloc, &mut market, &mut draws, count)?)
+    Ok(unlike_rested(alloc, &mut market, &mut draws, count)?)
 }
 
-// Whether after drawn offers and so many drawn orders the views of the whole hour are those of the plain
-// market.
-fn rests_alike(
+// The same, after drawn offers and so many drawn orders.
+fn unlike_rested(
     alloc: Global,
     market: &mut SmallMarket,
     draws: &mut Draws,
     count: u32,
-) -> Result<bool, Refused> {
+) -> Result<Option<Unlike>, Refused> {
     offer_drawn(market, draws)?;
     rest_drawn(alloc, market, draws, count)?;
-    shows(alloc, market, 1)
+    first_unlike(alloc, market, 1)
 }

@@ -12,7 +12,7 @@ use sweep_core::PartSet;
 use worked_boards::{Draws, HOUR, Refused, SmallMarket, Step, order};
 
 /// What a sweep of the parts that cross makes.
-#[derive(Clone, Copy)]
+#[derive(Clone, Copy, Debug, PartialEq, Eq)]
 pub(crate) enum Swept {
     /// Something else than the plain market's sweep.
     Otherwise,

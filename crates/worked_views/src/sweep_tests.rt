@@ -19,7 +19,7 @@ fn a_sweep_of_the_opened_quarter_is_that_of_all(rt: HostRuntime) -> Result<(), F
         Step::OfferIn(2, 0, 1, 25),
     ];
     let swept = swept_after(rt.alloc(), &steps)?;
-    assert!(rt; matches!(swept, Swept::OfFew(2)));
+    assert_eq!(rt; swept, Swept::OfFew(2));
     Ok(())
 }
 

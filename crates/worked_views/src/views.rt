@@ -8,7 +8,7 @@ use local_view::LocalViews;
 use market_model::{Side, ViewRow};
 use std::alloc::Global;
 use worked_boards::{PARTS, Refused, SmallBoard};
-use zone_graph::Grid;
+use zone_graph::{Grid, NoMemory};
 
 /// A row of the whole hour: its side and zone, its price in cents per MWh, and its lots.
 pub(crate) type Row = (Side, u32, i32, u32);
@@ -90,42 +90,44 @@ pub(crate) fn are_same(grid: &Grid, one: &LocalViews, other: &LocalViews) -> boo
     true
 }
 
-/// Whether the kept rows of the whole hour are these: those of the buys of each zone, then of the sells.
-pub(crate) fn has_rows(grid: &Grid, views: &LocalViews, rows: &[Row]) -> bool
+/// The kept rows of the whole hour: those of the buys of each zone, then of the sells.
+///
+/// # Errors
+///
+/// [`NoMemory`], where there is no memory for the rows.
+pub(crate) fn rows_of(alloc: Global, grid: &Grid, views: &LocalViews) -> Result<Vec<Row>, NoMemory>
     requires { AreViewsOver grid.now views.now }
 {
-    match after_side(grid, views, Side::Buy, rows) {
-        Some(sells) => match after_side(grid, views, Side::Sell, sells) {
-            Some(rest) => rest.is_empty(),
-            None => false,
-        },
-        None => false,
-    }
+    let mut rows = Vec::new(alloc);
+    append_side(grid, views, Side::Buy, &mut rows)?;
+    append_side(grid, views, Side::Sell, &mut rows)?;
+    Ok(rows)
 }
 
-// What comes behind the kept rows of a side of the whole hour, where some rows begin with them.
-fn after_side<'a>(grid: &Grid, views: &LocalViews, side: Side, rows: &'a [Row]) -> Option<&'a [Row]>
+// Puts the kept rows of a side of the whole hour at the end.
+fn append_side(
+    grid: &Grid,
+    views: &LocalViews,
+    side: Side,
+    rows: &mut Vec<Row>,
+) -> Result<(), NoMemory>
     requires { AreViewsOver grid.now views.now }
 {
-    let mut rest = rows;
     for zone in 0..grid.zones() {
-        rest = after_list(views.rows(0, side, zone), side, zone, rest)?;
+        append_list(views.rows(0, side, zone), side, zone, rows)?;
     }
-    Some(rest)
+    Ok(())
 }
 
-// What comes behind a list of rows of a side and zone, where some rows begin with it.
-fn after_list<'a>(list: &[ViewRow], side: Side, zone: u32, rows: &'a [Row]) -> Option<&'a [Row]> {
-    let mut rest = rows;
+// Puts the rows of a side and zone at the end.
+fn append_list(
+    list: &[ViewRow],
+    side: Side,
+    zone: u32,
+    rows: &mut Vec<Row>,
+) -> Result<(), NoMemory> {
     for row in list {
-        match rest {
-            [first, tail @ ..] if is_row(first, row, side, zone) => rest = tail,
-            _ => return None,
-        }
+        rows.push((side, zone, row.price.0, row.lots))?;
     }
-    Some(rest)
-}
-
-fn is_row(wanted: &Row, row: &ViewRow, side: Side, zone: u32) -> bool {
-    wanted.0 == side && wanted.1 == zone && wanted.2 == row.price.0 && wanted.3 == row.lots
+    Ok(())
 }
