@@ -91,42 +91,63 @@ fn expect_deal(
         .map(|deal| (deal.taker, deal.maker, deal.price.0));
     assert_eq!(rt; terms, want, "{case}");
     if let Some(deal) = found {
-        assert_eq!(rt; deal.legs, both_sides(rt), "{case}");
+        expect_legs(rt, &deal.legs, &both_sides(rt), case);
+    }
+}
+
+// The legs of a deal are those that are wanted.
+fn expect_legs(rt: &impl Abort, legs: &Legs, wanted: &Legs, case: &str) {
+    assert_eq!(rt; legs, wanted, "{case}");
+}
+
+// The deal of a block of so many lots at a price, with those of a book, is the one that is wanted.
+fn expect_deal_of_block(
+    rt: &(impl Abort + AllocGlobal),
+    case: &str,
+    blocks: &[RestingBlock],
+    (quantity, cents): (u32, i32),
+    want: Option<(u32, u32, i32)>,
+) {
+    let own = block(3, 3, Side::Buy, cents, quantity);
+    match deal_of_block(rt.alloc(), blocks, &own) {
+        Ok(found) => expect_deal(rt, &found, want, case),
+        Err(_) => rt.panic("no book was made"),
     }
 }
 
 #[test]
-fn a_block_trades_wholly_over_two_routes_or_not_at_all(rt: HostRuntime) -> Result<(), Fail> {
+fn a_block_trades_wholly_over_two_routes_or_not_at_all(rt: HostRuntime) {
     let ten = block(1, 0, Side::Sell, 4000, 10);
     let eleven = block(2, 0, Side::Sell, 4000, 11);
+    let both = [ten, eleven];
+    expect_deal_of_block(&rt, "higher", &both, (10, 5000), Some((3, 1, 4000)));
+    expect_deal_of_block(&rt, "equal", &both, (10, 4000), Some((3, 1, 4000)));
+    expect_deal_of_block(&rt, "lower", &both, (10, 3999), None);
+    expect_deal_of_block(&rt, "too many", &both, (11, 5000), None);
     // There is no room for all of it from its zone.
     let near = block(1, 1, Side::Sell, 3000, 10);
     let far = block(2, 0, Side::Sell, 4000, 10);
-    for (case, blocks, quantity, cents, want) in [
-        ("higher", [ten, eleven], 10, 5000, Some((3, 1, 4000))),
-        ("equal", [ten, eleven], 10, 4000, Some((3, 1, 4000))),
-        ("lower", [ten, eleven], 10, 3999, None),
-        ("too many", [ten, eleven], 11, 5000, None),
-        ("near", [near, far], 10, 5000, Some((3, 2, 4000))),
-    ] {
-        let own = block(3, 3, Side::Buy, cents, quantity);
-        let found = deal_of_block(rt.alloc(), &blocks, &own)?;
-        expect_deal(&rt, &found, want, case);
+    expect_deal_of_block(&rt, "near", &[near, far], (10, 5000), Some((3, 2, 4000)));
+}
+
+// The next deal of the period of a book is the one that is wanted.
+fn expect_deal_of_period(
+    rt: &(impl Abort + AllocGlobal),
+    case: &str,
+    blocks: &[RestingBlock],
+    want: Option<(u32, u32, i32)>,
+) {
+    match deal_of_period(rt.alloc(), blocks) {
+        Ok(found) => expect_deal(rt, &found, want, case),
+        Err(_) => rt.panic("no book was made"),
     }
-    Ok(())
 }
 
 #[test]
-fn of_two_resting_blocks_the_earlier_is_the_maker(rt: HostRuntime) -> Result<(), Fail> {
+fn of_two_resting_blocks_the_earlier_is_the_maker(rt: HostRuntime) {
     let alone = block(1, 3, Side::Buy, 6000, 7);
     let buy = block(2, 3, Side::Buy, 5000, 10);
     let sell = block(3, 0, Side::Sell, 4000, 10);
-    for (case, blocks, want) in [
-        ("three", [alone, buy, sell].as_slice(), Some((3, 2, 5000))),
-        ("two", &[alone, sell], None),
-    ] {
-        let found = deal_of_period(rt.alloc(), blocks)?;
-        expect_deal(&rt, &found, want, case);
-    }
-    Ok(())
+    expect_deal_of_period(&rt, "three", &[alone, buy, sell], Some((3, 2, 5000)));
+    expect_deal_of_period(&rt, "two", &[alone, sell], None);
 }
