@@ -12,7 +12,7 @@ use zone_graph::NoMemory;
 const HOURS: usize = 26;
 
 // After how many events the list of an hour is copied anew.
-const GROWTH: usize = 1024;
+const GROWTH: usize = 128;
 
 /// A list without events for each hour.
 pub(crate) fn no_events(alloc: Global) -> Result<Vec<Events>, NoMemory>

@@ -4,3 +4,5 @@ pub mod Legal
 pub mod Hours
 pub mod Near
 pub mod RoomLemmas
+pub mod Growing
+pub mod HourLegs

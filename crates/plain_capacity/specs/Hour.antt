@@ -2,6 +2,7 @@
 -- from 1 to 4.
 use Rattle.std.specs.Prelude.{◌≡◌, ℕ, ◌<◌, ◌==◌, ◌&&◌, Bool, true, false, not, List, [], length, map, replicate, slice_index_or, ℤ, if◌then◌else◌}
 use Rattle.order_kinds.specs.declared.contract.Part.{Part}
+use Rattle.order_kinds.specs.declared.contract.Part.TheVariants as part
 use Rattle.order_kinds.specs.declared.phase.Phase.{Phase}
 use Rattle.order_kinds.specs.declared.phase.Phase.TheVariants as phase
 use Rattle.order_kinds.specs.Contract.{quarters}
@@ -11,6 +12,7 @@ use Rattle.zone_graph.specs.declared.route.Arc.{Arc}
 use Rattle.zone_graph.specs.Graph.{Graph, border_count}
 use Rattle.market_model.specs.declared.event.Event.{Event}
 use Rattle.market_model.specs.declared.event.Event.TheVariants as event
+use Rattle.market_model.specs.declared.event.Leg.{Leg}
 use Rattle.market_model.specs.declared.setup.Setup.{Setup}
 use Rattle.market_model.specs.Grid.{graph_of}
 use Rattle.market_model.specs.Room.{is_halted, is_open_phase, least, lots_of, phase_of}
@@ -97,6 +99,12 @@ is_of_orders (event.EnteredBlock name caller order) = true
 is_of_orders (event.Withdrawn name lots) = true
 is_of_orders (event.Reduced name by) = true
 is_of_orders _ = false
+
+-- an event is this leg, and counts in all quarters of an hour
+abbrev pub IsLegOfHour : (hour : ℕ) → Leg → Event → Type 0
+IsLegOfHour hour leg (event.Leg contract made) = (made ≡ leg) × (contract ≡ record { hour = hour; part = part.Hour })
+IsLegOfHour hour leg (event.BlockLeg first last made) = (made ≡ leg) × (is_within first last hour ≡ true)
+IsLegOfHour hour leg _ = ⊥
 
 -- the border that an event halts or resumes in an hour is there
 abbrev pub HasBorder : (size hour : ℕ) → Event → Type 0

@@ -6,7 +6,7 @@ use Rattle.quarter_capacity.specs.Capacity.{flow_of, remaining_of, most_offered}
 use Rattle.quarter_capacity.specs.Row.{Row, flow, nothing_offered, offered}
 use Rattle.zone_graph.specs.declared.route.Arc.{Arc}
 use Rattle.zone_graph.specs.Graph.{Graph, border_count}
-use Rattle.zone_graph.specs.Pour.{opposite_arc}
+use Rattle.zone_graph.specs.Pour.{lots_if, opposite_arc, uses}
 use Rattle.zone_graph.specs.Route.{AreDifferent, IsIn}
 use Rattle.market_model.specs.declared.event.Event.{Event}
 use Rattle.market_model.specs.declared.event.Event.TheVariants as event
@@ -77,3 +77,9 @@ pub record IsNoted (quarter : Quarter) (event : Event) (old new : List Row) : Ty
   pub size : length new ≡ length old
   pub offers : (arc : Arc) → offered_at new arc ≡ unwrap_or (market.offered_by quarter arc event) (offered_at old arc)
   pub flows : FlowsMore (λ arc. market.allocated_by quarter arc event) old new
+
+-- the rows after lots that a route carries
+pub record IsCarried (route : List Arc) (lots : ℕ) (old new : List Row) : Type 0 where
+  pub size : length new ≡ length old
+  pub offers : SameOffers old new
+  pub flows : FlowsMore (λ arc. lots_if (uses route arc) lots) old new

@@ -1,19 +1,20 @@
 //! The capacity of one hour.
 
-ghost use Rattle.std.specs.Prelude.{◌≡◌, ◌<◌, ◌≤◌, ◌==◌, true, false, [], IfOk, length, slice_index_or, unwrap_or, ℕ, if◌then◌else◌};
+ghost use Rattle.std.specs.Prelude.{◌≡◌, ◌<◌, ◌≤◌, ◌==◌, true, false, [], IfOk, IfSome, length, slice_index_or, take, unwrap_or, ℕ, if◌then◌else◌};
 ghost use Rattle.order_kinds.specs.Contract as contracts;
 ghost use Rattle.order_kinds.specs.Period as periods;
 ghost use Rattle.zone_graph.specs.declared.route.Arc.{Arc};
 ghost use Rattle.zone_graph.specs.Graph as graphs;
 ghost use Rattle.zone_graph.specs.Rooms as arcs;
+ghost use Rattle.event_history.specs.Near.{IsNear};
 ghost use Rattle.market_model.specs.Room.{halt_by as halt_said, is_open_phase, phase_by as phase_said};
-ghost use Rattle.plain_capacity.specs.Rows.{IsNoted, flow_at, row_at};
+ghost use Rattle.plain_capacity.specs.Rows.{CanCarry, IsCarried, IsNoted, flow_at, row_at};
 ghost use Rattle.plain_capacity.specs.Hour as hours;
 
 use crate::phases::{is_within, phase_by};
-use crate::quarter::{idle_rows, note};
+use crate::quarter::{carry_in_all, idle_rows, note};
 use event_history::History;
-use market_model::Event;
+use market_model::{Event, Leg};
 use order_kinds::{Part, Phase, Quarter};
 use quarter_capacity::QuarterRow;
 use std::alloc::Global;
@@ -75,8 +76,40 @@ impl HourCapacity {
         })
     }
 
-    // Lets an event of a legal history count.
+    // Lets an event of a legal history count. The route of a leg that counts in all quarters is gone along
+    // once for all of them.
     fn note(&mut self, hour: u32, event: &Event)
+        requires { hours.CanNoteIn hour event.now self.old }
+        ensures quarters { periods.EachQuarter (λ number. IsNoted (periods.quarter_of hour number) event.now (hours.rows_in self.old number) (hours.rows_in self.new number)) }
+        ensures size { hours.size_of self.new ≡ hours.size_of self.old }
+        ensures halts { (border : ℕ) → border < hours.size_of self.old → hours.halted_at self.new border ≡ unwrap_or (halt_said border hour event.now) (hours.halted_at self.old border) }
+        ensures phase { self.new.phase ≡ unwrap_or (phase_said hour event.now) self.old.phase }
+    {
+        match leg_of_hour(event, hour) {
+            Some(leg) => self.carry(leg.route.as_slice(), leg.lots),
+            None => self.note_quarters(hour, event),
+        }
+    }
+
+    // Carries so many lots over a route in each quarter.
+    fn carry(&mut self, route: &[Arc], lots: u32)
+        requires { periods.EachQuarter (λ number. CanCarry (hours.rows_in self.old number) route.now lots) }
+        ensures quarters { periods.EachQuarter (λ number. IsCarried route.now lots (hours.rows_in self.old number) (hours.rows_in self.new number)) }
+        ensures halts { self.new.halted ≡ self.old.halted }
+        ensures phase { self.new.phase ≡ self.old.phase }
+    {
+        carry_in_all(
+            self.first.as_mut_slice(),
+            self.second.as_mut_slice(),
+            self.third.as_mut_slice(),
+            self.fourth.as_mut_slice(),
+            route,
+            lots,
+        );
+    }
+
+    // Lets an event of a legal history count, quarter by quarter.
+    fn note_quarters(&mut self, hour: u32, event: &Event)
         requires { hours.CanNoteIn hour event.now self.old }
         ensures quarters { periods.EachQuarter (λ number. IsNoted (periods.quarter_of hour number) event.now (hours.rows_in self.old number) (hours.rows_in self.new number)) }
         ensures size { hours.size_of self.new ≡ hours.size_of self.old }
@@ -89,6 +122,30 @@ impl HourCapacity {
         note(self.fourth.as_mut_slice(), quarter_of(hour, 4), event);
         note_halt(self.halted.as_mut_slice(), hour, event);
         self.phase = phase_by(event, hour).unwrap_or(self.phase);
+    }
+
+    /// Lets the events of a list from a place on count, so that the capacity is that of an hour after all
+    /// events. The list has all that touch the hour.
+    pub(crate) fn note_from(
+        &mut self,
+        grid: &Grid,
+        events: &History,
+        near: &[Event],
+        start: usize,
+        hour: u32,
+    )
+        requires legal { hours.IsLegalOver grid.now events.now }
+        requires near { IsNear hour events.now near.now }
+        requires start { start ≤ length near.now }
+        requires before { hours.IsCapacityOf grid.now (take start near.now) hour self.old }
+        ensures { hours.IsCapacityOf grid.now events.now hour self.new }
+    {
+        for place in start..near.len() {
+            let event = &near[place];
+            if !is_of_orders(event) {
+                self.note(hour, event);
+            }
+        }
     }
 
     // The rows of the borders in the quarter of this number.
@@ -207,6 +264,19 @@ fn is_of_orders(event: &Event) -> bool
     )
 }
 
+// The leg that an event is, where it counts in all quarters of an hour.
+fn leg_of_hour(event: &Event, hour: u32) -> Option<&Leg>
+    ensures { IfSome result (λ leg. hours.IsLegOfHour hour leg.now event.now) }
+{
+    match event {
+        Event::Leg { contract, leg } if contract.hour == hour && contract.part == Part::Hour => {
+            Some(leg)
+        }
+        Event::BlockLeg { first, last, leg } if is_within(*first, *last, hour) => Some(leg),
+        _ => None,
+    }
+}
+
 // The quarter of this number of an hour.
 fn quarter_of(hour: u32, number: u32) -> Quarter
     ensures { result ≡ periods.quarter_of hour number }
@@ -255,12 +325,7 @@ pub fn hour_capacity(
     requires { hours.IsLegalOver grid.now events.now }
     ensures { IfOk result (hours.IsCapacityOf grid.now events.now hour) }
 {
-    let near = events.near(hour);
     let mut capacity = HourCapacity::new(alloc, grid)?;
-    for event in near {
-        if !is_of_orders(event) {
-            capacity.note(hour, event);
-        }
-    }
+    capacity.note_from(grid, events, events.near(hour), 0, hour);
     Ok(capacity)
 }

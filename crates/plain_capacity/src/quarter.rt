@@ -54,6 +54,32 @@ pub fn note(borders: &mut [QuarterRow], quarter: Quarter, event: &Event)
     }
 }
 
+/// Carries so many lots over a route in the four quarters of an hour.
+pub fn carry_in_all(
+    first: &mut [QuarterRow],
+    second: &mut [QuarterRow],
+    third: &mut [QuarterRow],
+    fourth: &mut [QuarterRow],
+    route: &[Arc],
+    lots: u32,
+)
+    requires first { rows.CanCarry first.old route.now lots }
+    requires second { rows.CanCarry second.old route.now lots }
+    requires third { rows.CanCarry third.old route.now lots }
+    requires fourth { rows.CanCarry fourth.old route.now lots }
+    ensures first { rows.IsCarried route.now lots first.old first.new }
+    ensures second { rows.IsCarried route.now lots second.old second.new }
+    ensures third { rows.IsCarried route.now lots third.old third.new }
+    ensures fourth { rows.IsCarried route.now lots fourth.old fourth.new }
+{
+    for arc in route {
+        take(first, *arc, lots);
+        take(second, *arc, lots);
+        take(third, *arc, lots);
+        take(fourth, *arc, lots);
+    }
+}
+
 // Carries so many lots over a route, if they count.
 fn carry(borders: &mut [QuarterRow], counts: bool, route: &[Arc], lots: u32)
     requires { counts ≡ true → rows.CanCarry borders.old route.now lots }

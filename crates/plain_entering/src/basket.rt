@@ -15,7 +15,7 @@ use crate::entering::{enter_and_take, enter_unrefused};
 use crate::judging::basket_unfilled;
 use event_history::History;
 use market_model::{NoMemory, Order, Refusal};
-use plain_matching::cut_back;
+use plain_matching::{HourSums, cut_back};
 use std::alloc::Global;
 use zone_graph::Grid;
 
@@ -89,7 +89,7 @@ fn unfilled_alone(
     ensures err { OnErr result (Grew events.old events.new) }
 {
     let before = events.as_slice().len();
-    let name = enter_and_take(alloc, grid, events, caller, order)?;
+    let name = enter_and_take(alloc, grid, events, &mut HourSums::none(), caller, order)?;
     let refusal = basket_unfilled(alloc, grid, events, before + 1, name, order)?;
     cut_back(events, before);
     Ok(refusal)

@@ -11,13 +11,14 @@ ghost use Rattle.plain_capacity.specs.Hour.{IsLegalOver};
 ghost use Rattle.plain_entering.specs.Entering.{CanEnter, StaysWhereRefused};
 ghost use Rattle.plain_refusals.specs.State.{filling_rules};
 ghost use Rattle.plain_matching.specs.Grown.{Grew};
+ghost use Rattle.plain_matching.specs.Summed.{AreHourSums};
 ghost use Rattle.plain_orders.specs.Histories.{IsSomeHistory};
 
 use crate::judging::refusal_after;
 use event_history::History;
 use market_model::{Event, Kind, NoMemory, Order, OrderName, Refusal};
-use plain_matching::{cut_back, sweep, take};
-use plain_orders::{left, next_name};
+use plain_matching::{HourSums, cut_back, sweep, take};
+use plain_orders::left;
 use std::alloc::Global;
 use zone_graph::Grid;
 
@@ -45,14 +46,15 @@ pub fn enter(
     ensures err { OnErr result (Grew events.old events.new) }
 {
     let before = events.as_slice().len();
-    let name = enter_and_take(alloc, grid, events, caller, order)?;
-    match refusal_after(alloc, grid, events, before + 1, name, order)? {
+    let mut sums = HourSums::none();
+    let name = enter_and_take(alloc, grid, events, &mut sums, caller, order)?;
+    match refusal_after(alloc, grid, events, &mut sums, before + 1, name, order)? {
         Some(refusal) => {
             cut_back(events, before);
             Ok(Some(refusal))
         }
         None => {
-            finish(alloc, grid, events, name, order)?;
+            finish(alloc, grid, events, &mut sums, name, order)?;
             Ok(None)
         }
     }
@@ -76,8 +78,9 @@ pub(crate) fn enter_unrefused(
     ensures ok { OnOk result (events.new ≡ events.old ++ market.enter sweeping.all_parts grid.now caller order.now events.old) }
     ensures err { OnErr result (Grew events.old events.new) }
 {
-    let name = enter_and_take(alloc, grid, events, caller, order)?;
-    finish(alloc, grid, events, name, order)
+    let mut sums = HourSums::none();
+    let name = enter_and_take(alloc, grid, events, &mut sums, caller, order)?;
+    finish(alloc, grid, events, &mut sums, name, order)
 }
 
 /// Enters an order and lets it take: its entry and the legs that it takes go to the end of the events.
@@ -91,23 +94,26 @@ pub(crate) fn enter_and_take(
     alloc: Global,
     grid: &Grid,
     events: &mut History,
+    sums: &mut HourSums,
     caller: u32,
     order: &Order,
 ) -> Result<OrderName, NoMemory>
     requires can { CanEnter grid.now events.old caller (order.now ∷ []) }
+    requires summed { AreHourSums grid.now events.old order.now.contract.hour sums.old }
     requires few { count_by (enters_in order.now.contract.hour) events.old < 2 ^ 32 - 1 }
     ensures name { IfOk result (λ name. name ≡ market.name_of_next events.old order.now) }
     ensures ok { OnOk result (events.new ≡ market.after_taking grid.now events.old caller order.now) }
     ensures err { OnErr result (Grew events.old events.new) }
     ensures legal { OnOk result (IsLegalOver grid.now events.new) }
+    ensures summed { OnOk result (AreHourSums grid.now events.new order.now.contract.hour sums.new) }
 {
-    let name = next_name(events, order.contract.hour);
+    let name = sums.next_name(alloc, events, order.contract.hour)?;
     events.push(Event::Entered {
         name,
         caller,
         order: *order,
     })?;
-    take(alloc, grid, events, name)?;
+    take(alloc, grid, events, sums, name)?;
     Ok(name)
 }
 
@@ -117,10 +123,12 @@ fn finish(
     alloc: Global,
     grid: &Grid,
     events: &mut History,
+    sums: &mut HourSums,
     name: OrderName,
     order: &Order,
 ) -> Result<(), NoMemory>
     requires legal { IsLegalOver grid.now events.old }
+    requires summed { AreHourSums grid.now events.old order.now.contract.hour sums.old }
     ensures ok { let rested = events.old ++ market.rest_withdrawn order.now.kind name (orders.left events.old name) in
         OnOk result (events.new ≡ rested ++ sweeping.sweep sweeping.all_parts grid.now order.now.contract.hour rested) }
     ensures err { OnErr result (Grew events.old events.new) }
@@ -128,7 +136,7 @@ fn finish(
     let zones = grid.zones();
     prove!(zones <= 64);
     withdraw_rest(events, name, order.kind)?;
-    sweep(alloc, grid, events, order.contract.hour)
+    sweep(alloc, grid, events, sums, order.contract.hour)
 }
 
 // Withdraws what is left of an order, if it is immediate-or-cancel. Where there is no memory the events

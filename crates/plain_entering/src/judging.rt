@@ -1,19 +1,21 @@
 //! Why an order is refused once its taking has ended.
 
-ghost use Rattle.std.specs.Prelude.{◌≡◌, ◌<◌, ◌^◌, true, Ok, None, IfOk, take};
+ghost use Rattle.std.specs.Prelude.{◌≡◌, ◌<◌, ◌^◌, true, Ok, None, IfOk, IfSome, take};
 ghost use Rattle.order_kinds.specs.Contract as contracts;
-ghost use Rattle.zone_graph.specs.Graph.{HasZone};
+ghost use Rattle.zone_graph.specs.Graph.{Graph, HasZone};
 ghost use Rattle.market_model.specs.History.{entered_count};
 ghost use Rattle.plain_capacity.specs.Hour.{IsLegalOver};
 ghost use Rattle.plain_entering.specs.Entering.{IsCut};
 ghost use Rattle.plain_entering.specs.Judging as judged;
+ghost use Rattle.plain_matching.specs.Summed.{AreHourSums};
 ghost use Rattle.plain_orders.specs.Histories.{IsSomeHistory};
+ghost use Rattle.plain_orders.specs.Tallies.{AreSums};
 
 use event_history::History;
 use market_model::{Kind, NoMemory, Order, OrderName, Refusal, Zones};
 use plain_certificate::{bound, zones_in_reach};
-use plain_matching::cut_back;
-use plain_orders::{has_desk_room, left};
+use plain_matching::{HourSums, cut_back};
+use plain_orders::left;
 use std::alloc::Global;
 use zone_graph::Grid;
 
@@ -23,29 +25,32 @@ use zone_graph::Grid;
 ///
 /// # Errors
 ///
-/// [`NoMemory`], where there is no memory for the zones in reach, for the orders of the hour or for its
-/// open names.
+/// [`NoMemory`], where there is no memory for the zones in reach, for the orders of the hour, or for its
+/// sums or open names.
 pub(crate) fn refusal_after(
     alloc: Global,
     grid: &Grid,
     events: &mut History,
+    sums: &mut HourSums,
     entered: usize,
     name: OrderName,
     order: &Order,
 ) -> Result<Option<Refusal>, NoMemory>
     requires start { IsLegalOver grid.now (take entered events.old) }
     requires after { IsLegalOver grid.now events.old }
+    requires summed { AreHourSums grid.now events.old name.hour sums.old }
     requires few { entered_count (take entered events.old) < 2 ^ 32 }
     requires part { contracts.is_known order.now.contract.part ≡ true }
     requires zone { HasZone grid.now order.now.zone }
     ensures refusal { IfOk result (λ refusal. refusal ≡ judged.refusal_after grid.now (take entered events.old) events.old name order.now) }
     ensures kept { result ≡ Ok None → events.new ≡ events.old }
     ensures cut { IsCut entered events.old events.new }
+    ensures summed { AreHourSums grid.now events.old name.hour sums.new }
 {
     match order.kind {
         Kind::Fok => unfilled(alloc, grid, events, entered, name, order),
         Kind::Ioc => Ok(None),
-        Kind::Limit | Kind::Iceberg { .. } => desk_full(alloc, events, name),
+        Kind::Limit | Kind::Iceberg { .. } => desk_full(alloc, events, sums, name),
     }
 }
 
@@ -141,11 +146,18 @@ fn certificate_of(
 }
 
 // Why an order that rests is refused: it has no room on the desk.
-fn desk_full(alloc: Global, events: &History, name: OrderName) -> Result<Option<Refusal>, NoMemory>
+fn desk_full(
+    alloc: Global,
+    events: &History,
+    sums: &mut HourSums,
+    name: OrderName,
+) -> Result<Option<Refusal>, NoMemory>
     requires history { IsSomeHistory events.now }
-    ensures { IfOk result (λ refusal. refusal ≡ judged.unless_full events.now name) }
+    requires summed { IfSome sums.old.orders (AreSums events.now name.hour) }
+    ensures refusal { IfOk result (λ refusal. refusal ≡ judged.unless_full events.now name) }
+    ensures summed { (graph : Graph) → AreHourSums graph events.now name.hour sums.old → AreHourSums graph events.now name.hour sums.new }
 {
-    if left(events, name) == 0 || has_desk_room(alloc, events, name)? {
+    if sums.has_desk_room(alloc, events, name)? || left(events, name) == 0 {
         return Ok(None);
     }
     Ok(Some(Refusal::DeskFull))

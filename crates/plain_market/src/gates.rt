@@ -10,7 +10,7 @@ ghost use Rattle.plain_orders.specs.Histories.{IsSomeHistory};
 
 use event_history::History;
 use market_model::{Duplicate, Event, Events, NoMemory, Phase};
-use plain_matching::sweep;
+use plain_matching::{HourSums, sweep};
 use plain_orders::withdrawals;
 use std::alloc::Global;
 use zone_graph::Grid;
@@ -37,7 +37,7 @@ pub(crate) fn move_hour(
     let withdrawn = withdrawn_by(alloc, events, hour, phase)?;
     events.push(Event::Gated { hour, phase })?;
     append(events, withdrawn.as_slice())?;
-    sweep(alloc, grid, events, hour)
+    sweep(alloc, grid, events, &mut HourSums::none(), hour)
 }
 
 // Puts events behind others.

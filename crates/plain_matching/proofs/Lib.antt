@@ -7,3 +7,4 @@ pub mod Orders
 pub mod Places
 pub mod SameRooms
 pub mod Zones
+pub mod Sums

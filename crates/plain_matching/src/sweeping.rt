@@ -8,34 +8,45 @@ ghost use Rattle.zone_graph.specs.Graph.{HasZone, border_count};
 ghost use Rattle.zone_graph.specs.Grid.{IsGrid};
 ghost use Rattle.zone_graph.specs.Rooms.{room_of};
 ghost use Rattle.market_model.specs.Sweep as market;
-ghost use Rattle.plain_capacity.specs.Hour.{IsCapacityOf, IsLegalOver};
+ghost use Rattle.plain_capacity.specs.Hour.{IsLegalOver};
+ghost use Rattle.plain_capacity.specs.Sums.{AreCapacitySums};
 ghost use Rattle.plain_orders.specs.Listed as listed;
 ghost use Rattle.plain_matching.specs.Grown.{Grew, GrewByPart};
 ghost use Rattle.plain_matching.specs.Over as over;
+ghost use Rattle.plain_matching.specs.Summed.{AreHourSums};
 
+use crate::hour_sums::HourSums;
 use crate::partner::{first_crosses, partner};
 use crate::trade::resting_trade;
 use event_history::History;
 use market_model::{Contract, Event, NoMemory, Part, Side};
-use plain_capacity::{HourCapacity, contract_rooms_over};
-use plain_orders::{StandingOrder, line, open_orders};
+use plain_capacity::{CapacitySums, contract_rooms_over};
+use plain_orders::{StandingOrder, line, open_orders_over};
 use std::alloc::Global;
 use zone_graph::{Grid, Rooms};
 
 /// Sweeps an hour: resting orders of the hour that can trade do, leg by leg, until none can. Each leg
-/// is at the price of the order that was there earlier and goes to the end of the events.
+/// is at the price of the order that was there earlier and goes to the end of the events. What was summed
+/// up of the hour serves each leg.
 ///
 /// # Errors
 ///
 /// [`NoMemory`], where there is no memory for what the next leg is made from or for the leg: a first
 /// part of the legs then stands behind the events.
-pub fn sweep(alloc: Global, grid: &Grid, events: &mut History, hour: u32) -> Result<(), NoMemory>
+pub fn sweep(
+    alloc: Global,
+    grid: &Grid,
+    events: &mut History,
+    sums: &mut HourSums,
+    hour: u32,
+) -> Result<(), NoMemory>
     requires legal { IsLegalOver grid.now events.old }
+    requires summed { AreHourSums grid.now events.old hour sums.old }
     ensures ok { OnOk result (events.new ≡ events.old ++ market.sweep market.all_parts grid.now hour events.old) }
     ensures err { OnErr result (GrewByPart (market.sweep market.all_parts grid.now hour events.old) events.old events.new) }
     ensures legal { IsLegalOver grid.now events.new }
 {
-    while let Some(leg) = sweep_leg(alloc, grid, events, hour)? {
+    while let Some(leg) = sweep_leg(alloc, grid, events, sums, hour)? {
         events.push(leg)?;
     }
     Ok(())
@@ -60,7 +71,7 @@ pub fn sweeps(
     ensures legal { IsLegalOver grid.now events.new }
 {
     for hour in first..=last {
-        sweep(alloc, grid, events, hour)?;
+        sweep(alloc, grid, events, &mut HourSums::none(), hour)?;
     }
     Ok(())
 }
@@ -75,15 +86,18 @@ pub fn sweep_leg(
     alloc: Global,
     grid: &Grid,
     events: &History,
+    sums: &mut HourSums,
     hour: u32,
 ) -> Result<Option<Event>, NoMemory>
     requires legal { IsLegalOver grid.now events.now }
+    requires summed { AreHourSums grid.now events.now hour sums.old }
+    ensures summed { AreHourSums grid.now events.now hour sums.new }
     ensures leg { IfOk result (λ leg. leg ≡ market.sweep_leg market.all_parts grid.now hour events.now) }
     ensures grid { IsGrid grid.now }
 {
     let zones = grid.zones();
     prove!(zones <= 64);
-    let orders = open_orders(alloc, events, hour)?;
+    let orders = open_orders_over(alloc, events, &mut sums.orders, hour)?;
     let parts = [
         Part::Hour,
         Part::Half(1),
@@ -93,7 +107,16 @@ pub fn sweep_leg(
         Part::Quarter(3),
         Part::Quarter(4),
     ];
-    leg_in_parts(alloc, grid, events, orders.as_slice(), hour, &parts)
+    let capacity = &mut sums.capacity;
+    leg_in_parts(
+        alloc,
+        grid,
+        events,
+        capacity,
+        orders.as_slice(),
+        hour,
+        &parts,
+    )
 }
 
 // The leg in the first of some parts of an hour that has one.
@@ -101,19 +124,21 @@ fn leg_in_parts(
     alloc: Global,
     grid: &Grid,
     events: &History,
+    capacity: &mut Option<CapacitySums>,
     orders: &[StandingOrder],
     hour: u32,
     parts: &[Part],
 ) -> Result<Option<Event>, NoMemory>
     requires legal { IsLegalOver grid.now events.now }
+    requires summed { IfSome capacity.old (AreCapacitySums grid.now events.now hour) }
     requires orders { orders.now ≡ listed.open_orders events.now hour }
     requires parts { list_all contracts.is_known parts.now ≡ true }
-    ensures { IfOk result (λ leg. leg ≡ over.leg_in_parts grid.now events.now hour parts.now) }
+    ensures leg { IfOk result (λ leg. leg ≡ over.leg_in_parts grid.now events.now hour parts.now) }
+    ensures summed { IfSome capacity.new (AreCapacitySums grid.now events.now hour) }
 {
-    let mut capacity = None;
     for part in parts {
         let contract = Contract { hour, part: *part };
-        if let Some(leg) = leg_in(alloc, grid, events, &mut capacity, orders, contract)? {
+        if let Some(leg) = leg_in(alloc, grid, events, capacity, orders, contract)? {
             return Ok(Some(leg));
         }
     }
@@ -121,21 +146,21 @@ fn leg_in_parts(
 }
 
 // The leg of the first buy of a contract's line that has a partner. The capacity of the hour is summed
-// up where it is asked for and there is none yet.
+// up where it is asked for.
 fn leg_in(
     alloc: Global,
     grid: &Grid,
     events: &History,
-    capacity: &mut Option<HourCapacity>,
+    capacity: &mut Option<CapacitySums>,
     orders: &[StandingOrder],
     contract: Contract,
 ) -> Result<Option<Event>, NoMemory>
     requires legal { IsLegalOver grid.now events.now }
     requires orders { orders.now ≡ listed.open_orders events.now contract.hour }
     requires part { contracts.is_known contract.part ≡ true }
-    requires summed { IfSome capacity.old (IsCapacityOf grid.now events.now contract.hour) }
+    requires summed { IfSome capacity.old (AreCapacitySums grid.now events.now contract.hour) }
     ensures leg { IfOk result (λ leg. leg ≡ market.leg_in grid.now events.now contract) }
-    ensures summed { IfSome capacity.new (IsCapacityOf grid.now events.now contract.hour) }
+    ensures summed { IfSome capacity.new (AreCapacitySums grid.now events.now contract.hour) }
 {
     let zones = grid.zones();
     prove!(zones <= 64);

@@ -1,27 +1,30 @@
 //! The legs of an order that comes in.
 
-ghost use Rattle.std.specs.Prelude.{◌≡◌, ◌++◌, IfOk, OnOk, OnErr};
+ghost use Rattle.std.specs.Prelude.{◌≡◌, ◌++◌, IfOk, IfSome, OnOk, OnErr};
 ghost use Rattle.std.specs.List.{find};
 ghost use Rattle.zone_graph.specs.Grid.{IsGrid};
 ghost use Rattle.zone_graph.specs.Route.{IsIn};
 ghost use Rattle.market_model.specs.Taking as market;
 ghost use Rattle.plain_capacity.specs.Hour.{IsLegalOver};
+ghost use Rattle.plain_capacity.specs.Sums.{AreCapacitySums};
 ghost use Rattle.plain_orders.specs.Listed as listed;
 ghost use Rattle.plain_matching.specs.Grown.{GrewByPart};
 ghost use Rattle.plain_matching.specs.Over as over;
+ghost use Rattle.plain_matching.specs.Summed.{AreHourSums};
 
+use crate::hour_sums::HourSums;
 use crate::partner::{has_crossing, partner};
 use crate::trade::trade;
 use event_history::History;
 use market_model::{Event, NoMemory, OrderName};
-use plain_capacity::contract_rooms;
-use plain_orders::{StandingOrder, line, open_orders};
+use plain_capacity::{CapacitySums, contract_rooms_over};
+use plain_orders::{StandingOrder, line, open_orders_over};
 use std::alloc::Global;
 use zone_graph::Grid;
 
 /// Lets the order of this name take from the order book, leg by leg, until it is filled or none is
 /// left with which it can trade. Each leg is at the resting order's price and goes to the end of the
-/// events.
+/// events. What was summed up of the hour serves each leg, and stays for the caller.
 ///
 /// # Errors
 ///
@@ -31,14 +34,17 @@ pub fn take(
     alloc: Global,
     grid: &Grid,
     events: &mut History,
+    sums: &mut HourSums,
     name: OrderName,
 ) -> Result<(), NoMemory>
     requires legal { IsLegalOver grid.now events.old }
+    requires summed { AreHourSums grid.now events.old name.hour sums.old }
     ensures ok { OnOk result (events.new ≡ events.old ++ market.take grid.now events.old name) }
     ensures err { OnErr result (GrewByPart (market.take grid.now events.old name) events.old events.new) }
     ensures legal { IsLegalOver grid.now events.new }
+    ensures summed { OnOk result (AreHourSums grid.now events.new name.hour sums.new) }
 {
-    while let Some(leg) = next_leg(alloc, grid, events, name)? {
+    while let Some(leg) = next_leg(alloc, grid, events, sums, name)? {
         events.push(leg)?;
     }
     Ok(())
@@ -53,17 +59,23 @@ pub fn next_leg(
     alloc: Global,
     grid: &Grid,
     events: &History,
+    sums: &mut HourSums,
     name: OrderName,
 ) -> Result<Option<Event>, NoMemory>
     requires legal { IsLegalOver grid.now events.now }
+    requires summed { AreHourSums grid.now events.now name.hour sums.old }
+    ensures summed { AreHourSums grid.now events.now name.hour sums.new }
     ensures leg { IfOk result (λ leg. leg ≡ market.next_leg grid.now name events.now) }
     ensures grid { IsGrid grid.now }
 {
     let zones = grid.zones();
     prove!(zones <= 64);
-    let orders = open_orders(alloc, events, name.hour)?;
+    let orders = open_orders_over(alloc, events, &mut sums.orders, name.hour)?;
     match open_as(orders.as_slice(), name) {
-        Some(own) => leg_with_partner(alloc, grid, events, orders.as_slice(), &own),
+        Some(own) => {
+            let capacity = &mut sums.capacity;
+            leg_with_partner(alloc, grid, events, capacity, orders.as_slice(), &own)
+        }
         None => Ok(None),
     }
 }
@@ -92,13 +104,16 @@ fn leg_with_partner(
     alloc: Global,
     grid: &Grid,
     events: &History,
+    capacity: &mut Option<CapacitySums>,
     orders: &[StandingOrder],
     own: &StandingOrder,
 ) -> Result<Option<Event>, NoMemory>
     requires legal { IsLegalOver grid.now events.now }
+    requires summed { IfSome capacity.old (AreCapacitySums grid.now events.now own.now.order.contract.hour) }
     requires orders { orders.now ≡ listed.open_orders events.now own.now.order.contract.hour }
     requires own { IsIn own.now orders.now }
-    ensures { IfOk result (λ leg. leg ≡ over.leg_with_partner grid.now events.now own.now) }
+    ensures leg { IfOk result (λ leg. leg ≡ over.leg_with_partner grid.now events.now own.now) }
+    ensures summed { IfSome capacity.new (AreCapacitySums grid.now events.now own.now.order.contract.hour) }
 {
     let order = own.order();
     let zones = grid.zones();
@@ -107,7 +122,7 @@ fn leg_with_partner(
     if !has_crossing(line.as_slice(), own) {
         return Ok(None);
     }
-    let rooms = contract_rooms(alloc, grid, events, order.contract)?;
+    let rooms = contract_rooms_over(alloc, grid, events, capacity, order.contract)?;
     match partner(grid, &rooms, line.as_slice(), own) {
         Some(other) => trade(alloc, grid, &rooms, own, &other),
         None => Ok(None),

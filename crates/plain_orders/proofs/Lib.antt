@@ -7,3 +7,4 @@ pub mod Near
 pub mod Stable
 pub mod Taken
 pub mod Tells
+pub mod Growing

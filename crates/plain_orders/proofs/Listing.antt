@@ -1,7 +1,7 @@
 -- The orders, blocks and names of an hour, listed event by event.
-use Rattle.std.proofs.Common.{◌≡◌, ◌∙◌, ℕ, ◌<◌, ◌≤◌, Bool, true, false, cond, List, [], ◌∷◌, ◌++◌, filter, get_or, length, map, nat_eq, not, suc, eqb-true, Option, Some, None, refl, sym, ap, subst, if◌then◌else◌, arith}
+use Rattle.std.proofs.Common.{◌≡◌, ◌∙◌, ℕ, ◌+◌, ◌<◌, ◌≤◌, Bool, true, false, cond, List, [], ◌∷◌, ◌++◌, filter, get_or, length, map, nat_eq, not, suc, take, eqb-true, Option, Some, None, refl, sym, ap, subst, if◌then◌else◌, arith}
 use Rattle.std.proofs.lemmas.Bool.{le-ltb, lt-ltb}
-use Rattle.std.proofs.lemmas.List.{append-nil, map_push}
+use Rattle.std.proofs.lemmas.List.{append-nil, map_push, take_more}
 use Rattle.std.proofs.lemmas.List.Elements.{filter-append, filter_map-append}
 use Rattle.std.proofs.lemmas.List.Sums.{count_by-le-length, length-filter}
 use Rattle.std.specs.List.{cons_option, filter_map}
@@ -12,11 +12,11 @@ use Rattle.zone_graph.proofs.Places.{item_at_place}
 use Rattle.market_model.specs.declared.event.Event.{Event}
 use Rattle.market_model.specs.declared.event.Event.TheVariants as event
 use Rattle.market_model.specs.Blocks.{standing_block}
-use Rattle.market_model.specs.History.{and_then, enters_in}
+use Rattle.market_model.specs.History.{and_then, enters_in, touches}
 use Rattle.market_model.specs.Orders.{Placed, PlacedBlock, block_placed_by, blocks_placed, is_open, left, name_given, placed, placed_by, price_now, shown_lots, standing}
 use Rattle.market_model.specs.Refusals.{desk_room, has_desk_room}
 use Rattle.market_laws.proofs.Balances.{left-filled-taken_off}
-use Rattle.market_laws.proofs.Members.{IsIn-filter_map}
+use Rattle.market_laws.proofs.Members.{IsIn-filter_map, from_filter_map}
 use Rattle.market_laws.proofs.Names.{enters_as}
 use Rattle.market_laws.proofs.Placed.{all_are_sound, picked-same}
 use Rattle.market_laws.proofs.Names.{names-once}
@@ -86,6 +86,32 @@ pub filtered-listed-more : {Y Z : Type 0} (pick : Event → Option Y) (p : Y →
 filtered-listed-more pick p f front before e y split is passes =
     ap (map f) (filtered-more pick p front before e y split is passes) ∙ map_push f (filter p (filter_map pick before)) y
 
+-- an event that does not touch an hour enters no order by it
+pub order-elsewhere : (hour : ℕ) (e : Event) → touches hour e ≡ false → order_given hour e ≡ None
+order-elsewhere hour (event.Entered given caller order) h = rw h refl
+order-elsewhere hour _ h = refl
+
+-- one more of some orders, where it is open and where it is not
+module _ (events : List Event) (orders : List Placed) (i : ℕ) (order : Placed) (within : i < length orders) (is : order ≡ get_or orders i order) where
+  one-more : take (i + 1) orders ≡ take i orders ++ order ∷ []
+  one-more = take_more orders i order within ∙ ap (λ o. take i orders ++ o ∷ []) (sym is)
+
+  pub open-more : stands_open events order ≡ true
+      → map (standing events) (filter (stands_open events) (take (i + 1) orders))
+      ≡ map (standing events) (filter (stands_open events) (take i orders)) ++ standing events order ∷ []
+  open-more on =
+      ap (λ os. map (standing events) (filter (stands_open events) os)) one-more
+      ∙ ap (map (standing events)) (filter-append (stands_open events) (take i orders) (order ∷ [])
+      ∙ ap (λ b. filter (stands_open events) (take i orders) ++ cond b (order ∷ []) []) on)
+      ∙ map_push (standing events) (filter (stands_open events) (take i orders)) order
+
+  pub closed-more : stands_open events order ≡ false
+      → map (standing events) (filter (stands_open events) (take (i + 1) orders)) ≡ map (standing events) (filter (stands_open events) (take i orders))
+  closed-more off =
+      ap (λ os. map (standing events) (filter (stands_open events) os)) one-more
+      ∙ ap (map (standing events)) (filter-append (stands_open events) (take i orders) (order ∷ [])
+      ∙ ap (λ b. filter (stands_open events) (take i orders) ++ cond b (order ∷ []) []) off ∙ append-nil (filter (stands_open events) (take i orders)))
+
 pub orders-listed : (events : List Event) (hour : ℕ)
     → map (standing events) (filter (stands_open events) (filter_map (order_given hour) events)) ≡ open_orders events hour
 orders-listed events hour = ap (λ orders. map (standing events) (filter (stands_open events) orders)) (kept-filter placed_by (is_order_of hour) events)
@@ -106,11 +132,10 @@ pub record OrderAt (events : List Event) (hour : ℕ) (order : Placed) : Type 0 
   pub opens : (tally : Tally) → Tells events (name_in hour order.name.number) tally → 0 < tally.left → stands_open events order ≡ true
   pub closes : (tally : Tally) → Tells events (name_in hour order.name.number) tally → tally.left ≤ 0 → stands_open events order ≡ false
 
-pub order-at : (events : List Event) (place : ℕ) (e : Event) (hour : ℕ) (order : Placed) → IsSomeHistory events → place < length events → e ≡ get_or events place e
-    → order_given hour e ≡ Some order → OrderAt events hour order
-order-at events place e hour order history within is given =
+pub order-in : (events : List Event) (hour : ℕ) (order : Placed) → IsSomeHistory events → IsIn order (filter_map (order_given hour) events) → OrderAt events hour order
+order-in events hour order history listed =
+    let (e, here, given) = from_filter_map (order_given hour) order events listed in
     let from = from-kept (is_order_of hour) (placed_by e) order given in
-    let here = item_at_place events place e within is in
     let of_hour : order.name.hour ≡ hour = eqb-true order.name.hour hour from.1 in
     let there = IsIn-filter_map placed_by e order events here from.0 in
     record {

@@ -1,5 +1,6 @@
 -- What the events come to of each order and block of an hour, by its number.
-use Rattle.std.specs.Prelude.{◌≡◌, ◌≢◌, ℕ, ◌+◌, ◌-◌, ◌<◌, ◌≤◌, ◌^◌, List, [], ◌∷◌, ◌++◌, count_by, length, slice_index_or, if◌then◌else◌}
+use Rattle.std.specs.Prelude.{◌≡◌, ◌≢◌, ℕ, ◌+◌, ◌-◌, ◌<◌, ◌≤◌, ◌^◌, List, [], ◌∷◌, ◌++◌, count_by, length, slice_index_or, take, if◌then◌else◌}
+use Rattle.std.specs.List.{filter_map}
 use Rattle.order_kinds.specs.declared.order.Kind.{Kind}
 use Rattle.order_kinds.specs.declared.order.Kind.TheVariants as kind
 use Rattle.order_kinds.specs.declared.order.OrderName.{OrderName}
@@ -8,9 +9,11 @@ use Rattle.zone_graph.specs.Route.{IsIn}
 use Rattle.market_model.specs.declared.event.Event.{Event}
 use Rattle.market_model.specs.declared.event.Event.TheVariants as event
 use Rattle.market_model.specs.Blocks.{StandingBlock}
-use Rattle.market_model.specs.History.{enters_in}
+use Rattle.market_model.specs.History.{enters_in, of_hour}
 use Rattle.market_model.specs.Orders.{Placed, PlacedBlock, Standing, block_moment, blocks_placed, ends_peak, filled, left, moment, names, placed, price_now, shown_lots}
+use Rattle.plain_orders.specs.Listed.{order_given}
 use Rattle.plain_orders.specs.declared.tally.Change.{Change}
+use Rattle.plain_orders.specs.declared.tally.OrderSums.{OrderSums}
 use Rattle.plain_orders.specs.declared.tally.Change.TheVariants as change
 use Rattle.plain_orders.specs.declared.tally.Tally.{Tally}
 
@@ -119,6 +122,18 @@ pub record Tells (events : List Event) (name : OrderName) (tally : Tally) : Type
 abbrev pub AreTallies : List Event → (hour : ℕ) → List Tally → Type 0
 AreTallies events hour tallies = (number : ℕ) (d : Tally) → number < length tallies
     → Tells events (name_in hour number) (slice_index_or tallies number d)
+
+-- the tallies of an hour after some events, its orders, and how many of the events touch it
+pub record AreSumsOf (events : List Event) (hour : ℕ) (tallies : List Tally) (orders : List Placed) (moment : ℕ) : Type 0 where
+  pub size : length tallies ≡ entered_in events hour + 1
+  pub tell : AreTallies events hour tallies
+  pub orders_are : orders ≡ filter_map (order_given hour) events
+  pub moment_is : moment ≡ length (of_hour hour events)
+
+-- these are the sums of an hour over the first of some events
+pub record AreSums (events : List Event) (hour : ℕ) (sums : OrderSums) : Type 0 where
+  pub most : sums.count ≤ length events
+  pub of_first : AreSumsOf (take sums.count events) hour sums.tallies.items sums.orders.items sums.moment
 
 -- an order, and a block, as it stands by its tally
 abbrev pub standing_by : Tally → Placed → Standing

@@ -1,15 +1,16 @@
 //! The orders and blocks of an hour.
 
-ghost use Rattle.std.specs.Prelude.{◌≡◌, IfOk};
+ghost use Rattle.std.specs.Prelude.{◌≡◌, IfOk, IfSome, IsSome, OnOk};
 ghost use Rattle.market_model.specs.Market as market;
 ghost use Rattle.market_model.specs.Orders as orders;
 ghost use Rattle.order_kinds.specs.declared.phase.Phase.TheVariants as phase;
 ghost use Rattle.plain_orders.specs.Histories.{IsSomeHistory};
 ghost use Rattle.plain_orders.specs.Listed as listed;
+ghost use Rattle.plain_orders.specs.Tallies.{AreSums, AreSumsOf};
 
-use crate::placed::{PlacedBlock, PlacedOrder};
+use crate::placed::PlacedBlock;
 use crate::standing::{StandingBlock, StandingOrder};
-use crate::tally::tallies_of;
+use crate::tally::{OrderSums, sum_up, tallies_of};
 use event_history::History;
 use market_model::{Event, Events, NoMemory, OrderName};
 use std::alloc::Global;
@@ -27,20 +28,52 @@ pub fn open_orders(
     requires history { IsSomeHistory events.now }
     ensures { IfOk result (λ made. made.items ≡ listed.open_orders events.now hour) }
 {
-    let tallies = tallies_of(alloc, events, hour)?;
-    let mut orders = Vec::new(alloc);
-    for event in events.near(hour) {
-        match order_given(event, hour) {
-            Some(placed) => {
-                let tally = tallies[placed.name().number as usize];
-                if tally.left > 0 {
-                    orders.push(StandingOrder::new(&placed, tally))?;
-                }
-            }
-            None => {}
+    open_orders_over(alloc, events, &mut None, hour)
+}
+
+/// The same orders, from the sums of the hour: they are made where there are none yet, or take in the
+/// events that have come since, and stay for the next call.
+///
+/// # Errors
+///
+/// [`NoMemory`], where there is no memory for the sums of the hour or for the list.
+pub fn open_orders_over(
+    alloc: Global,
+    events: &History,
+    sums: &mut Option<OrderSums>,
+    hour: u32,
+) -> Result<Vec<StandingOrder>, NoMemory>
+    requires history { IsSomeHistory events.now }
+    requires summed { IfSome sums.old (AreSums events.now hour) }
+    ensures orders { IfOk result (λ made. made.items ≡ listed.open_orders events.now hour) }
+    ensures summed { IfSome sums.new (AreSums events.now hour) }
+    ensures kept { OnOk result (IsSome sums.new) }
+{
+    let summed = sum_up(alloc, events, hour, sums.take())?;
+    let orders = list_open(alloc, events, hour, &summed)?;
+    *sums = Some(summed);
+    Ok(orders)
+}
+
+// The open orders of an hour, by its sums over all events.
+fn list_open(
+    alloc: Global,
+    events: &History,
+    hour: u32,
+    sums: &OrderSums,
+) -> Result<Vec<StandingOrder>, NoMemory>
+    requires history { IsSomeHistory events.now }
+    requires sums { AreSumsOf events.now hour sums.now.tallies.items sums.now.orders.items sums.now.moment }
+    ensures { IfOk result (λ made. made.items ≡ listed.open_orders events.now hour) }
+{
+    let mut standing = Vec::new(alloc);
+    for placed in sums.orders.as_slice() {
+        let tally = sums.tallies[placed.name().number as usize];
+        if tally.left > 0 {
+            standing.push(StandingOrder::new(placed, tally))?;
         }
     }
-    Ok(orders)
+    Ok(standing)
 }
 
 /// All blocks that are named by an hour, their first, open or not, in order of entry, as they
@@ -80,12 +113,30 @@ pub fn open_names(alloc: Global, events: &History, hour: u32) -> Result<Vec<Orde
     requires history { IsSomeHistory events.now }
     ensures { IfOk result (λ made. made.items ≡ orders.open_names events.now hour) }
 {
-    let tallies = tallies_of(alloc, events, hour)?;
+    let summed = sum_up(alloc, events, hour, None)?;
+    list_names(alloc, events, hour, &summed)
+}
+
+/// The same names, by the sums of the hour over all events.
+///
+/// # Errors
+///
+/// [`NoMemory`], where there is no memory for the names.
+pub(crate) fn list_names(
+    alloc: Global,
+    events: &History,
+    hour: u32,
+    sums: &OrderSums,
+) -> Result<Vec<OrderName>, NoMemory>
+    requires history { IsSomeHistory events.now }
+    requires sums { AreSumsOf events.now hour sums.now.tallies.items sums.now.orders.items sums.now.moment }
+    ensures { IfOk result (λ made. made.items ≡ orders.open_names events.now hour) }
+{
     let mut names = Vec::new(alloc);
     for event in events.near(hour) {
         match name_given(event, hour) {
             Some(name) => {
-                if tallies[name.number as usize].left > 0 {
+                if sums.tallies[name.number as usize].left > 0 {
                     names.push(name)?;
                 }
             }
@@ -119,24 +170,6 @@ pub fn withdrawals(alloc: Global, events: &History, hour: u32) -> Result<Events,
         }
     }
     Ok(made)
-}
-
-// The order that an event enters, if it is named by an hour.
-fn order_given(event: &Event, hour: u32) -> Option<PlacedOrder>
-    ensures { result ≡ listed.order_given hour event.now }
-{
-    match event {
-        Event::Entered {
-            name,
-            caller,
-            order,
-        } if name.hour == hour => Some(PlacedOrder {
-            name: *name,
-            caller: *caller,
-            order: *order,
-        }),
-        _ => None,
-    }
 }
 
 // The block that an event enters, if it is named by an hour.

@@ -3,7 +3,8 @@
 //! book in priority.
 //!
 //! No order book is kept. The sums of all orders and blocks of an hour are taken in one pass over
-//! the events. All quantities are lots, tenths of a MW; all prices are cents per MWh.
+//! the events; sums that a caller holds take in the events that have come since. All quantities are
+//! lots, tenths of a MW; all prices are cents per MWh.
 #![tactic(auto)]
 
 mod hour;
@@ -15,10 +16,13 @@ mod standing;
 mod sums;
 mod tally;
 
-pub use hour::{blocks_of, open_names, open_orders, withdrawals};
+pub use hour::{blocks_of, open_names, open_orders, open_orders_over, withdrawals};
 pub use lines::{block_line, block_lines_are_of_blocks, line, lines_are_of_orders};
-pub use naming::next_name;
-pub use owning::{DESK_ROOM, has_desk_room, has_own, open_block, open_order, own_limit};
+pub use naming::{next_name, next_name_over};
+pub use owning::{
+    DESK_ROOM, has_desk_room, has_desk_room_over, has_own, open_block, open_order, own_limit,
+};
 pub use placed::{PlacedBlock, PlacedOrder};
 pub use standing::{StandingBlock, StandingOrder};
 pub use sums::left;
+pub use tally::OrderSums;

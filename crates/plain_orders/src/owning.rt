@@ -1,16 +1,17 @@
 //! Whose an open order or block is, and whether there is room on the desk for one more.
 
-ghost use Rattle.std.specs.Prelude.{◌≡◌, IfOk};
+ghost use Rattle.std.specs.Prelude.{◌≡◌, IfOk, IfSome, IsSome, OnOk};
 ghost use Rattle.market_model.specs.Orders as orders;
 ghost use Rattle.market_model.specs.Refusals as refusals;
 ghost use Rattle.order_kinds.specs.Same.{same_name};
 ghost use Rattle.plain_orders.specs.Histories.{IsSomeHistory};
 ghost use Rattle.plain_orders.specs.Owned as owned;
+ghost use Rattle.plain_orders.specs.Tallies.{AreSums, AreSumsOf};
 
-use crate::hour::open_names;
+use crate::hour::{list_names, open_names};
 use crate::placed::{PlacedBlock, PlacedOrder};
 use crate::sums::left;
-use crate::tally::entered_in;
+use crate::tally::{OrderSums, entered_in, sum_up};
 use event_history::History;
 use market_model::{Event, NoMemory, OrderName};
 use std::alloc::Global;
@@ -121,6 +122,49 @@ pub fn has_desk_room(alloc: Global, events: &History, name: OrderName) -> Result
         return Ok(true);
     }
     let names = open_names(alloc, events, name.hour)?;
+    Ok(count_others(names.as_slice(), name) < DESK_ROOM)
+}
+
+/// The same, from the sums of the hour: they are made where there are none yet, or take in the events
+/// that have come since, and stay for the next call.
+///
+/// # Errors
+///
+/// [`NoMemory`], where there is no memory for the sums of the hour or for its open names.
+pub fn has_desk_room_over(
+    alloc: Global,
+    events: &History,
+    sums: &mut Option<OrderSums>,
+    name: OrderName,
+) -> Result<bool, NoMemory>
+    requires history { IsSomeHistory events.now }
+    requires summed { IfSome sums.old (AreSums events.now name.hour) }
+    ensures has { IfOk result (λ has. has ≡ refusals.has_desk_room events.now name) }
+    ensures summed { IfSome sums.new (AreSums events.now name.hour) }
+    ensures kept { OnOk result (IsSome sums.new) }
+{
+    let summed = sum_up(alloc, events, name.hour, sums.take())?;
+    let has = has_room_by(alloc, events, &summed, name);
+    *sums = Some(summed);
+    has
+}
+
+// The same, by the sums of the hour over all events.
+fn has_room_by(
+    alloc: Global,
+    events: &History,
+    sums: &OrderSums,
+    name: OrderName,
+) -> Result<bool, NoMemory>
+    requires history { IsSomeHistory events.now }
+    requires sums { AreSumsOf events.now name.hour sums.now.tallies.items sums.now.orders.items sums.now.moment }
+    ensures { IfOk result (λ has. has ≡ refusals.has_desk_room events.now name) }
+{
+    let places = sums.tallies.len();
+    if places <= DESK_ROOM {
+        return Ok(true);
+    }
+    let names = list_names(alloc, events, name.hour, sums)?;
     Ok(count_others(names.as_slice(), name) < DESK_ROOM)
 }
 

@@ -1,8 +1,9 @@
 //! Orders and blocks as they entered.
 
 ghost use Rattle.std.specs.Prelude.{◌≡◌};
+ghost use Rattle.plain_orders.specs.Listed as listed;
 
-use market_model::{BlockOrder, Order, OrderName};
+use market_model::{BlockOrder, Event, Order, OrderName};
 use std::marker::Model;
 
 /// An order as it entered, which contracts see as the market's own record of it.
@@ -43,6 +44,24 @@ impl PlacedOrder {
         ensures { result ≡ self.now.order }
     {
         self.order
+    }
+}
+
+/// The order that an event enters, if it is named by an hour.
+pub(crate) fn order_given(event: &Event, hour: u32) -> Option<PlacedOrder>
+    ensures { result ≡ listed.order_given hour event.now }
+{
+    match event {
+        Event::Entered {
+            name,
+            caller,
+            order,
+        } if name.hour == hour => Some(PlacedOrder {
+            name: *name,
+            caller: *caller,
+            order: *order,
+        }),
+        _ => None,
     }
 }
 

@@ -1,12 +1,16 @@
 //! The sums of the orders and blocks of one hour, taken in one pass over the events.
 
-ghost use Rattle.std.specs.Prelude.{◌≡◌, ℕ, ◌+◌, ◌<◌, IfOk, OnOk, length, slice_index_or, if◌then◌else◌};
+ghost use Rattle.std.specs.Prelude.{◌≡◌, ℕ, ◌+◌, ◌<◌, ◌≤◌, [], ◌∷◌, ◌++◌, IfOk, IfSome, OnOk, length, slice_index_or, take, if◌then◌else◌};
+ghost use Rattle.event_history.specs.Near.{IsNear};
 ghost use Rattle.market_model.specs.History as history;
 ghost use Rattle.market_model.specs.Orders as orders;
 ghost use Rattle.order_kinds.specs.Same.{same_name};
 ghost use Rattle.plain_orders.specs.Histories.{IsSomeHistory};
+ghost use Rattle.std.specs.List.{filter_map};
+ghost use Rattle.plain_orders.specs.Listed.{order_given};
 ghost use Rattle.plain_orders.specs.Tallies as sums;
 
+use crate::placed::{PlacedOrder, order_given};
 use event_history::History;
 use market_model::{Event, Kind, NoMemory, OrderName};
 use std::alloc::Global;
@@ -111,6 +115,21 @@ fn ends_peak(kind: Kind, filled: u32) -> bool
     }
 }
 
+/// The sums of the orders and blocks of one hour over the first events of a history. Where more events
+/// have come since, they alone are taken in.
+#[derive(Debug, Drop)]
+pub struct OrderSums {
+    // What the events come to of each order and block, at its number in the hour: numbers count from 1,
+    // so the first place says nothing.
+    pub(crate) tallies: Vec<Tally>,
+    // The orders that entered, open or not.
+    pub(crate) orders: Vec<PlacedOrder>,
+    // How many of the events touch the hour.
+    moment: u64,
+    // How many events there are in all.
+    count: usize,
+}
+
 /// What the events come to of each order and block that is named by an hour, at its number in the
 /// hour: numbers count from 1, so the first place says nothing.
 pub(crate) fn tallies_of(alloc: Global, events: &History, hour: u32) -> Result<Vec<Tally>, NoMemory>
@@ -118,16 +137,80 @@ pub(crate) fn tallies_of(alloc: Global, events: &History, hour: u32) -> Result<V
     ensures size { IfOk result (λ made. length made.items ≡ sums.entered_in events.now hour + 1) }
     ensures tallies { IfOk result (λ made. sums.AreTallies events.now hour made.items) }
 {
-    let mut tallies = vec![in alloc; Tally::NOTHING; 1]?;
-    let mut moment = 0;
-    for event in events.near(hour) {
+    let summed = sum_up(alloc, events, hour, None)?;
+    Ok(summed.tallies)
+}
+
+/// The sums of an hour over all events: those that are given, with the events that have come since, or
+/// else all anew.
+pub(crate) fn sum_up(
+    alloc: Global,
+    events: &History,
+    hour: u32,
+    given: Option<OrderSums>,
+) -> Result<OrderSums, NoMemory>
+    requires history { IsSomeHistory events.now }
+    requires given { IfSome given (sums.AreSums events.now hour) }
+    ensures sums { IfOk result (λ made. sums.AreSumsOf events.now hour made.tallies.items made.orders.items made.moment) }
+    ensures count { IfOk result (λ made. made.count ≡ length events.now) }
+{
+    match given {
+        Some(given) => sum_on(events, events.as_slice(), hour, given.count, given),
+        None => {
+            let near = events.near(hour);
+            sum_on(events, near, hour, 0, no_sums(alloc, near.len())?)
+        }
+    }
+}
+
+// The sums over no event, with room for so many orders.
+fn no_sums(alloc: Global, room: usize) -> Result<OrderSums, NoMemory>
+    ensures { (hour : ℕ) → IfOk result (λ made. sums.AreSumsOf [] hour made.tallies.items made.orders.items made.moment) }
+{
+    let mut tallies = Vec::with_capacity(alloc, room)?;
+    tallies.push(Tally::NOTHING)?;
+    Ok(OrderSums {
+        tallies,
+        orders: Vec::with_capacity(alloc, room)?,
+        moment: 0,
+        count: 0,
+    })
+}
+
+// Takes in the events of a list from a place on, so that the sums of an hour are those of all events. The
+// list has all that touch the hour.
+fn sum_on(
+    events: &History,
+    near: &[Event],
+    hour: u32,
+    start: usize,
+    before: OrderSums,
+) -> Result<OrderSums, NoMemory>
+    requires history { IsSomeHistory events.now }
+    requires near { IsNear hour events.now near.now }
+    requires start { start ≤ length near.now }
+    requires before { sums.AreSumsOf (take start near.now) hour before.tallies.items before.orders.items before.moment }
+    ensures sums { IfOk result (λ made. sums.AreSumsOf events.now hour made.tallies.items made.orders.items made.moment) }
+    ensures count { IfOk result (λ made. made.count ≡ length events.now) }
+{
+    let mut tallies = before.tallies;
+    let mut orders = before.orders;
+    let mut moment = before.moment;
+    for place in start..near.len() {
+        let event = &near[place];
         if touches(event, hour) {
             moment += 1;
             make_place(&mut tallies, hour, event)?;
+            list(&mut orders, hour, event)?;
             take_in(tallies.as_mut_slice(), hour, moment, event);
         }
     }
-    Ok(tallies)
+    Ok(OrderSums {
+        tallies,
+        orders,
+        moment,
+        count: events.len(),
+    })
 }
 
 // Makes a place for what an event enters by the hour.
@@ -136,6 +219,17 @@ fn make_place(tallies: &mut Vec<Tally>, hour: u32, event: &Event) -> Result<(), 
 {
     if enters_in(event, hour) {
         tallies.push(Tally::NOTHING)?;
+    }
+    Ok(())
+}
+
+// Puts the order that an event enters by the hour, if it does, behind others.
+fn list(orders: &mut Vec<PlacedOrder>, hour: u32, event: &Event) -> Result<(), NoMemory>
+    ensures { OnOk result (orders.new.items ≡ orders.old.items ++ filter_map (order_given hour) (event.now ∷ [])) }
+{
+    match order_given(event, hour) {
+        Some(order) => orders.push(order)?,
+        None => {}
     }
     Ok(())
 }

@@ -12,6 +12,7 @@ use crate::steps::Step;
 use crate::takers::fresh_taker;
 use market_model::{Event, Names, NoMemory, Order, Pairs, Word};
 use match_core::take;
+use plain_matching::HourSums;
 use std::alloc::Global;
 use std::marker::Model;
 use std::test::Fail;
@@ -223,7 +224,8 @@ fn take_on(
     let taker = fresh_taker(number, caller, &order, moment);
     let mut plain = board.copy_events()?;
     take(alloc, board, grid, number_of(order.contract.part), taker)?;
-    plain_matching::take(alloc, grid, &mut plain, taker.name)?;
+    let mut sums = HourSums::none();
+    plain_matching::take(alloc, grid, &mut plain, &mut sums, taker.name)?;
     board.rest_hand()?;
     Ok(plain.as_slice() == board.events())
 }
@@ -247,6 +249,6 @@ fn sweep_on(
     let hour = board.hour();
     let mut plain = board.copy_events()?;
     sweep_core::sweep_opened(alloc, board, grid, hour, opened)?;
-    plain_matching::sweep(alloc, grid, &mut plain, hour)?;
+    plain_matching::sweep(alloc, grid, &mut plain, &mut HourSums::none(), hour)?;
     Ok(plain.as_slice() == board.events())
 }

@@ -44,3 +44,6 @@ returns-clause-kept c =
     ∙ taken-back c.args.grid.now c.args.events.now c.args.caller c.args.order.now c.enter_and_take.new.events c.basket_unfilled.new.events c.in_ok-name.name
     (length c.as_slice-before.result.now) (ap length c.as_slice-before.ensures) (taken c.args.grid.now c.args.events.now c.args.caller c.args.order.now c.enter_and_take.new.events c.in_ok-name.name (length c.as_slice-before.result.now)
     (ap length c.as_slice-before.ensures) c.in_ok-name.ensures.name c.in_ok-name.ensures.ok) c.basket_unfilled.ensures.cut
+
+pub enter_and_take-requires-clause-summed : goal.enter_and_take-requires-clause-summed
+enter_and_take-requires-clause-summed c = c.none.ensures c.args.grid.now c.args.events.now c.args.order.now.contract.hour

@@ -47,14 +47,17 @@ returns-in-Some-clause-kept c = λ _ _.
     (length c.as_slice-before.result.now) (ap length c.as_slice-before.ensures) (taken c.args.grid.now c.args.events.now c.args.caller c.args.order.now c.enter_and_take.new.events c.in_ok-name.name (length c.as_slice-before.result.now)
     (ap length c.as_slice-before.ensures) c.in_ok-name.ensures.name c.in_ok-name.ensures.ok) c.refusal_after.ensures.cut
 
-pub returns-in_ok-finish-in-None-clause-refusal : goal.returns-in_ok-finish-in-None-clause-refusal
-returns-in_ok-finish-in-None-clause-refusal c =
+pub returns-clause-refusal : goal.returns-clause-refusal
+returns-clause-refusal c =
     sym c.in-None.is
     ∙ order-found c.args.grid.now c.args.events.now c.args.caller c.args.order.now _ c.enter_and_take.new.events c.in_ok-name.name (taken c.args.grid.now c.args.events.now c.args.caller c.args.order.now c.enter_and_take.new.events c.in_ok-name.name (length c.as_slice-before.result.now)
     (ap length c.as_slice-before.ensures) c.in_ok-name.ensures.name c.in_ok-name.ensures.ok)
     c.in_ok-refusal.field-0 c.in_ok-refusal.ensures.refusal
 
-pub returns-in_ok-finish-in-None-clause-entered : goal.returns-in_ok-finish-in-None-clause-entered
-returns-in_ok-finish-in-None-clause-entered c =
+pub returns-clause-entered : goal.returns-clause-entered
+returns-clause-entered c =
     λ _. entered-is all_parts c.args.grid.now c.args.events.now c.refusal_after.new.events c.finish.new.events c.args.caller c.args.order.now c.in_ok-name.name
     (c.in_ok-refusal.ensures.kept (ap Ok c.in-None.is) ∙ c.in_ok-name.ensures.ok) c.in_ok-name.ensures.name c.in_ok-finish-in-None.ensures.ok
+
+pub enter_and_take-requires-clause-summed : goal.enter_and_take-requires-clause-summed
+enter_and_take-requires-clause-summed c = c.none-sums.ensures c.args.grid.now c.args.events.now c.args.order.now.contract.hour

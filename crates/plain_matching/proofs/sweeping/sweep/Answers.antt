@@ -1,7 +1,9 @@
-use Rattle.std.proofs.Common.{◌≡◌, ◌∙◌, ◌<◌, List, Some, None, subst, sym}
+use Rattle.std.proofs.Common.{◌≡◌, ◌∙◌, ◌<◌, List, [], ◌∷◌, Some, None, subst, sym}
 use Rattle.market_model.specs.declared.event.Event.{Event}
 use Rattle.market_model.specs.Sweep.{all_parts, left_in_hour, sweep, sweep_leg}
 use Rattle.plain_capacity.specs.Hour.{IsLegalOver}
+use Rattle.plain_matching.specs.Summed.{AreHourSums}
+use Rattle.plain_matching.proofs.Sums.{hour_sums-grow}
 use Rattle.plain_matching.proofs.Legs.{IsSoFar, all-so_far, more-so_far, sweep-next, sweep-end}
 use Rattle.plain_matching.proofs.sweeping.sweep.Goals as goal
 
@@ -22,6 +24,8 @@ loop-leg-preserved c =
       so_far = subst (λ history. IsSoFar legs c.args.events.now history) (sym c.in_ok-push.ensures.ok)
           (more-so_far legs c.args.events.now c.loop-leg.events c.in-Some.leg c.loop-leg.invariant.so_far next.onward);
       legal = subst (λ history. IsLegalOver c.args.grid.now history) (sym c.in_ok-push.ensures.ok) next.legal;
+      summed = subst (λ history. AreHourSums c.args.grid.now history c.args.hour c.sweep_leg.new.sums) (sym c.in_ok-push.ensures.ok)
+          (hour_sums-grow c.args.grid.now c.loop-leg.events (c.in-Some.leg ∷ []) c.args.hour c.sweep_leg.new.sums c.sweep_leg.ensures.summed);
     }
 
 pub returns-clause-ok : goal.returns-clause-ok

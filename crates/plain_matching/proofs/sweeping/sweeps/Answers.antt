@@ -9,7 +9,10 @@ loop-hour-init c = record {
 }
 
 pub sweep-requires : goal.sweep-requires
-sweep-requires c = record { legal = c.loop-hour.invariant.legal }
+sweep-requires c = record {
+  legal = c.loop-hour.invariant.legal;
+  summed = c.none.ensures c.args.grid.now c.loop-hour.events c.loop-hour.hour;
+}
 
 pub returns-in_err-sweep-clause-err : goal.returns-in_err-sweep-clause-err
 returns-in_err-sweep-clause-err c = search (rules, grew-on)

@@ -14,15 +14,15 @@ prove-unreachable-requires c =
     own-sound c.args.grid.now c.args.events.now c.args.orders.now c.args.own.now c.requires.legal c.requires.orders c.requires.own in
     omega (arith, sound.in_zone, c.if-prove.true, c.zones-zones.ensures.count, ap (λ (o : Order). o.zone) c.order-order.ensures)
 
-pub returns-then-not-has_crossing : goal.returns-then-not-has_crossing
-returns-then-not-has_crossing c =
+pub returns-then-not-has_crossing-clause-leg : goal.returns-then-not-has_crossing-clause-leg
+returns-then-not-has_crossing-clause-leg c =
     apart-leg c.args.grid.now c.args.events.now c.args.own.now c.as_slice.result.now
     (other_line-is c.args.grid.now c.args.events.now c.args.orders.now c.args.own.now c.order-order.result c.opposite.result c.in_ok-line.line.items c.as_slice.result.now
     c.requires.legal c.requires.orders c.order-order.ensures c.opposite.ensures c.in_ok-line.ensures c.as_slice.ensures.value)
     (sym c.if-not-has_crossing.ensures)
 
-pub contract_rooms-requires-clause-part : goal.contract_rooms-requires-clause-part
-contract_rooms-requires-clause-part c =
+pub contract_rooms_over-requires-clause-part : goal.contract_rooms_over-requires-clause-part
+contract_rooms_over-requires-clause-part c =
     subst (λ (o : Order). is_known o.contract.part ≡ true) (sym c.order-order.ensures)
     (own-sound c.args.grid.now c.args.events.now c.args.orders.now c.args.own.now c.requires.legal c.requires.orders c.requires.own).in_part
 
@@ -39,8 +39,8 @@ trade-requires-clause-maker c =
     (record { size = c.in_ok-rooms.ensures.size; rooms = c.in_ok-rooms.ensures.rooms }) in
     partner-known c.args.grid.now (room_of c.in_ok-rooms.rooms) c.as_slice-2.result.now c.args.own.now c.in-Some.other r.in_zones (sym c.in-Some.ensures)
 
-pub returns-in-Some : goal.returns-in-Some
-returns-in-Some c =
+pub returns-in-Some-clause-leg : goal.returns-in-Some-clause-leg
+returns-in-Some-clause-leg c =
     let r = ready c.args.grid.now c.args.events.now c.args.orders.now c.args.own.now c.order-order.result c.opposite.result c.in_ok-line.line.items c.as_slice-2.result.now
     c.in_ok-rooms.rooms c.requires.legal c.requires.orders c.order-order.ensures c.opposite.ensures c.in_ok-line.ensures c.as_slice-2.ensures.value
     (record { size = c.in_ok-rooms.ensures.size; rooms = c.in_ok-rooms.ensures.rooms }) in
@@ -50,8 +50,8 @@ returns-in-Some c =
     (leg-here c.args.grid.now c.zones-zones.ensures.grid.is_graph c.args.events.now c.args.own.now.order.contract c.in_ok-rooms.rooms r.are
     c.args.own.now c.in-Some.other refl found) c.trade.ensures
 
-pub returns : goal.returns
-returns c =
+pub returns-clause-leg : goal.returns-clause-leg
+returns-clause-leg c =
     let r = ready c.args.grid.now c.args.events.now c.args.orders.now c.args.own.now c.order-order.result c.opposite.result c.in_ok-line.line.items c.as_slice-2.result.now
     c.in_ok-rooms.rooms c.requires.legal c.requires.orders c.order-order.ensures c.opposite.ensures c.in_ok-line.ensures c.as_slice-2.ensures.value
     (record { size = c.in_ok-rooms.ensures.size; rooms = c.in_ok-rooms.ensures.rooms }) in

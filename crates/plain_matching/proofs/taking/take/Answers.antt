@@ -1,8 +1,10 @@
-use Rattle.std.proofs.Common.{◌≡◌, ◌∙◌, ◌<◌, List, Some, None, subst, sym}
+use Rattle.std.proofs.Common.{◌≡◌, ◌∙◌, ◌<◌, List, [], ◌∷◌, Some, None, subst, sym}
 use Rattle.market_model.specs.declared.event.Event.{Event}
 use Rattle.market_model.specs.Orders.{left}
 use Rattle.market_model.specs.Taking.{next_leg, take}
 use Rattle.plain_capacity.specs.Hour.{IsLegalOver}
+use Rattle.plain_matching.specs.Summed.{AreHourSums}
+use Rattle.plain_matching.proofs.Sums.{hour_sums-grow}
 use Rattle.plain_matching.proofs.Legs.{IsSoFar, all-so_far, more-so_far, take-next, take-end}
 use Rattle.plain_matching.proofs.taking.take.Goals as goal
 
@@ -23,6 +25,8 @@ loop-leg-preserved c =
       so_far = subst (λ history. IsSoFar legs c.args.events.now history) (sym c.in_ok-push.ensures.ok)
           (more-so_far legs c.args.events.now c.loop-leg.events c.in-Some.leg c.loop-leg.invariant.so_far next.onward);
       legal = subst (λ history. IsLegalOver c.args.grid.now history) (sym c.in_ok-push.ensures.ok) next.legal;
+      summed = subst (λ history. AreHourSums c.args.grid.now history c.args.name.hour c.next_leg.new.sums) (sym c.in_ok-push.ensures.ok)
+          (hour_sums-grow c.args.grid.now c.loop-leg.events (c.in-Some.leg ∷ []) c.args.name.hour c.next_leg.new.sums c.next_leg.ensures.summed);
     }
 
 pub returns-clause-ok : goal.returns-clause-ok

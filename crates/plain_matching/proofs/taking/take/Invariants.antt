@@ -1,14 +1,16 @@
 use Rattle.market_model.specs.Orders.{left}
 use Rattle.market_model.specs.Taking.{take}
 use Rattle.plain_capacity.specs.Hour.{IsLegalOver}
+use Rattle.plain_matching.specs.Summed.{AreHourSums}
 use Rattle.plain_matching.proofs.Legs.{IsSoFar}
 use Rattle.plain_matching.proofs.taking.take.Given as goal
 
--- a first part of the legs was made, and the history is legal
+-- a first part of the legs was made, the history is legal, and what was summed up is of its events
 abbrev pub invariant-loop-leg : goal.invariant-loop-leg
 invariant-loop-leg l = record {
   so_far : IsSoFar (λ history. take l.grid history l.name) l.initial.events l.events;
   legal : IsLegalOver l.grid l.events;
+  summed : AreHourSums l.grid l.events l.name.hour l.sums;
 }
 
 -- each leg lowers what is left of the order

@@ -1,17 +1,10 @@
-use Rattle.std.proofs.Common.{◌∙◌, ap}
-use Rattle.plain_capacity.specs.Hour.{Capacity}
-use Rattle.plain_capacity.proofs.Hours.{each, halts_back, noted_back}
+use Rattle.std.proofs.Common.{subst, sym}
+use Rattle.plain_capacity.specs.Hour.{rows_in}
+use Rattle.plain_capacity.specs.Rows.{CanCarry}
+use Rattle.plain_capacity.proofs.HourLegs.{leg-can, leg-noted}
 use Rattle.plain_capacity.proofs.hour.HourCapacity.note.Goals as goal
 
-pub returns-clause-quarters : goal.returns-clause-quarters
-returns-clause-quarters c =
-    each _
-    (noted_back _ _ c.args.event.now _ _ _ _ _ c.quarter_of.ensures (c.as_mut_slice.ensures.value ∙ ap (λ (v : Capacity). v.first) c.self.view_is) c.as_mut_slice.ensures.len c.note.ensures)
-    (noted_back _ _ c.args.event.now _ _ _ _ _ c.quarter_of-2.ensures (c.as_mut_slice-2.ensures.value ∙ ap (λ (v : Capacity). v.second) c.self.view_is) c.as_mut_slice-2.ensures.len c.note-2.ensures)
-    (noted_back _ _ c.args.event.now _ _ _ _ _ c.quarter_of-3.ensures (c.as_mut_slice-3.ensures.value ∙ ap (λ (v : Capacity). v.third) c.self.view_is) c.as_mut_slice-3.ensures.len c.note-3.ensures)
-    (noted_back _ _ c.args.event.now _ _ _ _ _ c.quarter_of-4.ensures (c.as_mut_slice-4.ensures.value ∙ ap (λ (v : Capacity). v.fourth) c.self.view_is) c.as_mut_slice-4.ensures.len c.note-4.ensures)
-
-pub returns-clause-halts : goal.returns-clause-halts
-returns-clause-halts c = λ border within.
-    halts_back c.args.hour border c.args.event.now _ _ _ _ _ (c.as_mut_slice-5.ensures.value ∙ ap (λ (v : Capacity). v.halted) c.self.view_is)
-    c.as_mut_slice-5.ensures.len c.note_halt.auto.halted (c.note_halt.ensures border) within
+pub carry-requires : goal.carry-requires
+carry-requires c = λ number first last.
+    subst (λ route. CanCarry (rows_in c.args.self.now number) route c.in-Some.leg.now.lots) (sym c.as_slice.ensures)
+    (leg-can c.args.hour c.in-Some.leg.now c.args.event.now c.args.self.now c.in-Some.ensures c.requires number first last)

@@ -5,30 +5,30 @@ use Rattle.std.specs.Vec.{vec_len}
 use Rattle.market_model.specs.Orders.{is_open, name_given}
 use Rattle.plain_orders.proofs.Listing.{filtered-more, filtered-same, listed-same, name-at, told-at}
 use Rattle.plain_orders.proofs.Near.{near-at, near-names}
-use Rattle.plain_orders.proofs.hour.open_names.Goals as goal
-use Rattle.plain_orders.proofs.hour.open_names.Goals.{in-Some+then-index-gt0+in_ok-push-in-Some, in-Some+else-index-gt0, in-None}
+use Rattle.plain_orders.proofs.hour.list_names.Goals as goal
+use Rattle.plain_orders.proofs.hour.list_names.Goals.{in-Some+then-index-gt0+in_ok-push-in-Some, in-Some+else-index-gt0, in-None}
 
 pub index-requires : goal.index-requires
 index-requires c =
     let here = near-at c.args.hour c.args.events.now c.near-event-items.result.now c.requires.history c.near-event-items.ensures c.loop-event.event-index c.event-item.result c.loop-event-test.true c.event-item.is in
     let at = name-at c.args.events.now here.there c.event-item.result c.args.hour c.in-Some.name c.requires.history here.within here.is
     (sym c.name_given.ensures ∙ c.in-Some.is) in
-    let size = c.in_ok-tallies.ensures.size in
-    let long = c.in_ok-tallies.tallies.ok.0 in
-    at.has_place (vec_len c.in_ok-tallies.tallies) (omega (arith, size, long))
+    let size = c.requires.sums.size in
+    let long = c.args.sums.now.tallies.ok.0 in
+    at.has_place (vec_len c.args.sums.now.tallies) (omega (arith, size, long))
 
 pub loop-event-preserved : goal.loop-event-preserved
 loop-event-preserved c =
     let here = near-at c.args.hour c.args.events.now c.near-event-items.result.now c.requires.history c.near-event-items.ensures c.loop-event.event-index c.event-item.result c.loop-event-test.true c.event-item.is in
-    let size = c.in_ok-tallies.ensures.size in
+    let size = c.requires.sums.size in
     let was = c.loop-event.invariant in
     elim c.match-name_given.branch [
       | in-Some+then-index-gt0+in_ok-push-in-Some w ↦
           let given : name_given c.args.hour c.event-item.result ≡ Some w.in-Some.name = sym c.name_given.ensures ∙ w.in-Some.is in
           let at = name-at c.args.events.now here.there c.event-item.result c.args.hour w.in-Some.name c.requires.history here.within here.is given in
-          let within = at.has_place (length c.in_ok-tallies.tallies.items) (omega (arith, size)) in
-          let opened = at.opens w.index.result.now (told-at c.args.events.now c.args.hour w.in-Some.name w.in-Some.name c.in_ok-tallies.tallies.items
-          w.index.result.now refl c.in_ok-tallies.ensures.tallies within w.index.ensures) w.if-index-gt0.true in
+          let within = at.has_place (length c.args.sums.now.tallies.items) (omega (arith, size)) in
+          let opened = at.opens w.index.result.now (told-at c.args.events.now c.args.hour w.in-Some.name w.in-Some.name c.args.sums.now.tallies.items
+          w.index.result.now refl c.requires.sums.tell within w.index.ensures) w.if-index-gt0.true in
           let more = filtered-more (name_given c.args.hour) (is_open c.args.events.now) (take (c.loop-event.event-index + 1) c.near-event-items.result.now)
           (take c.loop-event.event-index c.near-event-items.result.now) c.event-item.result w.in-Some.name here.more given opened in
           let pushed = w.in_ok-push-in-Some.ensures.items in
@@ -36,9 +36,9 @@ loop-event-preserved c =
       | in-Some+else-index-gt0 w ↦
           let given : name_given c.args.hour c.event-item.result ≡ Some w.in-Some.name = sym c.name_given.ensures ∙ w.in-Some.is in
           let at = name-at c.args.events.now here.there c.event-item.result c.args.hour w.in-Some.name c.requires.history here.within here.is given in
-          let within = at.has_place (length c.in_ok-tallies.tallies.items) (omega (arith, size)) in
-          let closed = at.closes w.index.result.now (told-at c.args.events.now c.args.hour w.in-Some.name w.in-Some.name c.in_ok-tallies.tallies.items
-          w.index.result.now refl c.in_ok-tallies.ensures.tallies within w.index.ensures) w.if-index-gt0.false in
+          let within = at.has_place (length c.args.sums.now.tallies.items) (omega (arith, size)) in
+          let closed = at.closes w.index.result.now (told-at c.args.events.now c.args.hour w.in-Some.name w.in-Some.name c.args.sums.now.tallies.items
+          w.index.result.now refl c.requires.sums.tell within w.index.ensures) w.if-index-gt0.false in
           let same = filtered-same (name_given c.args.hour) (is_open c.args.events.now) (take (c.loop-event.event-index + 1) c.near-event-items.result.now)
           (take c.loop-event.event-index c.near-event-items.result.now) c.event-item.result w.in-Some.name here.more given closed in
           rw w.names-is (was ∙ sym same)
