@@ -1,55 +1,65 @@
 //! Refreshes near drawn changes, beside views that are made anew.
 
 use crate::grids::DIAMOND;
-use crate::near::{forgets_near, lists_near};
+use crate::near::{Near, adopted_near, dropped_near};
 use std::alloc::Global;
+use std::process::Abort;
 use std::test::Fail;
 use worked_boards::{Draws, HOUR, PARTS, Refused, SmallMarket, Step};
 
-// How many lists a refresh near a step that was drawn computes: none, where it shows something else than one
-// of all does, or where the plain market makes something else of the step.
-fn lists_of_step(
-    alloc: Global,
-    market: &mut SmallMarket,
-    step: &Step,
-) -> Result<Option<u64>, Refused> {
+// What refreshes near a step that was drawn make.
+fn near_step(alloc: Global, market: &mut SmallMarket, step: &Step) -> Result<Near, Refused> {
     market.keep()?;
-    if market.play_drawn(step)? && forgets_near(alloc, market)? {
-        lists_near(alloc, market)
-    } else {
-        Ok(None)
+    if !market.play_drawn(step)? {
+        return Ok(Near::OtherStep);
+    }
+    match dropped_near(alloc, market)? {
+        Near::Alike { .. } => adopted_near(alloc, market),
+        other => Ok(other),
     }
 }
 
-/// How many lists refreshes near so many drawn steps compute in all: none, where one of them shows something
-/// else than a refresh of all.
-pub(crate) fn lists_drawn(alloc: Global, seed: u64, steps: u32) -> Result<Option<u64>, Fail> {
+/// Refreshes near so many drawn steps make the views that are made anew, by some lists and by fewer than all
+/// parts, sides and four zones have.
+pub(crate) fn check_near<R: Abort>(
+    rt: &R,
+    alloc: Global,
+    seed: u64,
+    steps: u32,
+) -> Result<(), Fail> {
     let mut market = SmallMarket::new(alloc, 4, &DIAMOND, HOUR)?;
-    Ok(lists_on(alloc, &mut market, seed, steps)?)
+    let lists = lists_of(rt, alloc, &mut market, seed, steps)?;
+    let all = u64::from(steps) * u64::from(PARTS) * 8;
+    assert!(rt;
+        0 < lists && lists < all,
+        "seed {seed}: {lists} lists of {all}"
+    );
+    Ok(())
 }
 
-// The same, on a market.
-fn lists_on(
+// By how many lists they make them.
+fn lists_of<R: Abort>(
+    rt: &R,
     alloc: Global,
     market: &mut SmallMarket,
     seed: u64,
     steps: u32,
-) -> Result<Option<u64>, Refused> {
+) -> Result<u64, Refused> {
     let mut draws = Draws::new(seed);
     let mut lists: u64 = 0;
-    for _ in 0..steps {
-        match lists_of_step(alloc, market, &draws.step())? {
-            Some(count) => lists = lists.saturating_add(count),
-            None => return Ok(None),
-        }
+    for step in 0..steps {
+        let near = near_step(alloc, market, &draws.step())?;
+        lists = lists.saturating_add(lists_alike(rt, near, seed, step));
     }
-    Ok(Some(lists))
+    Ok(lists)
 }
 
-/// Whether there are some lists, and fewer than all parts, sides and four zones have in so many steps.
-pub(crate) fn are_few(lists: Option<u64>, steps: u32) -> bool {
-    match lists {
-        Some(count) => 0 < count && count < u64::from(steps) * u64::from(PARTS) * 8,
-        None => false,
-    }
+// By how many lists the refreshes near a step make the views that are made anew.
+fn lists_alike<R: Abort>(rt: &R, near: Near, seed: u64, step: u32) -> u64 {
+    let lists = match near {
+        Near::Alike { lists } => lists,
+        _ => 0,
+    };
+    assert_eq!(rt; near, Near::Alike { lists }, "seed {seed}, step {step}");
+    lists
 }

@@ -7,6 +7,7 @@ use crate::crossing::crossed_parts;
 use crate::grids::TWO_ZONES;
 use market_model::{Event, Part};
 use std::alloc::Global;
+use std::process::Abort;
 use std::test::Fail;
 use sweep_core::PartSet;
 use worked_boards::{Draws, HOUR, Refused, SmallMarket, Step, order};
@@ -97,39 +98,41 @@ fn sweep_after(market: &mut SmallMarket, step: &Step) -> Result<Swept, Refused> 
     })
 }
 
-/// How many sweeps after an offer in one quarter alone make legs in fewer parts than all, among so many drawn
-/// steps: none, where a sweep makes something else than the plain market's.
-pub(crate) fn count_drawn(
+/// So many drawn steps, each with a sweep of the parts that cross, are those of the plain market. Tells how many
+/// of the sweeps after an offer in one quarter alone make legs in fewer parts than all.
+pub(crate) fn check_drawn<R: Abort>(
+    rt: &R,
     alloc: Global,
     zones: u8,
     pairs: &[(u32, u32)],
     seed: u64,
     steps: u32,
-) -> Result<Option<u32>, Fail>
+) -> Result<u32, Fail>
     requires some { 0 < zones }
     requires pairs { list_all (λ ends. nat_lt ends.0 zones && nat_lt ends.1 zones) pairs.now ≡ true }
 {
     let mut market = SmallMarket::new(alloc, zones, pairs, HOUR)?;
-    Ok(count_on(&mut market, u32::from(zones), seed, steps)?)
+    Ok(check_on(rt, &mut market, u32::from(zones), seed, steps)?)
 }
 
 // The same, on a market over so many zones.
-fn count_on(
+fn check_on<R: Abort>(
+    rt: &R,
     market: &mut SmallMarket,
     zones: u32,
     seed: u64,
     steps: u32,
-) -> Result<Option<u32>, Refused>
+) -> Result<u32, Refused>
     requires some { 0 < zones }
 {
     let mut draws = Draws::new(seed);
     let mut count: u32 = 0;
-    for _ in 0..steps {
-        match sweep_after(market, &step_drawn(&mut draws, zones))? {
-            Swept::Otherwise => return Ok(None),
-            Swept::OfFew(1..) => count = count.saturating_add(1),
-            Swept::OfFew(0) | Swept::OfAll => {}
+    for step in 0..steps {
+        let swept = sweep_after(market, &step_drawn(&mut draws, zones))?;
+        assert_ne!(rt; swept, Swept::Otherwise, "seed {seed}, step {step}");
+        if matches!(swept, Swept::OfFew(1..)) {
+            count = count.saturating_add(1);
         }
     }
-    Ok(Some(count))
+    Ok(count)
 }

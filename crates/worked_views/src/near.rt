@@ -13,65 +13,88 @@ use std::alloc::Global;
 use worked_boards::{PARTS, Refused, SmallBoard, SmallMarket, contract_at};
 use zone_graph::{Grid, Rooms};
 
-/// How many lists a refresh near what has changed since the board of a market was kept computes in all parts
-/// and sides: none, where it does not compute just the lists of the zones that can trade with a touched one,
-/// where the kept rows do not stay as they were until they are taken over, or where those are not then the
-/// views that are made anew.
+/// What refreshes near a change make.
+#[derive(Clone, Copy, Debug, PartialEq, Eq)]
+pub(crate) enum Near {
+    /// The views that are made anew, by so many lists.
+    Alike { lists: u64 },
+    /// In this part, other lists than those of the zones that can trade with a touched one.
+    OtherLists { part: u32 },
+    /// Rows that are kept change before the next ones are taken over.
+    KeptRowsChange,
+    /// Rows that are taken over are not the views that are made anew.
+    OtherRows,
+    /// Next rows are shown after they are dropped.
+    DroppedRowsShow,
+    /// The plain market makes something else of the step before.
+    OtherStep,
+}
+
+/// What a refresh in all parts and sides makes, near what has changed since the board of a market was kept,
+/// until its rows are taken over and then.
 ///
 /// # Errors
 ///
 /// [`Refused`], where an order is in hand, or where memory is wanting.
-pub(crate) fn lists_near(alloc: Global, market: &SmallMarket) -> Result<Option<u64>, Refused> {
+pub(crate) fn adopted_near(alloc: Global, market: &SmallMarket) -> Result<Near, Refused> {
     let before = market.former();
     let board = market.board();
-    near_alike(alloc, before, board, market.grid())
+    adopted_over(alloc, before, board, market.grid())
 }
 
 // The same, of two boards.
-fn near_alike(
+fn adopted_over(
     alloc: Global,
     before: &SmallBoard,
     board: &SmallBoard,
     grid: &Grid,
-) -> Result<Option<u64>, Refused>
+) -> Result<Near, Refused>
     requires before { grid.now ≡ before.now.grid }
     requires grid { grid.now ≡ board.now.grid }
 {
     let mut near = views_of(alloc, before, grid)?;
-    let lists = refresh_near(alloc, before, board, grid, &mut near)?;
+    let refreshed = refresh_near(alloc, before, board, grid, &mut near)?;
     let stay = shows_views(alloc, before, grid, &near)?;
     adopt(&mut near, grid);
     let are_taken = shows_views(alloc, board, grid, &near)?;
-    Ok(if stay && are_taken { lists } else { None })
+    Ok(match (stay, are_taken) {
+        (true, true) => refreshed,
+        (true, false) => Near::OtherRows,
+        (false, _) => Near::KeptRowsChange,
+    })
 }
 
-/// Whether the kept rows stay as they were, where next ones are made near what has changed since the board of
-/// a market was kept, dropped, and taken over then.
+/// The same of a refresh whose rows are dropped before any are taken over.
 ///
 /// # Errors
 ///
 /// [`Refused`], where an order is in hand, or where memory is wanting.
-pub(crate) fn forgets_near(alloc: Global, market: &SmallMarket) -> Result<bool, Refused> {
+pub(crate) fn dropped_near(alloc: Global, market: &SmallMarket) -> Result<Near, Refused> {
     let before = market.former();
     let board = market.board();
-    forgets_alike(alloc, before, board, market.grid())
+    dropped_over(alloc, before, board, market.grid())
 }
 
 // The same, of two boards.
-fn forgets_alike(
+fn dropped_over(
     alloc: Global,
     before: &SmallBoard,
     board: &SmallBoard,
     grid: &Grid,
-) -> Result<bool, Refused>
+) -> Result<Near, Refused>
     requires before { grid.now ≡ before.now.grid }
     requires grid { grid.now ≡ board.now.grid }
 {
     let mut near = views_of(alloc, before, grid)?;
-    let lists = refresh_near(alloc, before, board, grid, &mut near)?;
+    let refreshed = refresh_near(alloc, before, board, grid, &mut near)?;
     forget(&mut near, grid);
     adopt(&mut near, grid);
-    Ok(lists.is_some() && shows_views(alloc, before, grid, &near)?)
+    let stay = shows_views(alloc, before, grid, &near)?;
+    Ok(if stay {
+        refreshed
+    } else {
+        Near::DroppedRowsShow
+    })
 }
 
 // Whether the kept rows are the views of a board that are made anew.
@@ -88,15 +111,15 @@ fn shows_views(
     Ok(are_same(grid, &whole, views))
 }
 
-// Refreshes the views of all parts and sides near what has changed, and tells how many lists that computes;
-// none, where it does not compute just those of the zones that can trade with a touched one.
+// Refreshes the views of all parts and sides near what has changed, and tells by how many lists, or in which
+// part by others than those of the zones that can trade with a touched one.
 fn refresh_near(
     alloc: Global,
     before: &SmallBoard,
     board: &SmallBoard,
     grid: &Grid,
     views: &mut LocalViews,
-) -> Result<Option<u64>, Refused>
+) -> Result<Near, Refused>
     requires before { grid.now ≡ before.now.grid }
     requires grid { grid.now ≡ board.now.grid }
     requires views { AreViewsOf before.now views.old }
@@ -105,10 +128,11 @@ fn refresh_near(
     let made = views.made();
     for part in 0..PARTS {
         if !are_near(alloc, before, board, grid, part, views)? {
-            return Ok(None);
+            return Ok(Near::OtherLists { part });
         }
     }
-    Ok(views.made().checked_sub(made))
+    let lists = views.made().saturating_sub(made);
+    Ok(Near::Alike { lists })
 }
 
 // Refreshes the views of the two sides of a part, and says whether just the right lists were computed.

@@ -1,6 +1,6 @@
 //! Sweeps of the parts alone that cross are those of all.
 
-use crate::few_parts::{Swept, count_drawn, swept_after};
+use crate::few_parts::{Swept, check_drawn, swept_after};
 use crate::grids::{DIAMOND, TWO_ZONES};
 use market_model::{Part, Side};
 use std::test::Fail;
@@ -29,9 +29,7 @@ fn sweeps_between_two_zones_of_the_parts_that_cross_are_those_of_all(
 ) -> Result<(), Fail> {
     let mut few: u32 = 0;
     for seed in 1..6u64 {
-        let count = count_drawn(rt.alloc(), 2, &TWO_ZONES, seed, 100)?;
-        assert!(rt; count.is_some(), "seed {seed}");
-        few = few.saturating_add(count.unwrap_or(0));
+        few = few.saturating_add(check_drawn(&rt, rt.alloc(), 2, &TWO_ZONES, seed, 100)?);
     }
     assert!(rt; 5 < few, "{few} sweeps of few parts have legs");
     Ok(())
@@ -43,9 +41,7 @@ fn sweeps_over_a_diamond_of_the_parts_that_cross_are_those_of_all(
 ) -> Result<(), Fail> {
     let mut few: u32 = 0;
     for seed in 1..6u64 {
-        let count = count_drawn(rt.alloc(), 4, &DIAMOND, seed, 100)?;
-        assert!(rt; count.is_some(), "seed {seed}");
-        few = few.saturating_add(count.unwrap_or(0));
+        few = few.saturating_add(check_drawn(&rt, rt.alloc(), 4, &DIAMOND, seed, 100)?);
     }
     assert!(rt; 5 < few, "{few} sweeps of few parts have legs");
     Ok(())
