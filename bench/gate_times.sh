@@ -5,8 +5,9 @@
 #     bench/gate_times.sh            all crates
 #     bench/gate_times.sh NAME..     these crates and those below them
 #
-# It runs `rt ci --anew`, which takes nothing from earlier runs, and reads every fifth of a second
-# what each process of the prover has used so far, with those that it waited for. The last fifth of a
+# It runs `rt ci`, where that keeps what passes with `--anew`, so that nothing is taken from earlier runs (a toolchain
+# that keeps nothing takes no names either), and reads every fifth of a second what each process of the prover has used
+# so far, with those that it waited for. The last fifth of a
 # second of each is lost, so the figures are about a hundredth too low. The gate's own lines go to
 # standard error.
 set -u
@@ -50,7 +51,9 @@ def look(session, known, used):
             continue  # it ended meanwhile, or is none of the prover's checks
 
 
-gate = subprocess.Popen(["rt", "ci", "--anew", *names], cwd=top, stdout=sys.stderr, start_new_session=True)
+said = subprocess.run(["rt", "help"], capture_output=True, text=True)
+anew = ["--anew"] if "--anew" in said.stdout + said.stderr else []
+gate = subprocess.Popen(["rt", "ci", *anew, *names], cwd=top, stdout=sys.stderr, start_new_session=True)
 begun, known, used = time.monotonic(), {}, {}
 while gate.poll() is None:
     look(gate.pid, known, used)
