@@ -11,6 +11,26 @@ use plain_orders::StandingOrder;
 use plain_routes::{ReachedZones, reached};
 use zone_graph::{Grid, Rooms};
 
+/// The partner of an order, where a price of the line crosses at all: only then the zones in reach are
+/// searched. The rooms are those of the order's contract.
+pub(crate) fn crossing_partner(
+    grid: &Grid,
+    rooms: &Rooms,
+    line: &[StandingOrder],
+    own: &StandingOrder,
+) -> Option<StandingOrder>
+    requires size { length rooms.now ≡ border_count grid.now }
+    requires line { over.AreInZones grid.now line.now }
+    requires own { HasZone grid.now own.now.order.zone }
+    ensures { result ≡ over.partner_in grid.now (room_of rooms.now) line.now own.now }
+{
+    if has_crossing(line, own) {
+        partner(grid, rooms, line, own)
+    } else {
+        None
+    }
+}
+
 /// The partner of an order: the first of a line of the other side whose price crosses and to which a
 /// route over arcs with room leads, from the seller to the buyer. The rooms are those of the order's
 /// contract.
@@ -25,9 +45,6 @@ pub(crate) fn partner(
     requires own { HasZone grid.now own.now.order.zone }
     ensures { result ≡ over.partner_in grid.now (room_of rooms.now) line.now own.now }
 {
-    if !has_crossing(line, own) {
-        return None;
-    }
     let order = own.order();
     let count = grid.zones();
     prove!(order.zone < count);

@@ -16,7 +16,7 @@ ghost use Rattle.plain_matching.specs.Over as over;
 ghost use Rattle.plain_matching.specs.Summed.{AreHourSums};
 
 use crate::hour_sums::HourSums;
-use crate::partner::{first_crosses, partner};
+use crate::partner::{crossing_partner, first_crosses};
 use crate::trade::resting_trade;
 use event_history::History;
 use market_model::{Contract, Event, NoMemory, Part, Side};
@@ -220,7 +220,7 @@ fn leg_of_buy(
     requires buy { HasZone grid.now buy.now.order.zone }
     ensures { IfOk result (λ leg. leg ≡ over.leg_of_buy_over grid.now (room_of rooms.now) sells.now buy.now) }
 {
-    match partner(grid, rooms, sells, buy) {
+    match crossing_partner(grid, rooms, sells, buy) {
         Some(sell) => resting_trade(alloc, grid, rooms, buy, &sell),
         None => Ok(None),
     }
