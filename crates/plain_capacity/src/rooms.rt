@@ -8,7 +8,7 @@ ghost use Rattle.zone_graph.specs.Graph as graphs;
 ghost use Rattle.zone_graph.specs.Rooms as rows;
 ghost use Rattle.market_model.specs.Room as rooms;
 ghost use Rattle.plain_capacity.specs.Hour as hours;
-ghost use Rattle.plain_capacity.specs.Sums.{AreCapacitySums};
+ghost use Rattle.plain_capacity.specs.Sums.{AreCapacitySums, IsCurrent};
 
 use crate::hour::{HourCapacity, hour_capacity};
 use event_history::History;
@@ -62,6 +62,7 @@ pub fn contract_rooms_over(
     ensures rooms { IfOk result (λ made. (arc : Arc) → graphs.HasArc grid.now arc → rows.room_of made arc ≡ rooms.room events.now (periods.contract_quarters contract) arc) }
     ensures summed { IfSome capacity.new (AreCapacitySums grid.now events.now contract.hour) }
     ensures kept { OnOk result (IsSome capacity.new) }
+    ensures current { IfSome capacity.new (IsCurrent events.now) }
 {
     let summed = sum_up(alloc, grid, events, contract.hour, capacity.take())?;
     let rooms = summed.rooms(grid, contract.part)?;

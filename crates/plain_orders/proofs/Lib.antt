@@ -1,3 +1,4 @@
+pub mod Best
 pub mod Changes
 pub mod Found
 pub mod Histories

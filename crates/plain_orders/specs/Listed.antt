@@ -1,8 +1,10 @@
 -- The orders and blocks of an hour as they stand, and the lines that they make.
-use Rattle.std.specs.Prelude.{◌≡◌, ℕ, Bool, ◌==◌, ◌&&◌, List, map, filter, nat_lt, Option, Some, None, if◌then◌else◌}
+use Rattle.std.specs.Prelude.{◌≡◌, ℕ, Bool, ◌==◌, ◌&&◌, List, [], ◌∷◌, map, filter, nat_lt, Option, Some, None, if◌then◌else◌}
 use Rattle.order_kinds.specs.declared.contract.Contract.{Contract}
+use Rattle.order_kinds.specs.declared.price.Price.{Price}
 use Rattle.order_kinds.specs.declared.side.Side.{Side}
 use Rattle.order_kinds.specs.Same.{same_contract, same_side}
+use Rattle.order_kinds.specs.Side.{prefers}
 use Rattle.market_model.specs.declared.event.Event.{Event}
 use Rattle.market_model.specs.Blocks.{StandingBlock, block_line, block_priority_cmp, is_of_period, standing_block}
 use Rattle.market_model.specs.Lines.{line, priority_cmp}
@@ -58,6 +60,20 @@ line_of orders contract side = in_order (priority_cmp side) (filter (is_in_line 
 abbrev pub block_line_of : List StandingBlock → (first last : ℕ) → Side → List StandingBlock
 block_line_of blocks first last side =
     in_order (block_priority_cmp side) (filter (is_in_block_line first last side) blocks)
+
+-- the price of the first order of a line
+abbrev pub first_price : List Standing → Option Price
+first_price [] = None
+first_price (first ∷ rest) = Some first.price
+
+-- the best price of the line of a contract and side
+abbrev pub best_price : List Standing → Contract → Side → Option Price
+best_price orders contract side = first_price (line_of orders contract side)
+
+-- the better of a price of a side and the best so far, if there is one
+abbrev pub better_of : Side → Price → Option Price → Price
+better_of side price None = price
+better_of side price (Some best) = if prefers side price best then price else best
 
 -- the open orders of an hour make the lines of its contracts
 abbrev pub LinesAreOfOrders : Type 0

@@ -135,6 +135,10 @@ pub record AreSums (events : List Event) (hour : ℕ) (sums : OrderSums) : Type 
   pub most : sums.count ≤ length events
   pub of_first : AreSumsOf (take sums.count events) hour sums.tallies.items sums.orders.items sums.moment
 
+-- the sums are those over all of some events
+abbrev pub AreCurrent : List Event → OrderSums → Type 0
+AreCurrent events sums = sums.count ≡ length events
+
 -- an order, and a block, as it stands by its tally
 abbrev pub standing_by : Tally → Placed → Standing
 standing_by tally order = record {

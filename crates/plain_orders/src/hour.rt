@@ -6,7 +6,7 @@ ghost use Rattle.market_model.specs.Orders as orders;
 ghost use Rattle.order_kinds.specs.declared.phase.Phase.TheVariants as phase;
 ghost use Rattle.plain_orders.specs.Histories.{IsSomeHistory};
 ghost use Rattle.plain_orders.specs.Listed as listed;
-ghost use Rattle.plain_orders.specs.Tallies.{AreSums, AreSumsOf};
+ghost use Rattle.plain_orders.specs.Tallies.{AreCurrent, AreSums, AreSumsOf};
 
 use crate::placed::PlacedBlock;
 use crate::standing::{StandingBlock, StandingOrder};
@@ -48,6 +48,7 @@ pub fn open_orders_over(
     ensures orders { IfOk result (λ made. made.items ≡ listed.open_orders events.now hour) }
     ensures summed { IfSome sums.new (AreSums events.now hour) }
     ensures kept { OnOk result (IsSome sums.new) }
+    ensures current { IfSome sums.new (AreCurrent events.now) }
 {
     let summed = sum_up(alloc, events, hour, sums.take())?;
     let orders = list_open(alloc, events, hour, &summed)?;

@@ -37,6 +37,31 @@ pub fn line(
     Ok(line)
 }
 
+/// The best price of the line of a contract and side, that of its first order, in cents per MWh: the
+/// highest of the buys, or the lowest of the sells. `None` exactly where the line is empty. The orders
+/// are passed over once, and no line is made.
+pub fn best_price(orders: &[StandingOrder], contract: Contract, side: Side) -> Option<Price>
+    ensures { result ≡ listed.best_price orders.now contract side }
+{
+    let mut best = None;
+    for order in orders {
+        if is_in_line(order, contract, side) {
+            best = Some(better_of(side, order.price(), best));
+        }
+    }
+    best
+}
+
+// The better of a price of a side and the best so far, if there is one.
+fn better_of(side: Side, price: Price, best: Option<Price>) -> Price
+    ensures { result ≡ listed.better_of side price best }
+{
+    match best {
+        Some(best) if !side.prefers(price, best) => best,
+        _ => price,
+    }
+}
+
 // Whether an order is open, of a contract and on a side.
 fn is_in_line(order: &StandingOrder, contract: Contract, side: Side) -> bool
     ensures { result ≡ listed.is_in_line contract side order.now }

@@ -4,7 +4,7 @@ ghost use Rattle.std.specs.Prelude.{◌≡◌, ◌-◌, ◌^◌, ◌<◌, IfOk, 
 ghost use Rattle.market_model.specs.History.{enters_in};
 ghost use Rattle.market_model.specs.Orders as orders;
 ghost use Rattle.plain_orders.specs.Histories.{IsSomeHistory};
-ghost use Rattle.plain_orders.specs.Tallies.{AreSums};
+ghost use Rattle.plain_orders.specs.Tallies.{AreCurrent, AreSums};
 
 use crate::tally::{OrderSums, entered_in, sum_up};
 use event_history::History;
@@ -40,6 +40,7 @@ pub fn next_name_over(
     ensures name { IfOk result (λ name. name ≡ orders.next_name events.now hour) }
     ensures summed { IfSome sums.new (AreSums events.now hour) }
     ensures kept { OnOk result (IsSome sums.new) }
+    ensures current { IfSome sums.new (AreCurrent events.now) }
 {
     let summed = sum_up(alloc, events, hour, sums.take())?;
     let number = summed.tallies.len() as u32;

@@ -6,7 +6,7 @@ ghost use Rattle.market_model.specs.Refusals as refusals;
 ghost use Rattle.order_kinds.specs.Same.{same_name};
 ghost use Rattle.plain_orders.specs.Histories.{IsSomeHistory};
 ghost use Rattle.plain_orders.specs.Owned as owned;
-ghost use Rattle.plain_orders.specs.Tallies.{AreSums, AreSumsOf};
+ghost use Rattle.plain_orders.specs.Tallies.{AreCurrent, AreSums, AreSumsOf};
 
 use crate::hour::{list_names, open_names};
 use crate::placed::{PlacedBlock, PlacedOrder};
@@ -142,6 +142,7 @@ pub fn has_desk_room_over(
     ensures has { IfOk result (λ has. has ≡ refusals.has_desk_room events.now name) }
     ensures summed { IfSome sums.new (AreSums events.now name.hour) }
     ensures kept { OnOk result (IsSome sums.new) }
+    ensures current { IfSome sums.new (AreCurrent events.now) }
 {
     let summed = sum_up(alloc, events, name.hour, sums.take())?;
     let has = has_room_by(alloc, events, &summed, name);

@@ -48,6 +48,7 @@ impl PlacedOrder {
 }
 
 /// The order that an event enters, if it is named by an hour.
+#[inline(always)]
 pub(crate) fn order_given(event: &Event, hour: u32) -> Option<PlacedOrder>
     ensures { result ≡ listed.order_given hour event.now }
 {

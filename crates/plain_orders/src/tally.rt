@@ -51,6 +51,7 @@ impl Tally {
     };
 
     // A new order or block.
+    #[inline(always)]
     fn new(left: u32, moment: u64, kind: Kind) -> Tally
         ensures { result ≡ record { filled = 0; left = left; moment = moment; kind = kind } }
     {
@@ -63,6 +64,7 @@ impl Tally {
     }
 
     // What it comes to after one more change.
+    #[inline(always)]
     fn after(self, change: Change) -> Tally
         requires { sums.CanChange change self }
         ensures { result ≡ sums.changed change self }
@@ -86,6 +88,7 @@ impl Tally {
     }
 
     // What an order comes to after a leg: one that empties a peak of it gives it a new moment.
+    #[inline(always)]
     fn after_trade(self, lots: u32, moment: u64) -> Tally
         requires { sums.CanTrade lots self }
         ensures { result ≡ sums.traded lots moment self }
@@ -105,6 +108,7 @@ impl Tally {
 }
 
 // Whether so many filled lots end a peak of an iceberg.
+#[inline(always)]
 fn ends_peak(kind: Kind, filled: u32) -> bool
     requires { sums.HasPeak kind }
     ensures { result ≡ orders.ends_peak kind filled }
@@ -214,6 +218,7 @@ fn sum_on(
 }
 
 // Makes a place for what an event enters by the hour.
+#[inline(always)]
 fn make_place(tallies: &mut Vec<Tally>, hour: u32, event: &Event) -> Result<(), NoMemory>
     ensures { OnOk result (tallies.new.items ≡ sums.with_place hour event.now tallies.old.items) }
 {
@@ -224,6 +229,7 @@ fn make_place(tallies: &mut Vec<Tally>, hour: u32, event: &Event) -> Result<(), 
 }
 
 // Puts the order that an event enters by the hour, if it does, behind others.
+#[inline(always)]
 fn list(orders: &mut Vec<PlacedOrder>, hour: u32, event: &Event) -> Result<(), NoMemory>
     ensures { OnOk result (orders.new.items ≡ orders.old.items ++ filter_map (order_given hour) (event.now ∷ [])) }
 {
@@ -249,6 +255,7 @@ fn count_entered(events: &[Event], hour: u32) -> usize
 }
 
 // Whether an order or a block enters that is named by an hour.
+#[inline(always)]
 fn enters_in(event: &Event, hour: u32) -> bool
     ensures { result ≡ history.enters_in hour event.now }
 {
@@ -259,6 +266,7 @@ fn enters_in(event: &Event, hour: u32) -> bool
 }
 
 // Takes in one event of the hour, which is the one of this place.
+#[inline(always)]
 fn take_in(tallies: &mut [Tally], hour: u32, moment: u64, event: &Event)
     requires { sums.CanTakeIn hour event.now tallies.old }
     ensures { (number : ℕ) (d : Tally) → number < length tallies.old → slice_index_or tallies.new number d ≡ sums.after_event (record { hour = hour; number = number }) moment event.now (slice_index_or tallies.old number d) }
@@ -293,6 +301,7 @@ fn take_in(tallies: &mut [Tally], hour: u32, moment: u64, event: &Event)
 }
 
 // Changes what the order or block of a name comes to, where it is of the hour.
+#[inline(always)]
 fn apply(tallies: &mut [Tally], hour: u32, name: OrderName, change: Change)
     requires { sums.CanApply hour name change tallies.old }
     ensures { (number : ℕ) (d : Tally) → number < length tallies.old → slice_index_or tallies.new number d ≡ (if same_name name (record { hour = hour; number = number }) then sums.changed change (slice_index_or tallies.old number d) else slice_index_or tallies.old number d) }
@@ -304,6 +313,7 @@ fn apply(tallies: &mut [Tally], hour: u32, name: OrderName, change: Change)
 }
 
 // Whether an event touches an hour.
+#[inline(always)]
 fn touches(event: &Event, hour: u32) -> bool
     ensures { result ≡ history.touches hour event.now }
 {

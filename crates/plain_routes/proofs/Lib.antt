@@ -1,4 +1,3 @@
 pub mod Passes
 pub mod Spreads
 pub mod Steps
-pub mod Marked

@@ -5,7 +5,7 @@ ghost use Rattle.zone_graph.specs.declared.route.Arc.{Arc};
 ghost use Rattle.zone_graph.specs.Graph.{HasArc, HasZone, border_count};
 ghost use Rattle.zone_graph.specs.Rooms.{room_of};
 ghost use Rattle.zone_graph.specs.Route.{best_route as route_of};
-ghost use Rattle.zone_search.specs.Distance.{IsLeastStep, distance_at};
+ghost use Rattle.zone_search.specs.Distance.{AreDistances, IsLeastStep, distance_at};
 ghost use Rattle.plain_routes.specs.Steps.{HasStep, is_step as steps_to};
 
 use crate::rounds::{distances, is_at};
@@ -30,9 +30,26 @@ pub fn best_route(
     requires size { length rooms.now ≡ border_count grid.now }
     ensures { IfOk result (λ found. found ≡ route_of grid.now (room_of rooms.now) from to) }
 {
+    let distances = distances(grid, rooms, to, true);
+    route_by(alloc, grid, rooms, &distances, from, to)
+}
+
+/// The same route, by how far each zone is from the one that it leads to.
+pub(crate) fn route_by(
+    alloc: Global,
+    grid: &Grid,
+    rooms: &Rooms,
+    distances: &[Option<u32>],
+    from: u32,
+    to: u32,
+) -> Result<Option<Route>, NoMemory>
+    requires from { HasZone grid.now from }
+    requires size { length rooms.now ≡ border_count grid.now }
+    requires distances { AreDistances grid.now (room_of rooms.now) to distances.now }
+    ensures { IfOk result (λ found. found ≡ route_of grid.now (room_of rooms.now) from to) }
+{
     let zones = grid.zones();
     prove!(from < zones);
-    let distances = distances(grid, rooms, to, true);
     let Some(mut distance) = distances[from as usize] else {
         return Ok(None);
     };
@@ -40,7 +57,7 @@ pub fn best_route(
     let mut zone = from;
     while distance > 0 {
         distance -= 1;
-        let arc = least_step(grid, rooms, &distances, zone, distance);
+        let arc = least_step(grid, rooms, distances, zone, distance);
         route.push(arc)?;
         zone = grid.ends(arc).1;
     }

@@ -1,7 +1,7 @@
 use Rattle.std.proofs.Common.{subst, sym}
 use Rattle.plain_capacity.specs.Hour.{rows_in}
 use Rattle.plain_capacity.specs.Rows.{CanCarry}
-use Rattle.plain_capacity.proofs.HourLegs.{leg-can, leg-noted}
+use Rattle.plain_capacity.proofs.HourLegs.{leg-can}
 use Rattle.plain_capacity.proofs.hour.HourCapacity.note.Goals as goal
 
 pub carry-requires : goal.carry-requires
