@@ -1,5 +1,5 @@
 -- With the rooms of a contract, partners and legs over rooms are those of the market.
-use Rattle.std.proofs.Common.{◌≡◌, ◌∙◌, ℕ, List, [], Option, Some, None, refl, sym, ap, if◌then◌else◌}
+use Rattle.std.proofs.Common.{◌≡◌, ◌∙◌, ℕ, List, Option, Some, None, refl, sym, ap, if◌then◌else◌}
 use Rattle.std.specs.Option.{option_and_then}
 use Rattle.std.specs.Ordering.{is_lt}
 use Rattle.order_kinds.specs.declared.contract.Contract.{Contract}
@@ -80,10 +80,6 @@ module _ (graph : Graph) (is : IsGraph graph) (events : List Event) (contract : 
       ap (first_answer (leg_of_buy_over graph (room_of rooms) sells)) are_buys
       ∙ first_answer-same (leg_of_buy_over graph (room_of rooms) sells) (leg_of_buy graph events) (line events contract Buy)
       (λ buy i. leg_of_buy-here sells buy are_sells (from_line events contract Buy buy i))
-
--- without buys there is no leg
-pub no_buys : (graph : Graph) (events : List Event) (contract : Contract) → line events contract Buy ≡ [] → leg_in graph events contract ≡ None
-no_buys graph events contract none = ap (first_answer (leg_of_buy graph events)) none
 
 -- an order that is open takes the leg with its partner, and without one there is no leg
 pub next_leg-is : (graph : Graph) (events : List Event) (name : OrderName) (own : Standing) → Some own ≡ standing_order events name

@@ -4,7 +4,6 @@ use Rattle.std.proofs.lemmas.Bool.{true≢false}
 use Rattle.std.specs.List.{find, list_any}
 use Rattle.zone_graph.specs.Route.{IsIn}
 use Rattle.market_model.specs.Sweep.{first_answer, or_else}
-use Rattle.plain_matching.specs.Over.{is_nothing}
 
 -- the items from a place on are the one there and the ones from the next place on
 pub from_place : {X : Type 0} (xs : List X) (k : ℕ) (x : X) → k < length xs → x ≡ get_or xs k x → drop k xs ≡ x ∷ drop (k + 1) xs
@@ -38,8 +37,3 @@ find-nothing {X} p q (x ∷ xs) weaker none = go (find-nothing p q xs weaker) (q
     go : (list_any q xs ≡ false → find p xs ≡ None) → (b : Bool) → q x ≡ b → (b || list_any q xs) ≡ false → cond (p x) (Some x) (find p xs) ≡ None
     go rest true is k = absurd (true≢false k)
     go rest false is k = ap (λ t. cond t (Some x) (find p xs)) (weaker x is) ∙ rest k
-
--- a list with no item
-pub nothing-is : {X : Type 0} (xs : List X) → is_nothing xs ≡ true → xs ≡ []
-nothing-is [] e = refl
-nothing-is (x ∷ xs) e = absurd (true≢false (sym e))

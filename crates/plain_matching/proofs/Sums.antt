@@ -1,11 +1,12 @@
 -- What was summed up of an hour serves when more events have come.
-use Rattle.std.proofs.Common.{ℕ, ◌++◌, List, Option, Some, None, IfSome}
+use Rattle.std.proofs.Common.{◌≡◌, ◌∙◌, ℕ, ◌≤◌, ◌++◌, List, Option, Some, None, IfSome, inl, inr, ap, length, length-append, sym, subst, arith}
 use Rattle.zone_graph.specs.Graph.{Graph}
 use Rattle.market_model.specs.declared.event.Event.{Event}
 use Rattle.plain_capacity.proofs.Growing.{capacity-grows}
 use Rattle.plain_orders.proofs.Growing.{sums-grow}
 use Rattle.plain_matching.specs.declared.hour_sums.HourSums.{HourSums}
-use Rattle.plain_matching.specs.Summed.{AreHourSums}
+use Rattle.plain_capacity.specs.declared.rooms.CapacitySums.{CapacitySums}
+use Rattle.plain_matching.specs.Summed.{AreHourSums, IsAfter, StaysOrIsAfter}
 
 of-some : {X : Type 0} {P Q : X → Type 0} (o : Option X) → ((x : X) → P x → Q x) → IfSome o P → IfSome o Q
 of-some None so h = h
@@ -17,3 +18,23 @@ hour_sums-grow graph events more hour sums are = record {
   orders_are = of-some sums.orders (sums-grow events more hour) are.orders_are;
   capacity_is = of-some sums.capacity (capacity-grows graph events more hour) are.capacity_is;
 }
+
+-- ---- how far the capacity is summed up
+
+more-after : (few many : ℕ) (capacity : Option CapacitySums) → few ≤ many → IsAfter many capacity → IsAfter few capacity
+more-after few many capacity less after =
+    record { there = after.there; many = of-some capacity (λ (sums : CapacitySums) (h : many ≤ sums.count). omega (arith, less, h)) after.many }
+
+-- one step more
+pub stays-or-after : (first_needless needless now_needless : Type 0) (few many : ℕ) (first old new : Option CapacitySums) → (first_needless → needless → now_needless)
+    → few ≤ many → StaysOrIsAfter first_needless few first old → StaysOrIsAfter needless many old new → StaysOrIsAfter now_needless few first new
+stays-or-after first_needless needless now_needless few many first old new so less before now = elim now [
+  | inl same ↦ elim before [
+    | inl was ↦ inl (same.0 ∙ was.0, so was.1 same.1)
+    | inr after ↦ inr (subst (IsAfter few) (sym same.0) after)
+  ]
+  | inr after ↦ inr (more-after few many new less after)
+]
+
+pub grew-more : (old now done : List Event) → now ≡ old ++ done → length old ≤ length now
+grew-more old now done is = omega (arith, ap length is, length-append old done)

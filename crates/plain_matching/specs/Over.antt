@@ -1,11 +1,12 @@
 -- Partners and legs over rooms that are given, and in lines that are given.
-use Rattle.std.specs.Prelude.{◌≡◌, ℕ, Bool, true, false, ◌&&◌, List, [], ◌∷◌, Option, length, nat_lt, if◌then◌else◌}
-use Rattle.std.specs.List.{find, list_any}
+use Rattle.std.specs.Prelude.{◌≡◌, ℕ, Bool, true, false, ◌&&◌, List, Option, Some, None, length, nat_lt, if◌then◌else◌}
+use Rattle.std.specs.List.{find}
 use Rattle.std.specs.Option.{option_map}
 use Rattle.std.specs.Ordering.{is_lt}
 use Rattle.order_kinds.specs.declared.contract.Contract.{Contract}
 use Rattle.order_kinds.specs.declared.contract.Part.{Part}
 use Rattle.order_kinds.specs.declared.order.OrderName.{OrderName}
+use Rattle.order_kinds.specs.declared.price.Price.{Price}
 use Rattle.order_kinds.specs.declared.side.Side.{Side}
 use Rattle.order_kinds.specs.declared.side.Side.TheVariants.{Buy, Sell}
 use Rattle.order_kinds.specs.Period.{contract_quarters}
@@ -23,6 +24,7 @@ use Rattle.market_model.specs.Sweep.{first_answer, leg_in}
 use Rattle.market_model.specs.Taking.{leg_over, trade, ◌>>=◌}
 use Rattle.plain_routes.specs.declared.reach.ReachedZones.{ReachedZones}
 use Rattle.plain_routes.specs.Reached.{has_zone}
+use Rattle.plain_matching.specs.declared.partner.FoundPartner.{FoundPartner}
 
 -- these are the rooms of a graph's arcs for a contract after some events
 pub record AreRoomsFor (graph : Graph) (events : List Event) (contract : Contract) (made : List (ℕ × ℕ)) : Type 0 where
@@ -33,11 +35,6 @@ pub record AreRoomsFor (graph : Graph) (events : List Event) (contract : Contrac
 pub record AreInZones (graph : Graph) (orders : List Standing) : Type 0 where
   pub each : (order : Standing) → IsIn order orders → HasZone graph order.order.zone
 
--- a list has no item
-abbrev pub is_nothing : {X : Type 0} → List X → Bool
-is_nothing [] = true
-is_nothing (x ∷ xs) = false
-
 -- an order is open and bears a name
 abbrev pub is_open_as : OrderName → Standing → Bool
 is_open_as name order = same_name order.name name && nat_lt 0 order.left
@@ -46,10 +43,15 @@ is_open_as name order = same_name order.name name && nat_lt 0 order.left
 abbrev pub crosses_price : (own other : Standing) → Bool
 crosses_price own other = crosses own.order.side own.price other.price
 
--- the price of the first of some orders crosses that of one of a line
-abbrev pub first_crosses : (orders line : List Standing) → Bool
-first_crosses [] line = false
-first_crosses (first ∷ rest) line = list_any (crosses_price first) line
+-- the price of an order crosses the best one of a line of the other side, if that has one
+abbrev pub crosses_best : (own : Standing) → Option Price → Bool
+crosses_best own None = false
+crosses_best own (Some price) = crosses own.order.side own.price price
+
+-- the best prices of a line of buys and of one of sells cross, if both have one
+abbrev pub best_cross : (buy sell : Option Price) → Bool
+best_cross (Some buy) (Some sell) = crosses Buy buy sell
+best_cross _ _ = false
 
 -- the prices of two orders cross, and the other one's zone is in a set
 abbrev pub is_in_reach : ReachedZones → (own other : Standing) → Bool
@@ -59,6 +61,10 @@ is_in_reach zones own other = crosses_price own other && has_zone zones other.or
 abbrev pub is_buy : Side → Bool
 is_buy Buy = true
 is_buy Sell = false
+
+-- the order of a partner that was found, if one was
+abbrev pub order_of : Option FoundPartner → Option Standing
+order_of found = option_map (λ partner. partner.order) found
 
 -- the partner of an order in a line, over rooms
 abbrev pub partner_in : Graph → (Arc → ℕ) → List Standing → (own : Standing) → Option Standing

@@ -1,6 +1,6 @@
 //! What was summed up of an hour.
 
-ghost use Rattle.std.specs.Prelude.{◌≡◌, ℕ, ◌-◌, ◌^◌, ◌<◌, List, IfOk, IfSome, count_by};
+ghost use Rattle.std.specs.Prelude.{◌≡◌, ℕ, ◌-◌, ◌^◌, ◌<◌, List, IfOk, IfSome, OnOk, count_by};
 ghost use Rattle.market_model.specs.declared.event.Event.{Event as TheEvent};
 ghost use Rattle.market_model.specs.History.{enters_in};
 ghost use Rattle.market_model.specs.Orders as orders;
@@ -8,7 +8,7 @@ ghost use Rattle.market_model.specs.Refusals as refusals;
 ghost use Rattle.zone_graph.specs.Graph.{Graph};
 ghost use Rattle.plain_orders.specs.Histories.{IsSomeHistory};
 ghost use Rattle.plain_orders.specs.Tallies.{AreSums};
-ghost use Rattle.plain_matching.specs.Summed.{AreHourSums};
+ghost use Rattle.plain_matching.specs.Summed.{AreHourSums, HasOrders};
 
 use event_history::History;
 use market_model::{NoMemory, OrderName};
@@ -51,6 +51,8 @@ impl HourSums {
         requires summed { IfSome self.old.orders (AreSums events.now hour) }
         ensures name { IfOk result (λ name. name ≡ orders.next_name events.now hour) }
         ensures summed { (graph : Graph) → AreHourSums graph events.now hour self.old → AreHourSums graph events.now hour self.new }
+        ensures orders { OnOk result (HasOrders events.now self.new) }
+        ensures capacity { self.new.capacity ≡ self.old.capacity }
     {
         next_name_over(alloc, events, &mut self.orders, hour)
     }
@@ -71,6 +73,8 @@ impl HourSums {
         requires summed { IfSome self.old.orders (AreSums events.now name.hour) }
         ensures has { IfOk result (λ has. has ≡ refusals.has_desk_room events.now name) }
         ensures summed { (graph : Graph) → AreHourSums graph events.now name.hour self.old → AreHourSums graph events.now name.hour self.new }
+        ensures orders { OnOk result (HasOrders events.now self.new) }
+        ensures capacity { self.new.capacity ≡ self.old.capacity }
     {
         has_desk_room_over(alloc, events, &mut self.orders, name)
     }

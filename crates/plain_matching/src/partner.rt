@@ -1,15 +1,23 @@
 //! The partner of an order in a line of the order book.
 
-ghost use Rattle.std.specs.Prelude.{◌≡◌, length};
+ghost use Rattle.std.specs.Prelude.{◌≡◌, IfSome, length};
 ghost use Rattle.std.specs.List.{find, list_any};
 ghost use Rattle.zone_graph.specs.Graph.{HasZone, border_count};
 ghost use Rattle.zone_graph.specs.Rooms.{room_of};
+ghost use Rattle.plain_routes.specs.Reached.{IsFoundIn};
 ghost use Rattle.plain_matching.specs.Over as over;
 
-use market_model::Side;
+use market_model::{Price, Side};
 use plain_orders::StandingOrder;
 use plain_routes::{ReachedZones, reached};
 use zone_graph::{Grid, Rooms};
+
+/// The partner of an order, and the zones in reach among which it was found.
+#[derive(Clone, Copy, Debug)]
+pub(crate) struct FoundPartner {
+    pub(crate) order: StandingOrder,
+    pub(crate) zones: ReachedZones,
+}
 
 /// The partner of an order, where a price of the line crosses at all: only then the zones in reach are
 /// searched. The rooms are those of the order's contract.
@@ -18,11 +26,12 @@ pub(crate) fn crossing_partner(
     rooms: &Rooms,
     line: &[StandingOrder],
     own: &StandingOrder,
-) -> Option<StandingOrder>
+) -> Option<FoundPartner>
     requires size { length rooms.now ≡ border_count grid.now }
     requires line { over.AreInZones grid.now line.now }
     requires own { HasZone grid.now own.now.order.zone }
-    ensures { result ≡ over.partner_in grid.now (room_of rooms.now) line.now own.now }
+    ensures order { over.order_of result ≡ over.partner_in grid.now (room_of rooms.now) line.now own.now }
+    ensures zones { IfSome result (λ partner. IsFoundIn grid.now (room_of rooms.now) partner.zones) }
 {
     if has_crossing(line, own) {
         partner(grid, rooms, line, own)
@@ -39,17 +48,21 @@ pub(crate) fn partner(
     rooms: &Rooms,
     line: &[StandingOrder],
     own: &StandingOrder,
-) -> Option<StandingOrder>
+) -> Option<FoundPartner>
     requires size { length rooms.now ≡ border_count grid.now }
     requires line { over.AreInZones grid.now line.now }
     requires own { HasZone grid.now own.now.order.zone }
-    ensures { result ≡ over.partner_in grid.now (room_of rooms.now) line.now own.now }
+    ensures order { over.order_of result ≡ over.partner_in grid.now (room_of rooms.now) line.now own.now }
+    ensures zones { IfSome result (λ partner. IsFoundIn grid.now (room_of rooms.now) partner.zones) }
 {
     let order = own.order();
     let count = grid.zones();
     prove!(order.zone < count);
     let zones = reached(grid, rooms, order.zone, is_buy(order.side));
-    first_in_reach(&zones, line, own)
+    match first_in_reach(&zones, line, own) {
+        Some(order) => Some(FoundPartner { order, zones }),
+        None => None,
+    }
 }
 
 // Whether an order is a buy.
@@ -59,18 +72,28 @@ fn is_buy(side: Side) -> bool
     matches!(side, Side::Buy)
 }
 
-/// Whether the first of some orders crosses one of a line of the other side.
-pub(crate) fn first_crosses(orders: &[StandingOrder], line: &[StandingOrder]) -> bool
-    ensures { result ≡ over.first_crosses orders.now line.now }
+/// Whether the price of an order crosses the best price of a line of the other side, if that has one.
+pub(crate) fn crosses_best(own: &StandingOrder, best: Option<Price>) -> bool
+    ensures { result ≡ over.crosses_best own.now best }
 {
-    match orders {
-        [] => false,
-        [first, ..] => has_crossing(line, first),
+    match best {
+        Some(price) => own.order().side.crosses(own.price(), price),
+        None => false,
     }
 }
 
-/// Whether the price of an order of the line crosses.
-pub(crate) fn has_crossing(line: &[StandingOrder], own: &StandingOrder) -> bool
+/// Whether the best prices of a line of buys and of one of sells cross, if both have one.
+pub(crate) fn best_cross(buy: Option<Price>, sell: Option<Price>) -> bool
+    ensures { result ≡ over.best_cross buy sell }
+{
+    match (buy, sell) {
+        (Some(buy), Some(sell)) => Side::Buy.crosses(buy, sell),
+        _ => false,
+    }
+}
+
+// Whether the price of an order of the line crosses.
+fn has_crossing(line: &[StandingOrder], own: &StandingOrder) -> bool
     ensures { result ≡ list_any (over.crosses_price own.now) line.now }
 {
     line.iter().any(|other| crosses_price(own, other))

@@ -1,6 +1,6 @@
 //! The legs of an hour's sweep.
 
-ghost use Rattle.std.specs.Prelude.{◌≡◌, ◌++◌, true, IfOk, IfSome, OnOk, OnErr, length};
+ghost use Rattle.std.specs.Prelude.{◌≡◌, ◌++◌, true, IfOk, IfSome, OnOk, OnErr, None, length};
 ghost use Rattle.std.specs.List.{list_all};
 ghost use Rattle.order_kinds.specs.Contract as contracts;
 ghost use Rattle.order_kinds.specs.Period.{hours_from};
@@ -13,15 +13,15 @@ ghost use Rattle.plain_capacity.specs.Sums.{AreCapacitySums};
 ghost use Rattle.plain_orders.specs.Listed as listed;
 ghost use Rattle.plain_matching.specs.Grown.{Grew, GrewByPart};
 ghost use Rattle.plain_matching.specs.Over as over;
-ghost use Rattle.plain_matching.specs.Summed.{AreHourSums};
+ghost use Rattle.plain_matching.specs.Summed.{AreHourSums, HasOrders, StaysOrIsAfter};
 
 use crate::hour_sums::HourSums;
-use crate::partner::{crossing_partner, first_crosses};
+use crate::partner::{best_cross, crossing_partner};
 use crate::trade::resting_trade;
 use event_history::History;
 use market_model::{Contract, Event, NoMemory, Part, Side};
 use plain_capacity::{CapacitySums, contract_rooms_over};
-use plain_orders::{StandingOrder, line, open_orders_over};
+use plain_orders::{StandingOrder, best_price, line, open_orders_over};
 use std::alloc::Global;
 use zone_graph::{Grid, Rooms};
 
@@ -45,6 +45,9 @@ pub fn sweep(
     ensures ok { OnOk result (events.new ≡ events.old ++ market.sweep market.all_parts grid.now hour events.old) }
     ensures err { OnErr result (GrewByPart (market.sweep market.all_parts grid.now hour events.old) events.old events.new) }
     ensures legal { IsLegalOver grid.now events.new }
+    ensures summed { OnOk result (AreHourSums grid.now events.new hour sums.new) }
+    ensures orders { OnOk result (HasOrders events.new sums.new) }
+    ensures capacity { OnOk result (StaysOrIsAfter (events.new ≡ events.old) (length events.old) sums.old.capacity sums.new.capacity) }
 {
     while let Some(leg) = sweep_leg(alloc, grid, events, sums, hour)? {
         events.push(leg)?;
@@ -93,6 +96,8 @@ pub fn sweep_leg(
     requires summed { AreHourSums grid.now events.now hour sums.old }
     ensures summed { AreHourSums grid.now events.now hour sums.new }
     ensures leg { IfOk result (λ leg. leg ≡ market.sweep_leg market.all_parts grid.now hour events.now) }
+    ensures orders { OnOk result (HasOrders events.now sums.new) }
+    ensures capacity { IfOk result (λ leg. StaysOrIsAfter (leg ≡ None) (length events.now) sums.old.capacity sums.new.capacity) }
     ensures grid { IsGrid grid.now }
 {
     let zones = grid.zones();
@@ -135,6 +140,7 @@ fn leg_in_parts(
     requires parts { list_all contracts.is_known parts.now ≡ true }
     ensures leg { IfOk result (λ leg. leg ≡ over.leg_in_parts grid.now events.now hour parts.now) }
     ensures summed { IfSome capacity.new (AreCapacitySums grid.now events.now hour) }
+    ensures kept { IfOk result (λ leg. StaysOrIsAfter (leg ≡ None) (length events.now) capacity.old capacity.new) }
 {
     for part in parts {
         let contract = Contract { hour, part: *part };
@@ -145,8 +151,8 @@ fn leg_in_parts(
     Ok(None)
 }
 
-// The leg of the first buy of a contract's line that has a partner. The capacity of the hour is summed
-// up where it is asked for.
+// The leg of the first buy of a contract's line that has a partner. Where the best prices of the contract
+// do not cross, no line is made. The capacity of the hour is summed up where it is asked for.
 fn leg_in(
     alloc: Global,
     grid: &Grid,
@@ -161,29 +167,18 @@ fn leg_in(
     requires summed { IfSome capacity.old (AreCapacitySums grid.now events.now contract.hour) }
     ensures leg { IfOk result (λ leg. leg ≡ market.leg_in grid.now events.now contract) }
     ensures summed { IfSome capacity.new (AreCapacitySums grid.now events.now contract.hour) }
+    ensures kept { IfOk result (λ leg. StaysOrIsAfter (leg ≡ None) (length events.now) capacity.old capacity.new) }
 {
     let zones = grid.zones();
     prove!(zones <= 64);
+    let best_buy = best_price(orders, contract, Side::Buy);
+    if !best_cross(best_buy, best_price(orders, contract, Side::Sell)) {
+        return Ok(None);
+    }
     let buys = line(alloc, orders, contract, Side::Buy)?;
-    if is_nothing(buys.as_slice()) {
-        return Ok(None);
-    }
     let sells = line(alloc, orders, contract, Side::Sell)?;
-    if !first_crosses(buys.as_slice(), sells.as_slice()) {
-        return Ok(None);
-    }
     let rooms = contract_rooms_over(alloc, grid, events, capacity, contract)?;
     first_leg(alloc, grid, &rooms, buys.as_slice(), sells.as_slice())
-}
-
-// Whether a line has no order.
-fn is_nothing(line: &[StandingOrder]) -> bool
-    ensures { result ≡ over.is_nothing line.now }
-{
-    match line {
-        [] => true,
-        [_, ..] => false,
-    }
 }
 
 // The leg of the first of some buys that has a partner in a line of sells.
@@ -221,7 +216,7 @@ fn leg_of_buy(
     ensures { IfOk result (λ leg. leg ≡ over.leg_of_buy_over grid.now (room_of rooms.now) sells.now buy.now) }
 {
     match crossing_partner(grid, rooms, sells, buy) {
-        Some(sell) => resting_trade(alloc, grid, rooms, buy, &sell),
+        Some(partner) => resting_trade(alloc, grid, rooms, &partner.zones, buy, &partner.order),
         None => Ok(None),
     }
 }

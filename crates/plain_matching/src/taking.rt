@@ -1,6 +1,6 @@
 //! The legs of an order that comes in.
 
-ghost use Rattle.std.specs.Prelude.{◌≡◌, ◌++◌, IfOk, IfSome, OnOk, OnErr};
+ghost use Rattle.std.specs.Prelude.{◌≡◌, ◌++◌, IfOk, IfSome, OnOk, OnErr, None, length};
 ghost use Rattle.std.specs.List.{find};
 ghost use Rattle.zone_graph.specs.Grid.{IsGrid};
 ghost use Rattle.zone_graph.specs.Route.{IsIn};
@@ -10,15 +10,15 @@ ghost use Rattle.plain_capacity.specs.Sums.{AreCapacitySums};
 ghost use Rattle.plain_orders.specs.Listed as listed;
 ghost use Rattle.plain_matching.specs.Grown.{GrewByPart};
 ghost use Rattle.plain_matching.specs.Over as over;
-ghost use Rattle.plain_matching.specs.Summed.{AreHourSums};
+ghost use Rattle.plain_matching.specs.Summed.{AreHourSums, HasOrders, StaysOrIsAfter};
 
 use crate::hour_sums::HourSums;
-use crate::partner::{has_crossing, partner};
+use crate::partner::{crosses_best, partner};
 use crate::trade::trade;
 use event_history::History;
 use market_model::{Event, NoMemory, OrderName};
 use plain_capacity::{CapacitySums, contract_rooms_over};
-use plain_orders::{StandingOrder, line, open_orders_over};
+use plain_orders::{StandingOrder, best_price, line, open_orders_over};
 use std::alloc::Global;
 use zone_graph::Grid;
 
@@ -43,6 +43,8 @@ pub fn take(
     ensures err { OnErr result (GrewByPart (market.take grid.now events.old name) events.old events.new) }
     ensures legal { IsLegalOver grid.now events.new }
     ensures summed { OnOk result (AreHourSums grid.now events.new name.hour sums.new) }
+    ensures orders { OnOk result (HasOrders events.new sums.new) }
+    ensures capacity { OnOk result (StaysOrIsAfter (events.new ≡ events.old) (length events.old) sums.old.capacity sums.new.capacity) }
 {
     while let Some(leg) = next_leg(alloc, grid, events, sums, name)? {
         events.push(leg)?;
@@ -66,6 +68,8 @@ pub fn next_leg(
     requires summed { AreHourSums grid.now events.now name.hour sums.old }
     ensures summed { AreHourSums grid.now events.now name.hour sums.new }
     ensures leg { IfOk result (λ leg. leg ≡ market.next_leg grid.now name events.now) }
+    ensures orders { OnOk result (HasOrders events.now sums.new) }
+    ensures capacity { IfOk result (λ leg. StaysOrIsAfter (leg ≡ None) (length events.now) sums.old.capacity sums.new.capacity) }
     ensures grid { IsGrid grid.now }
 {
     let zones = grid.zones();
@@ -114,17 +118,19 @@ fn leg_with_partner(
     requires own { IsIn own.now orders.now }
     ensures leg { IfOk result (λ leg. leg ≡ over.leg_with_partner grid.now events.now own.now) }
     ensures summed { IfSome capacity.new (AreCapacitySums grid.now events.now own.now.order.contract.hour) }
+    ensures kept { IfOk result (λ leg. StaysOrIsAfter (leg ≡ None) (length events.now) capacity.old capacity.new) }
 {
     let order = own.order();
     let zones = grid.zones();
     prove!(order.zone < zones);
-    let line = line(alloc, orders, order.contract, order.side.opposite())?;
-    if !has_crossing(line.as_slice(), own) {
+    let side = order.side.opposite();
+    if !crosses_best(own, best_price(orders, order.contract, side)) {
         return Ok(None);
     }
+    let line = line(alloc, orders, order.contract, side)?;
     let rooms = contract_rooms_over(alloc, grid, events, capacity, order.contract)?;
     match partner(grid, &rooms, line.as_slice(), own) {
-        Some(other) => trade(alloc, grid, &rooms, own, &other),
+        Some(partner) => trade(alloc, grid, &rooms, &partner.zones, own, &partner.order),
         None => Ok(None),
     }
 }

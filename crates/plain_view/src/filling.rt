@@ -8,11 +8,12 @@ ghost use Rattle.zone_graph.specs.Rooms.{room_of};
 ghost use Rattle.market_model.specs.View as market;
 ghost use Rattle.order_kinds.specs.Same.{same_side};
 ghost use Rattle.order_kinds.specs.declared.side.Side.TheVariants.{Sell};
+ghost use Rattle.plain_routes.specs.Reached.{IsFoundIn};
 ghost use Rattle.plain_view.specs.Depth as depth;
 
 use crate::maker::Maker;
 use market_model::{NoMemory, OrderName, Price, Route, Side};
-use plain_routes::{ReachedZones, best_route, reached};
+use plain_routes::{ReachedZones, reached};
 use route_carrying::carried;
 use std::alloc::Global;
 use zone_graph::{Grid, Rooms};
@@ -58,7 +59,7 @@ pub(crate) fn next_fill(
     }
     let reach = reached(grid, rooms, zone, is_sell(side));
     match first_in_reach(&reach, makers, side) {
-        Some(maker) => fill_with(alloc, grid, rooms, &maker, side, zone, left),
+        Some(maker) => fill_with(alloc, grid, rooms, &reach, &maker, side, zone, left),
         None => Ok(None),
     }
 }
@@ -101,11 +102,12 @@ fn any_price(side: Side) -> Price
 }
 
 // The trade with a maker: over the best route from the seller to the buyer, of the least of what is
-// left of both and what the route can carry.
+// left of both and what the route can carry. The zones in reach were found over the rooms.
 fn fill_with(
     alloc: Global,
     grid: &Grid,
     rooms: &Rooms,
+    reach: &ReachedZones,
     maker: &Maker,
     side: Side,
     zone: u32,
@@ -114,13 +116,14 @@ fn fill_with(
     requires size { length rooms.now ≡ border_count grid.now }
     requires zone { HasZone grid.now zone }
     requires maker { HasZone grid.now maker.now.zone }
+    requires reach { IsFoundIn grid.now (room_of rooms.now) reach.now }
     ensures { IfOk result (λ fill. fill ≡ depth.fill_with grid.now (room_of rooms.now) side zone left maker.now) }
 {
     let zones = grid.zones();
     let seller = seller_zone(side, zone, maker);
     let buyer = buyer_zone(side, zone, maker);
     prove!(seller < zones);
-    let Some(route) = best_route(alloc, grid, rooms, seller, buyer)? else {
+    let Some(route) = reach.best_route(alloc, grid, rooms, seller, buyer)? else {
         return Ok(None);
     };
     let lots = carried(rooms, left.min(maker.left), route.as_slice());

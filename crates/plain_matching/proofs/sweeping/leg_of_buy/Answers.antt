@@ -5,4 +5,4 @@ use Rattle.plain_matching.proofs.sweeping.leg_of_buy.Goals as goal
 
 pub resting_trade-requires-clause-sell : goal.resting_trade-requires-clause-sell
 resting_trade-requires-clause-sell c =
-    partner-known c.args.grid.now (room_of c.args.rooms.now) c.args.sells.now c.args.buy.now c.in-Some.sell c.requires.sells (sym c.in-Some.ensures)
+    partner-known c.args.grid.now (room_of c.args.rooms.now) c.args.sells.now c.args.buy.now c.in-Some.partner.order c.requires.sells (sym c.in-Some.ensures.order)

@@ -1,6 +1,7 @@
+use Rattle.std.proofs.Common.{◌≡◌, length}
 use Rattle.market_model.specs.Sweep.{all_parts, left_in_hour, sweep}
 use Rattle.plain_capacity.specs.Hour.{IsLegalOver}
-use Rattle.plain_matching.specs.Summed.{AreHourSums}
+use Rattle.plain_matching.specs.Summed.{AreHourSums, StaysOrIsAfter}
 use Rattle.plain_matching.proofs.Legs.{IsSoFar}
 use Rattle.plain_matching.proofs.sweeping.sweep.Given as goal
 
@@ -10,6 +11,7 @@ invariant-loop-leg l = record {
   so_far : IsSoFar (λ history. sweep all_parts l.grid l.hour history) l.initial.events l.events;
   legal : IsLegalOver l.grid l.events;
   summed : AreHourSums l.grid l.events l.hour l.sums;
+  kept : StaysOrIsAfter (l.events ≡ l.initial.events) (length l.initial.events) l.initial.sums.capacity l.sums.capacity;
 }
 
 -- each leg lowers what is left in the hour

@@ -2,6 +2,7 @@ use Rattle.std.proofs.Common.{◌≡◌, ◌∙◌, true, IfOk, refl, ap, subst,
 use Rattle.order_kinds.specs.declared.order.Order.{Order}
 use Rattle.order_kinds.specs.Contract.{is_known}
 use Rattle.zone_graph.specs.Rooms.{room_of}
+use Rattle.plain_orders.specs.Listed.{first_price, line_of}
 use Rattle.plain_matching.proofs.Apart.{apart-leg}
 use Rattle.plain_matching.proofs.Here.{leg-here, no_partner-leg, partner-here}
 use Rattle.plain_matching.proofs.Orders.{IsSoundOrder, other_line-is, own-sound, ready}
@@ -14,12 +15,14 @@ prove-unreachable-requires c =
     own-sound c.args.grid.now c.args.events.now c.args.orders.now c.args.own.now c.requires.legal c.requires.orders c.requires.own in
     omega (arith, sound.in_zone, c.if-prove.true, c.zones-zones.ensures.count, ap (λ (o : Order). o.zone) c.order-order.ensures)
 
-pub returns-then-not-has_crossing-clause-leg : goal.returns-then-not-has_crossing-clause-leg
-returns-then-not-has_crossing-clause-leg c =
-    apart-leg c.args.grid.now c.args.events.now c.args.own.now c.as_slice.result.now
-    (other_line-is c.args.grid.now c.args.events.now c.args.orders.now c.args.own.now c.order-order.result c.opposite.result c.in_ok-line.line.items c.as_slice.result.now
-    c.requires.legal c.requires.orders c.order-order.ensures c.opposite.ensures c.in_ok-line.ensures c.as_slice.ensures.value)
-    (sym c.if-not-has_crossing.ensures)
+pub returns-then-not-crosses_best-clause-leg : goal.returns-then-not-crosses_best-clause-leg
+returns-then-not-crosses_best-clause-leg c =
+    apart-leg c.args.grid.now c.args.events.now c.args.own.now c.best_price.result
+    (c.best_price.ensures
+    ∙ ap first_price (other_line-is c.args.grid.now c.args.events.now c.args.orders.now c.args.own.now c.order-order.result c.opposite-side.result
+    (line_of c.args.orders.now c.order-order.result.contract c.opposite-side.result) (line_of c.args.orders.now c.order-order.result.contract c.opposite-side.result)
+    c.requires.legal c.requires.orders c.order-order.ensures c.opposite-side.ensures refl refl))
+    (sym c.if-not-crosses_best.ensures)
 
 pub contract_rooms_over-requires-clause-part : goal.contract_rooms_over-requires-clause-part
 contract_rooms_over-requires-clause-part c =
@@ -28,33 +31,33 @@ contract_rooms_over-requires-clause-part c =
 
 pub partner-requires-clause-line : goal.partner-requires-clause-line
 partner-requires-clause-line c =
-    (ready c.args.grid.now c.args.events.now c.args.orders.now c.args.own.now c.order-order.result c.opposite.result c.in_ok-line.line.items c.as_slice-2.result.now
-    c.in_ok-rooms.rooms c.requires.legal c.requires.orders c.order-order.ensures c.opposite.ensures c.in_ok-line.ensures c.as_slice-2.ensures.value
+    (ready c.args.grid.now c.args.events.now c.args.orders.now c.args.own.now c.order-order.result c.opposite-side.result c.in_ok-line.line.items c.as_slice.result.now
+    c.in_ok-rooms.rooms c.requires.legal c.requires.orders c.order-order.ensures c.opposite-side.ensures c.in_ok-line.ensures c.as_slice.ensures.value
     (record { size = c.in_ok-rooms.ensures.size; rooms = c.in_ok-rooms.ensures.rooms })).in_zones
 
 pub trade-requires-clause-maker : goal.trade-requires-clause-maker
 trade-requires-clause-maker c =
-    let r = ready c.args.grid.now c.args.events.now c.args.orders.now c.args.own.now c.order-order.result c.opposite.result c.in_ok-line.line.items c.as_slice-2.result.now
-    c.in_ok-rooms.rooms c.requires.legal c.requires.orders c.order-order.ensures c.opposite.ensures c.in_ok-line.ensures c.as_slice-2.ensures.value
+    let r = ready c.args.grid.now c.args.events.now c.args.orders.now c.args.own.now c.order-order.result c.opposite-side.result c.in_ok-line.line.items c.as_slice.result.now
+    c.in_ok-rooms.rooms c.requires.legal c.requires.orders c.order-order.ensures c.opposite-side.ensures c.in_ok-line.ensures c.as_slice.ensures.value
     (record { size = c.in_ok-rooms.ensures.size; rooms = c.in_ok-rooms.ensures.rooms }) in
-    partner-known c.args.grid.now (room_of c.in_ok-rooms.rooms) c.as_slice-2.result.now c.args.own.now c.in-Some.other r.in_zones (sym c.in-Some.ensures)
+    partner-known c.args.grid.now (room_of c.in_ok-rooms.rooms) c.as_slice.result.now c.args.own.now c.in-Some.partner.order r.in_zones (sym c.in-Some.ensures.order)
 
 pub returns-in-Some-clause-leg : goal.returns-in-Some-clause-leg
 returns-in-Some-clause-leg c =
-    let r = ready c.args.grid.now c.args.events.now c.args.orders.now c.args.own.now c.order-order.result c.opposite.result c.in_ok-line.line.items c.as_slice-2.result.now
-    c.in_ok-rooms.rooms c.requires.legal c.requires.orders c.order-order.ensures c.opposite.ensures c.in_ok-line.ensures c.as_slice-2.ensures.value
+    let r = ready c.args.grid.now c.args.events.now c.args.orders.now c.args.own.now c.order-order.result c.opposite-side.result c.in_ok-line.line.items c.as_slice.result.now
+    c.in_ok-rooms.rooms c.requires.legal c.requires.orders c.order-order.ensures c.opposite-side.ensures c.in_ok-line.ensures c.as_slice.ensures.value
     (record { size = c.in_ok-rooms.ensures.size; rooms = c.in_ok-rooms.ensures.rooms }) in
     let found = sym (partner-here c.args.grid.now c.zones-zones.ensures.grid.is_graph c.args.events.now c.args.own.now.order.contract c.in_ok-rooms.rooms r.are
-    c.args.own.now c.as_slice-2.result.now refl r.line_is) ∙ sym c.in-Some.ensures in
+    c.args.own.now c.as_slice.result.now refl r.line_is) ∙ sym c.in-Some.ensures.order in
     subst (λ v. IfOk c.trade.result (λ leg. leg ≡ v))
     (leg-here c.args.grid.now c.zones-zones.ensures.grid.is_graph c.args.events.now c.args.own.now.order.contract c.in_ok-rooms.rooms r.are
-    c.args.own.now c.in-Some.other refl found) c.trade.ensures
+    c.args.own.now c.in-Some.partner.order refl found) c.trade.ensures
 
 pub returns-clause-leg : goal.returns-clause-leg
 returns-clause-leg c =
-    let r = ready c.args.grid.now c.args.events.now c.args.orders.now c.args.own.now c.order-order.result c.opposite.result c.in_ok-line.line.items c.as_slice-2.result.now
-    c.in_ok-rooms.rooms c.requires.legal c.requires.orders c.order-order.ensures c.opposite.ensures c.in_ok-line.ensures c.as_slice-2.ensures.value
+    let r = ready c.args.grid.now c.args.events.now c.args.orders.now c.args.own.now c.order-order.result c.opposite-side.result c.in_ok-line.line.items c.as_slice.result.now
+    c.in_ok-rooms.rooms c.requires.legal c.requires.orders c.order-order.ensures c.opposite-side.ensures c.in_ok-line.ensures c.as_slice.ensures.value
     (record { size = c.in_ok-rooms.ensures.size; rooms = c.in_ok-rooms.ensures.rooms }) in
     no_partner-leg c.args.grid.now c.args.events.now c.args.own.now
     (sym (partner-here c.args.grid.now c.zones-zones.ensures.grid.is_graph c.args.events.now c.args.own.now.order.contract c.in_ok-rooms.rooms r.are
-    c.args.own.now c.as_slice-2.result.now refl r.line_is) ∙ sym c.in-None.ensures)
+    c.args.own.now c.as_slice.result.now refl r.line_is) ∙ sym c.in-None.ensures.order)

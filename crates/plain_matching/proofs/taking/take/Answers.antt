@@ -1,10 +1,10 @@
-use Rattle.std.proofs.Common.{◌≡◌, ◌∙◌, ◌<◌, List, [], ◌∷◌, Some, None, subst, sym}
+use Rattle.std.proofs.Common.{◌≡◌, ◌∙◌, ◌<◌, List, [], ◌∷◌, Some, None, length, subst, sym}
 use Rattle.market_model.specs.declared.event.Event.{Event}
 use Rattle.market_model.specs.Orders.{left}
 use Rattle.market_model.specs.Taking.{next_leg, take}
 use Rattle.plain_capacity.specs.Hour.{IsLegalOver}
 use Rattle.plain_matching.specs.Summed.{AreHourSums}
-use Rattle.plain_matching.proofs.Sums.{hour_sums-grow}
+use Rattle.plain_matching.proofs.Sums.{grew-more, hour_sums-grow, stays-or-after}
 use Rattle.plain_matching.proofs.Legs.{IsSoFar, all-so_far, more-so_far, take-next, take-end}
 use Rattle.plain_matching.proofs.taking.take.Goals as goal
 
@@ -27,7 +27,15 @@ loop-leg-preserved c =
       legal = subst (λ history. IsLegalOver c.args.grid.now history) (sym c.in_ok-push.ensures.ok) next.legal;
       summed = subst (λ history. AreHourSums c.args.grid.now history c.args.name.hour c.next_leg.new.sums) (sym c.in_ok-push.ensures.ok)
           (hour_sums-grow c.args.grid.now c.loop-leg.events (c.in-Some.leg ∷ []) c.args.name.hour c.next_leg.new.sums c.next_leg.ensures.summed);
+      kept = stays-or-after (c.loop-leg.events ≡ c.args.events.now) (c.in_ok-leg.field-0 ≡ None) (c.push.new.self ≡ c.args.events.now) (length c.args.events.now) (length c.loop-leg.events) c.args.sums.now.capacity c.loop-leg.sums.capacity c.next_leg.new.sums.capacity
+          (λ same none. absurd (cc (none, c.in-Some.is))) (grew-more c.args.events.now c.loop-leg.events c.loop-leg.invariant.so_far.done c.loop-leg.invariant.so_far.grew) c.loop-leg.invariant.kept c.in_ok-leg.ensures.capacity;
     }
+
+pub returns-clause-capacity : goal.returns-clause-capacity
+returns-clause-capacity c =
+    stays-or-after (c.loop-leg.events ≡ c.args.events.now) (c.in_ok-leg.field-0 ≡ None) (c.loop-leg.events ≡ c.args.events.now) (length c.args.events.now) (length c.loop-leg.events)
+    c.args.sums.now.capacity c.loop-leg.sums.capacity c.next_leg.new.sums.capacity
+    (λ same none. same) (grew-more c.args.events.now c.loop-leg.events c.loop-leg.invariant.so_far.done c.loop-leg.invariant.so_far.grew) c.loop-leg.invariant.kept c.in_ok-leg.ensures.capacity
 
 pub returns-clause-ok : goal.returns-clause-ok
 returns-clause-ok c =

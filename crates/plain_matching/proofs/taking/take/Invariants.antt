@@ -1,7 +1,8 @@
+use Rattle.std.proofs.Common.{◌≡◌, length}
 use Rattle.market_model.specs.Orders.{left}
 use Rattle.market_model.specs.Taking.{take}
 use Rattle.plain_capacity.specs.Hour.{IsLegalOver}
-use Rattle.plain_matching.specs.Summed.{AreHourSums}
+use Rattle.plain_matching.specs.Summed.{AreHourSums, StaysOrIsAfter}
 use Rattle.plain_matching.proofs.Legs.{IsSoFar}
 use Rattle.plain_matching.proofs.taking.take.Given as goal
 
@@ -11,6 +12,7 @@ invariant-loop-leg l = record {
   so_far : IsSoFar (λ history. take l.grid history l.name) l.initial.events l.events;
   legal : IsLegalOver l.grid l.events;
   summed : AreHourSums l.grid l.events l.name.hour l.sums;
+  kept : StaysOrIsAfter (l.events ≡ l.initial.events) (length l.initial.events) l.initial.sums.capacity l.sums.capacity;
 }
 
 -- each leg lowers what is left of the order

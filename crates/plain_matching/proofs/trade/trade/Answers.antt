@@ -9,6 +9,6 @@ leg_over-requires c = record {
   arcs = λ arc i.
       let known : HasArc c.args.grid.now arc =
       best_route-arcs c.args.grid.now (room_of c.args.rooms.now) c.seller_zone-seller.result c.buyer_zone-buyer.result c.in-Some.route
-      c.zones-zones.ensures.grid.is_graph (sym c.in_ok-route.ensures ∙ c.in-Some.is) arc i in
+      c.zones-count.ensures.grid.is_graph (sym c.in_ok-route.ensures ∙ c.in-Some.is) arc i in
       omega (arith, known, c.requires.size);
 }

@@ -12,7 +12,7 @@ pub returns-in-Some-clause-fill : goal.returns-in-Some-clause-fill
 returns-in-Some-clause-fill c =
     let some : 0 < c.args.left = omega (arith, c.if-left-eq0.false) in
     let found = c.in-Some.ensures ∙ reach-find c.args.grid.now (room_of c.args.rooms.now) c.args.side c.args.zone c.args.left c.args.makers.now
-    c.reached-reach.result c.is_sell.result c.is_sell.ensures c.reached-reach.ensures c.requires.makers in
+    c.reached-reach.result c.is_sell.result c.is_sell.ensures c.reached-reach.ensures.zones c.requires.makers in
     subst (λ v. IfOk c.fill_with.result (λ fill. fill ≡ v))
     (found-fill c.args.grid.now (room_of c.args.rooms.now) c.args.side c.args.zone c.args.left c.args.makers.now (Some c.in-Some.maker) some found)
     c.fill_with.ensures
@@ -21,5 +21,5 @@ pub returns-in-None-clause-fill : goal.returns-in-None-clause-fill
 returns-in-None-clause-fill c =
     let some : 0 < c.args.left = omega (arith, c.if-left-eq0.false) in
     let found = c.in-None.ensures ∙ reach-find c.args.grid.now (room_of c.args.rooms.now) c.args.side c.args.zone c.args.left c.args.makers.now
-    c.reached-reach.result c.is_sell.result c.is_sell.ensures c.reached-reach.ensures c.requires.makers in
+    c.reached-reach.result c.is_sell.result c.is_sell.ensures c.reached-reach.ensures.zones c.requires.makers in
     found-fill c.args.grid.now (room_of c.args.rooms.now) c.args.side c.args.zone c.args.left c.args.makers.now None some found
