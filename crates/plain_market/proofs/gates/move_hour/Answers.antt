@@ -10,7 +10,7 @@ sweep-requires c = record {
       (sym (gated c.args.events.now c.push.new.self c.append.new.events c.as_slice.result.now c.args.hour c.args.phase
       c.in_ok-push.ensures.ok c.in_ok-append.ensures.ok (c.as_slice.ensures ∙ c.in_ok-withdrawn.ensures)))
       c.requires.moved;
-  summed = c.none.ensures c.args.grid.now c.append.new.events c.args.hour;
+  summed = c.none.ensures c.args.grid.now c.append.new.events _;
 }
 
 pub returns-clause-ok : goal.returns-clause-ok
