@@ -21,7 +21,7 @@ use Rattle.market_model.specs.Orders.{Standing, placed, standing}
 use Rattle.market_model.specs.Sweep.{leg_in, leg_of_buy, resting_trade}
 use Rattle.market_laws.proofs.Trades.{from_line}
 use Rattle.plain_orders.specs.Listed.{first_price}
-use Rattle.plain_matching.specs.Over.{best_cross, crosses_best, crosses_price, leg_with_partner}
+use Rattle.plain_matching.specs.Over.{IsBestOfSells, best_cross, crosses_best, crosses_price, leg_with_partner}
 use Rattle.plain_matching.proofs.Here.{no_partner-leg}
 use Rattle.plain_matching.proofs.Places.{find-nothing, first_answer-nothing}
 use Rattle.plain_matching.proofs.Zones.{no_partner}
@@ -128,9 +128,16 @@ crosses-none own [] led apart = refl
 crosses-none own (top ∷ rest) led apart =
     none-of (crosses_price own) (top ∷ rest) (λ other i. no-better own.order.side own.price top.price other.price (led.each other i) apart)
 
+-- the first price of the sells of a contract is the best one
+pub best-sell : (events : List Event) (contract : Contract) → IsBestOfSells (first_price (line events contract Sell)) (line events contract Sell)
+best-sell events contract = record {
+  none = λ buy side apart.
+      crosses-none buy (line events contract Sell) (subst (λ s. IsLed (opposite s) (line events contract Sell)) (sym side) (line-led events contract Sell)) apart;
+}
+
 -- ---- no leg
 
-is-buy : (events : List Event) (contract : Contract) (buy : Standing) → IsIn buy (line events contract Buy) → buy.order.side ≡ Buy
+pub is-buy : (events : List Event) (contract : Contract) (buy : Standing) → IsIn buy (line events contract Buy) → buy.order.side ≡ Buy
 is-buy events contract buy i =
     let in_line = from_line events contract Buy buy i in ap (λ (s : Standing). s.order.side) in_line.is ∙ in_line.on_side
 
@@ -165,7 +172,7 @@ no_crossing graph events contract buy sell best_buy best_sell apart =
     first_answer-nothing (leg_of_buy graph events) (line events contract Buy)
     (λ own i. let side = is-buy events contract own i in
     no_leg_of_buy graph events contract own i
-    (crosses-none own (line events contract Sell) (subst (λ s. IsLed (opposite s) (line events contract Sell)) (sym side) (line-led events contract Sell))
+    ((best-sell events contract).none own side
     (no-buy (line events contract Buy) (first_price (line events contract Sell)) (line-led events contract Buy)
     (ap (λ b. best_cross b (first_price (line events contract Sell))) (sym best_buy) ∙ ap (best_cross buy) (sym best_sell) ∙ apart) own i side)))
 

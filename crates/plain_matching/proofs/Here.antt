@@ -81,6 +81,11 @@ module _ (graph : Graph) (is : IsGraph graph) (events : List Event) (contract : 
       ∙ first_answer-same (leg_of_buy_over graph (room_of rooms) sells) (leg_of_buy graph events) (line events contract Buy)
       (λ buy i. leg_of_buy-here sells buy are_sells (from_line events contract Buy buy i))
 
+-- a buy that has no partner in a line has no leg
+pub no_partner-over : (graph : Graph) (room : Arc → ℕ) (sells : List Standing) (buy : Standing) → partner_in graph room sells buy ≡ None
+    → None ≡ leg_of_buy_over graph room sells buy
+no_partner-over graph room sells buy none = sym (ap (option_and_then (resting_trade_over graph room buy)) none)
+
 -- an order that is open takes the leg with its partner, and without one there is no leg
 pub next_leg-is : (graph : Graph) (events : List Event) (name : OrderName) (own : Standing) → Some own ≡ standing_order events name
     → leg_with_partner graph events own ≡ next_leg graph name events

@@ -1,6 +1,6 @@
 -- Partners and legs over rooms that are given, and in lines that are given.
 use Rattle.std.specs.Prelude.{◌≡◌, ℕ, Bool, true, false, ◌&&◌, List, Option, Some, None, length, nat_lt, if◌then◌else◌}
-use Rattle.std.specs.List.{find}
+use Rattle.std.specs.List.{find, list_any}
 use Rattle.std.specs.Option.{option_map}
 use Rattle.std.specs.Ordering.{is_lt}
 use Rattle.order_kinds.specs.declared.contract.Contract.{Contract}
@@ -47,6 +47,14 @@ crosses_price own other = crosses own.order.side own.price other.price
 abbrev pub crosses_best : (own : Standing) → Option Price → Bool
 crosses_best own None = false
 crosses_best own (Some price) = crosses own.order.side own.price price
+
+-- this is the best price of some sells, if there are any: a buy that does not cross it crosses none of them
+pub record IsBestOfSells (best : Option Price) (sells : List Standing) : Type 0 where
+  pub none : (buy : Standing) → buy.order.side ≡ Buy → crosses_best buy best ≡ false → list_any (crosses_price buy) sells ≡ false
+
+-- some orders are buys
+pub record AreBuys (orders : List Standing) : Type 0 where
+  pub each : (order : Standing) → IsIn order orders → order.order.side ≡ Buy
 
 -- the best prices of a line of buys and of one of sells cross, if both have one
 abbrev pub best_cross : (buy sell : Option Price) → Bool

@@ -1,7 +1,7 @@
 //! The partner of an order in a line of the order book.
 
 ghost use Rattle.std.specs.Prelude.{◌≡◌, IfSome, length};
-ghost use Rattle.std.specs.List.{find, list_any};
+ghost use Rattle.std.specs.List.{find};
 ghost use Rattle.zone_graph.specs.Graph.{HasZone, border_count};
 ghost use Rattle.zone_graph.specs.Rooms.{room_of};
 ghost use Rattle.plain_routes.specs.Reached.{IsFoundIn};
@@ -17,27 +17,6 @@ use zone_graph::{Grid, Rooms};
 pub(crate) struct FoundPartner {
     pub(crate) order: StandingOrder,
     pub(crate) zones: ReachedZones,
-}
-
-/// The partner of an order, where a price of the line crosses at all: only then the zones in reach are
-/// searched. The rooms are those of the order's contract.
-pub(crate) fn crossing_partner(
-    grid: &Grid,
-    rooms: &Rooms,
-    line: &[StandingOrder],
-    own: &StandingOrder,
-) -> Option<FoundPartner>
-    requires size { length rooms.now ≡ border_count grid.now }
-    requires line { over.AreInZones grid.now line.now }
-    requires own { HasZone grid.now own.now.order.zone }
-    ensures order { over.order_of result ≡ over.partner_in grid.now (room_of rooms.now) line.now own.now }
-    ensures zones { IfSome result (λ partner. IsFoundIn grid.now (room_of rooms.now) partner.zones) }
-{
-    if has_crossing(line, own) {
-        partner(grid, rooms, line, own)
-    } else {
-        None
-    }
 }
 
 /// The partner of an order: the first of a line of the other side whose price crosses and to which a
@@ -90,13 +69,6 @@ pub(crate) fn best_cross(buy: Option<Price>, sell: Option<Price>) -> bool
         (Some(buy), Some(sell)) => Side::Buy.crosses(buy, sell),
         _ => false,
     }
-}
-
-// Whether the price of an order of the line crosses.
-fn has_crossing(line: &[StandingOrder], own: &StandingOrder) -> bool
-    ensures { result ≡ list_any (over.crosses_price own.now) line.now }
-{
-    line.iter().any(|other| crosses_price(own, other))
 }
 
 // The first order of the line whose price crosses and whose zone is in the set.

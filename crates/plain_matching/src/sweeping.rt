@@ -4,6 +4,7 @@ ghost use Rattle.std.specs.Prelude.{◌≡◌, ◌++◌, true, IfOk, IfSome, OnO
 ghost use Rattle.std.specs.List.{list_all};
 ghost use Rattle.order_kinds.specs.Contract as contracts;
 ghost use Rattle.order_kinds.specs.Period.{hours_from};
+ghost use Rattle.order_kinds.specs.declared.side.Side.TheVariants.{Buy};
 ghost use Rattle.zone_graph.specs.Graph.{HasZone, border_count};
 ghost use Rattle.zone_graph.specs.Grid.{IsGrid};
 ghost use Rattle.zone_graph.specs.Rooms.{room_of};
@@ -16,10 +17,10 @@ ghost use Rattle.plain_matching.specs.Over as over;
 ghost use Rattle.plain_matching.specs.Summed.{AreHourSums, HasOrders, StaysOrIsAfter};
 
 use crate::hour_sums::HourSums;
-use crate::partner::{best_cross, crossing_partner};
+use crate::partner::{best_cross, crosses_best, partner};
 use crate::trade::resting_trade;
 use event_history::History;
-use market_model::{Contract, Event, NoMemory, Part, Side};
+use market_model::{Contract, Event, NoMemory, Part, Price, Side};
 use plain_capacity::{CapacitySums, contract_rooms_over};
 use plain_orders::{StandingOrder, best_price, line, open_orders_over};
 use std::alloc::Global;
@@ -172,50 +173,68 @@ fn leg_in(
     let zones = grid.zones();
     prove!(zones <= 64);
     let best_buy = best_price(orders, contract, Side::Buy);
-    if !best_cross(best_buy, best_price(orders, contract, Side::Sell)) {
+    let best_sell = best_price(orders, contract, Side::Sell);
+    if !best_cross(best_buy, best_sell) {
         return Ok(None);
     }
     let buys = line(alloc, orders, contract, Side::Buy)?;
     let sells = line(alloc, orders, contract, Side::Sell)?;
     let rooms = contract_rooms_over(alloc, grid, events, capacity, contract)?;
-    first_leg(alloc, grid, &rooms, buys.as_slice(), sells.as_slice())
+    first_leg(
+        alloc,
+        grid,
+        &rooms,
+        buys.as_slice(),
+        sells.as_slice(),
+        best_sell,
+    )
 }
 
-// The leg of the first of some buys that has a partner in a line of sells.
+// The leg of the first of some buys that has a partner in a line of sells, of which this is the best price.
 fn first_leg(
     alloc: Global,
     grid: &Grid,
     rooms: &Rooms,
     buys: &[StandingOrder],
     sells: &[StandingOrder],
+    best: Option<Price>,
 ) -> Result<Option<Event>, NoMemory>
     requires size { length rooms.now ≡ border_count grid.now }
     requires buys { over.AreInZones grid.now buys.now }
+    requires sides { over.AreBuys buys.now }
     requires sells { over.AreInZones grid.now sells.now }
+    requires best { over.IsBestOfSells best sells.now }
     ensures { IfOk result (λ leg. leg ≡ market.first_answer (over.leg_of_buy_over grid.now (room_of rooms.now) sells.now) buys.now) }
 {
     for buy in buys {
-        if let Some(leg) = leg_of_buy(alloc, grid, rooms, sells, buy)? {
+        if let Some(leg) = leg_of_buy(alloc, grid, rooms, sells, best, buy)? {
             return Ok(Some(leg));
         }
     }
     Ok(None)
 }
 
-// The leg of a buy with its partner in a line of sells.
+// The leg of a buy with its partner in a line of sells, of which this is the best price: where it does not
+// cross that, no sell is looked at.
 fn leg_of_buy(
     alloc: Global,
     grid: &Grid,
     rooms: &Rooms,
     sells: &[StandingOrder],
+    best: Option<Price>,
     buy: &StandingOrder,
 ) -> Result<Option<Event>, NoMemory>
     requires size { length rooms.now ≡ border_count grid.now }
     requires sells { over.AreInZones grid.now sells.now }
+    requires best { over.IsBestOfSells best sells.now }
     requires buy { HasZone grid.now buy.now.order.zone }
+    requires side { buy.now.order.side ≡ Buy }
     ensures { IfOk result (λ leg. leg ≡ over.leg_of_buy_over grid.now (room_of rooms.now) sells.now buy.now) }
 {
-    match crossing_partner(grid, rooms, sells, buy) {
+    if !crosses_best(buy, best) {
+        return Ok(None);
+    }
+    match partner(grid, rooms, sells, buy) {
         Some(partner) => resting_trade(alloc, grid, rooms, &partner.zones, buy, &partner.order),
         None => Ok(None),
     }

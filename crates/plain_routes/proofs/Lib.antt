@@ -1,3 +1,4 @@
+pub mod Onward
 pub mod Passes
 pub mod Spreads
 pub mod Steps

@@ -5,9 +5,11 @@ use Rattle.std.proofs.lemmas.List.{length-set}
 use Rattle.std.proofs.lemmas.List.Sums.{sum_by-set}
 use Rattle.zone_graph.specs.declared.route.Arc.{Arc}
 use Rattle.zone_graph.specs.Graph.{Graph, HasArc, border_count, end_of, start_of}
+use Rattle.zone_graph.specs.Grid.{IsGrid}
 use Rattle.zone_graph.specs.Pour.{same_arc, same_bool}
 use Rattle.zone_graph.proofs.Arcs.{same_arc-is}
 use Rattle.zone_graph.proofs.Finding.{none_from}
+use Rattle.zone_graph.proofs.GridLemmas.{start_within}
 use Rattle.zone_search.specs.Distance.{arcs_of_distance, distance_at}
 use Rattle.plain_routes.specs.Rounds.{IsPassed, IsTold, finds, one_if_unfound, unfound}
 
@@ -185,6 +187,10 @@ border_more border arc e = by (nat_lt arc.border border) refl (border == arc.bor
       where
         ltb-le : (a b : ℕ) → nat_lt a b ≡ false → b ≤ a
         ltb-le a b h = grind arith
+
+-- the zone that an arc leads from has a place
+pub start_places : (graph : Graph) (arc : Arc) → IsGrid graph → HasArc graph arc → start_of graph arc < 64
+start_places graph arc grid known = omega (arith, start_within graph arc grid.is_graph known, grid.few_zones)
 
 -- ---- a whole border
 

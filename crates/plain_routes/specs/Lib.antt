@@ -1,4 +1,5 @@
 -- What the contracts of this crate cite.
+pub mod Onward
 pub mod Reached
 pub mod Rounds
 pub mod Steps

@@ -5,10 +5,12 @@ ghost use Rattle.zone_graph.specs.declared.route.Arc.{Arc};
 ghost use Rattle.zone_graph.specs.Graph.{HasArc, HasZone, border_count};
 ghost use Rattle.zone_graph.specs.Rooms.{room_of};
 ghost use Rattle.zone_graph.specs.Route.{best_route as route_of};
-ghost use Rattle.zone_search.specs.Distance.{AreDistances, IsLeastStep, distance_at};
+ghost use Rattle.zone_search.specs.Distance.{AreDistances, IsLeastStep, directed_room, distance_at};
+ghost use Rattle.plain_routes.specs.Onward.{LeadDown};
 ghost use Rattle.plain_routes.specs.Steps.{HasStep, is_step as steps_to};
 
 use crate::rounds::{distances, is_at};
+use crate::ways::onward;
 use std::alloc::Global;
 use zone_graph::{Arc, Grid, NoMemory, Rooms, Route};
 
@@ -30,11 +32,38 @@ pub fn best_route(
     requires size { length rooms.now ≡ border_count grid.now }
     ensures { IfOk result (λ found. found ≡ route_of grid.now (room_of rooms.now) from to) }
 {
+    let zones = grid.zones();
+    prove!(from < zones);
     let distances = distances(grid, rooms, to, true);
     route_by(alloc, grid, rooms, &distances, from, to)
 }
 
-/// The same route, by how far each zone is from the one that it leads to.
+/// The same route, by how far each zone is from the one that it leads from: what leads on from there to the
+/// other one is searched back from that, and nothing where both are one.
+pub(crate) fn route_onward(
+    alloc: Global,
+    grid: &Grid,
+    rooms: &Rooms,
+    distances: &[Option<u32>],
+    from: u32,
+    to: u32,
+) -> Result<Option<Route>, NoMemory>
+    requires from { HasZone grid.now from }
+    requires to { HasZone grid.now to }
+    requires size { length rooms.now ≡ border_count grid.now }
+    requires distances { AreDistances grid.now (directed_room (room_of rooms.now) false) from distances.now }
+    ensures { IfOk result (λ found. found ≡ route_of grid.now (room_of rooms.now) from to) }
+{
+    let zones = grid.zones();
+    prove!(to < zones);
+    let Some(far) = distances[to as usize] else {
+        return Ok(None);
+    };
+    let onward = onward(grid, rooms, distances, to, far);
+    route_by(alloc, grid, rooms, &onward, from, to)
+}
+
+/// The same route, by distances that lead down to the zone that it leads to.
 pub(crate) fn route_by(
     alloc: Global,
     grid: &Grid,
@@ -45,7 +74,7 @@ pub(crate) fn route_by(
 ) -> Result<Option<Route>, NoMemory>
     requires from { HasZone grid.now from }
     requires size { length rooms.now ≡ border_count grid.now }
-    requires distances { AreDistances grid.now (room_of rooms.now) to distances.now }
+    requires distances { LeadDown grid.now (room_of rooms.now) from to distances.now }
     ensures { IfOk result (λ found. found ≡ route_of grid.now (room_of rooms.now) from to) }
 {
     let zones = grid.zones();

@@ -5,6 +5,7 @@
 mod choice;
 mod reach;
 mod rounds;
+mod ways;
 
 pub use choice::best_route;
 pub use reach::{ReachedZones, reached};

@@ -7,7 +7,7 @@ ghost use Rattle.zone_graph.specs.Route.{best_route as route_of};
 ghost use Rattle.cut_proof.specs.Cut.{reaches_in};
 ghost use Rattle.plain_routes.specs.Reached as sets;
 
-use crate::choice::{best_route, route_by};
+use crate::choice::{best_route, route_by, route_onward};
 use crate::rounds::{Distances, distances};
 use std::alloc::Global;
 use zone_graph::{Grid, MOST_ZONES, NoMemory, Rooms, Route};
@@ -29,7 +29,7 @@ impl ReachedZones {
     }
 
     /// The best route between two zones, as [`best_route`] answers it. It is not searched again where
-    /// the routes of the set lead to the second.
+    /// the routes of the set lead to the second zone, or from the first.
     ///
     /// The zones are in the grid, the set was found in it over these rooms, and these are those of its
     /// arcs.
@@ -51,8 +51,12 @@ impl ReachedZones {
         requires found { sets.IsFoundIn grid.now (room_of rooms.now) self.now }
         ensures { IfOk result (λ found. found ≡ route_of grid.now (room_of rooms.now) from to) }
     {
+        let zones = grid.zones();
+        prove!(from < zones);
         if self.towards && self.zone == to {
             route_by(alloc, grid, rooms, &self.distances, from, to)
+        } else if !self.towards && self.zone == from {
+            route_onward(alloc, grid, rooms, &self.distances, from, to)
         } else {
             best_route(alloc, grid, rooms, from, to)
         }

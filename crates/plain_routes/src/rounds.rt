@@ -46,19 +46,13 @@ fn find_next(
     let mut found = false;
     let borders = grid.borders();
     for border in 0..borders {
-        let forward = find_over(
-            grid,
-            rooms,
-            towards,
-            Arc::over(border, true),
-            round,
-            distances,
-        );
+        let one = Arc::over(border, true);
+        let forward = find_over(grid, one, directed(rooms, one, towards), round, distances);
+        let other = Arc::over(border, false);
         let backward = find_over(
             grid,
-            rooms,
-            towards,
-            Arc::over(border, false),
+            other,
+            directed(rooms, other, towards),
             round,
             distances,
         );
@@ -67,25 +61,23 @@ fn find_next(
     found
 }
 
-// Gives the zone that an arc leads from the next distance, if it has none, the arc has room, and the
-// zone that it leads to is at this distance. Whether that was so.
-fn find_over(
+/// Gives the zone that an arc leads from the next distance, if it has none, the arc has room, and the
+/// zone that it leads to is at this distance. Whether that was so.
+pub fn find_over(
     grid: &Grid,
-    rooms: &Rooms,
-    towards: bool,
     arc: Arc,
+    room: u32,
     round: u32,
     distances: &mut [Option<u32>],
 ) -> bool
     requires arc { HasArc grid.now arc }
-    requires size { length rooms.now ≡ border_count grid.now }
     requires places { length distances.old ≡ 64 }
     requires round { round < 64 }
-    ensures found { result ≡ finds grid.now (directed_room (room_of rooms.now) towards) distances.old round arc }
+    ensures found { result ≡ finds grid.now (λ _. room) distances.old round arc }
     ensures distances { distances.new ≡ (if result then slice_set distances.old (start_of grid.now arc) (Some (round + 1)) else distances.old) }
 {
     let (start, end) = grid.ends(arc);
-    let found = directed(rooms, arc, towards) > 0
+    let found = room > 0
         && is_at(distances[end as usize], round)
         && distances[start as usize].is_none();
     if found {
@@ -104,7 +96,7 @@ fn directed(rooms: &Rooms, arc: Arc, towards: bool) -> u32
 
 /// Whether a zone is at a distance.
 pub fn is_at(found: Option<u32>, distance: u32) -> bool
-    requires { distance < 64 }
+    requires { distance < 128 }
     ensures { result ≡ (arcs_of_distance found == distance) }
 {
     match found {

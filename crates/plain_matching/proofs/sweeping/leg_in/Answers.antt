@@ -1,23 +1,36 @@
 use Rattle.std.proofs.Common.{◌≡◌, ◌∙◌, IfOk, ap, subst, sym}
 use Rattle.order_kinds.specs.declared.side.Side.TheVariants.{Buy, Sell}
+use Rattle.market_model.specs.Lines.{line}
 use Rattle.plain_orders.specs.Listed.{first_price}
-use Rattle.plain_matching.specs.Over.{AreInZones, AreRoomsFor}
-use Rattle.plain_matching.proofs.Apart.{no_crossing}
+use Rattle.plain_matching.specs.Over.{AreBuys, AreInZones, AreRoomsFor, IsBestOfSells}
+use Rattle.plain_matching.proofs.Apart.{best-sell, is-buy, no_crossing}
 use Rattle.plain_matching.proofs.Here.{legs-here}
 use Rattle.plain_matching.proofs.Orders.{line-zones, lines-are}
 use Rattle.plain_matching.proofs.sweeping.leg_in.Goals as goal
 
 pub returns-then-not-best_cross-clause-leg : goal.returns-then-not-best_cross-clause-leg
 returns-then-not-best_cross-clause-leg c =
-    sym (no_crossing c.args.grid.now c.args.events.now c.args.contract c.best_price-best_buy.result c.best_price.result
+    sym (no_crossing c.args.grid.now c.args.events.now c.args.contract c.best_price-best_buy.result c.best_price-best_sell.result
     (c.best_price-best_buy.ensures ∙ ap first_price (lines-are c.args.grid.now c.args.events.now c.args.orders.now c.args.contract Buy c.requires.legal c.requires.orders))
-    (c.best_price.ensures ∙ ap first_price (lines-are c.args.grid.now c.args.events.now c.args.orders.now c.args.contract Sell c.requires.legal c.requires.orders))
+    (c.best_price-best_sell.ensures ∙ ap first_price (lines-are c.args.grid.now c.args.events.now c.args.orders.now c.args.contract Sell c.requires.legal c.requires.orders))
     (sym c.if-not-best_cross.ensures))
 
 pub first_leg-requires-clause-buys : goal.first_leg-requires-clause-buys
 first_leg-requires-clause-buys c =
     let are = c.in_ok-buys.ensures ∙ lines-are c.args.grid.now c.args.events.now c.args.orders.now c.args.contract Buy c.requires.legal c.requires.orders in
     subst (AreInZones c.args.grid.now) (sym (c.as_slice.ensures.value ∙ are)) (line-zones c.args.grid.now c.args.events.now c.args.contract Buy c.requires.legal)
+
+pub first_leg-requires-clause-sides : goal.first_leg-requires-clause-sides
+first_leg-requires-clause-sides c =
+    let are = c.in_ok-buys.ensures ∙ lines-are c.args.grid.now c.args.events.now c.args.orders.now c.args.contract Buy c.requires.legal c.requires.orders in
+    subst AreBuys (sym (c.as_slice.ensures.value ∙ are)) (record { each = is-buy c.args.events.now c.args.contract })
+
+pub first_leg-requires-clause-best : goal.first_leg-requires-clause-best
+first_leg-requires-clause-best c =
+    let are = lines-are c.args.grid.now c.args.events.now c.args.orders.now c.args.contract Sell c.requires.legal c.requires.orders in
+    subst (λ best. IsBestOfSells best c.as_slice-2.result.now) (sym (c.best_price-best_sell.ensures ∙ ap first_price are))
+    (subst (IsBestOfSells (first_price (line c.args.events.now c.args.contract Sell))) (sym (c.as_slice-2.ensures.value ∙ c.in_ok-sells.ensures ∙ are))
+    (best-sell c.args.events.now c.args.contract))
 
 pub first_leg-requires-clause-sells : goal.first_leg-requires-clause-sells
 first_leg-requires-clause-sells c =

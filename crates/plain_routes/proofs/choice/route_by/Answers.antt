@@ -1,18 +1,14 @@
 use Rattle.std.proofs.Common.{◌≡◌, [], sym, subst, arith, append-nil}
 use Rattle.zone_graph.specs.Rooms.{room_of}
 use Rattle.zone_search.specs.Distance.{IsDescent, distance_at}
-use Rattle.zone_search.proofs.Nearest.{descent_is_best, no_route}
 use Rattle.plain_routes.proofs.choice.route_by.Goals as goal
 
 pub returns-in_default : goal.returns-in_default
-returns-in_default c =
-    sym (no_route c.args.grid.now (room_of c.args.rooms.now) c.args.from c.args.to c.args.distances.now
-    c.zones-zones.ensures.grid.is_graph c.requires.distances c.in_default.is)
+returns-in_default c = sym (c.requires.distances.none c.in_default.is)
 
 pub returns : goal.returns
 returns c =
     let home : distance_at c.args.distances.now c.loop-distance.zone ≡ 0 = omega (arith, c.loop-distance.invariant.far) in
     let descent = subst (λ arcs. IsDescent c.args.grid.now (room_of c.args.rooms.now) c.args.distances.now c.args.from arcs) (append-nil c.loop-distance.route)
     (c.loop-distance.invariant.onward [] home) in
-    sym (descent_is_best c.args.grid.now (room_of c.args.rooms.now) c.args.from c.args.to c.args.distances.now c.loop-distance.route
-    c.zones-zones.ensures.grid.is_graph c.requires.distances descent)
+    sym (c.requires.distances.best c.loop-distance.route descent)
