@@ -1,10 +1,10 @@
 #!/usr/bin/env python3
-"""Lists what each crate promises, in docs/PROVED.md between its two marks.
+"""Lists what each crate promises, in docs/PROVED.md, and the layers of the crates, in docs/ARCHITECTURE.md, between two marks.
 
-usage: tools/list_promises.py             writes the list there
-       tools/list_promises.py --check     ends with status 1 where the document has another list
+usage: tools/list_promises.py             writes both lists there
+       tools/list_promises.py --check     ends with status 1 where one of the documents has another list
 
-The crates come in the order of crates.txt, under its comments. A row has the first sentence of the crate's head; its public
+The layers are the comments of crates.txt, with the crates below each in its order. A row of promises has the first sentence of the crate's head; its public
 functions with `ensures` clauses and the number of these, with the names of those that have one; and what is not promised: public
 functions without such a clause, what is a test or a program, and that a call which may wait returns.
 """
@@ -13,7 +13,6 @@ import sys
 from pathlib import Path
 
 TOP = Path(__file__).resolve().parent.parent
-DOCUMENT = TOP / "docs" / "PROVED.md"
 BEGIN = "<!-- the list of tools/list_promises.py begins -->"
 END = "<!-- the list of tools/list_promises.py ends -->"
 # What is no code: comments, texts and single characters, which may hold brackets.
@@ -123,20 +122,37 @@ def row_of(crate, flags):
     return f"| `{crate}` | {first_sentence(head)} | {promises} | {'; '.join(beside)} |"
 
 
-def listing():
-    """The list: a table for each layer of crates.txt."""
-    lines = []
-    layer = None
+def layers():
+    """The layers of crates.txt: what the comment says, and the crates with their flags."""
+    found = []
     for line in (TOP / "crates.txt").read_text().split("\n\n", 1)[1].splitlines():
         if line.startswith("#"):
-            layer = line[1:].strip()
+            found.append((line[1:].strip().rstrip("."), []))
         elif line:
             crate, *flags = line.split(":")[0].split()
-            if layer:
-                lines += ["", f"### {layer.rstrip('.')}", "", "| crate | what it is for | what it promises | not promised |", "|---|---|---|---|"]
-                layer = None
-            lines.append(row_of(crate, " ".join(flags)))
-    return "\n".join(lines) + "\n\n"
+            found[-1][1].append((crate, " ".join(flags)))
+    return found
+
+
+def promises():
+    """A table of what the crates promise for each layer."""
+    lines = []
+    for layer, crates in layers():
+        lines += ["", f"### {layer}", "", "| crate | what it is for | what it promises | not promised |", "|---|---|---|---|"]
+        lines += [row_of(crate, flags) for crate, flags in crates]
+    return lines
+
+
+def layer_map():
+    """A table of the layers, a row for each."""
+    rows = [f"| {layer} | {' '.join(f'`{crate}`' for crate, _ in crates)} |" for layer, crates in layers()]
+    return ["", "| layer | crates |", "|---|---|", *rows]
+
+
+def with_list(text, lines):
+    """A document with these lines between its marks."""
+    before, rest = text.split(BEGIN)
+    return before + BEGIN + "\n" + "\n".join(lines) + "\n\n" + END + rest.split(END)[1]
 
 
 def main():
@@ -144,13 +160,14 @@ def main():
     if words and words != ["--check"]:
         print(__doc__.strip())
         sys.exit(words[0] not in ("-h", "--help"))
-    text = DOCUMENT.read_text()
-    before, rest = text.split(BEGIN)
-    wanted = before + BEGIN + "\n" + listing() + END + rest.split(END)[1]
-    if not words:
-        DOCUMENT.write_text(wanted)
-    elif text != wanted:
-        sys.exit("docs/PROVED.md has another list than the crates: tools/list_promises.py writes it")
+    for name, lines in [("PROVED.md", promises()), ("ARCHITECTURE.md", layer_map())]:
+        document = TOP / "docs" / name
+        text = document.read_text()
+        wanted = with_list(text, lines)
+        if not words:
+            document.write_text(wanted)
+        elif text != wanted:
+            sys.exit(f"docs/{name} has another list than the crates: tools/list_promises.py writes it")
 
 
 if __name__ == "__main__":
