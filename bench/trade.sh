@@ -4,8 +4,8 @@
 #     bench/trade.sh [COMMANDS]
 #
 # The generated session of so many commands (100000), by six traders and an operator, on 1, 2 and 4 processors: the seconds
-# and the greatest memory of each, of three runs the shortest. The journal of `replay` is always the same; that of
-# `trade` has as many lines.
+# and the greatest memory of each, of three runs the shortest. `trade` gives each caller a thread of its own where threads can
+# be made; `replay` uses one. The journal of `replay` is always the same; that of `trade` has as many lines.
 set -eu
 top=$(cd "$(dirname "$(readlink -f "$0")")/.." && pwd)
 work=$(mktemp -d)
