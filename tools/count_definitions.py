@@ -3,6 +3,7 @@
 
 usage: tools/count_definitions.py [CRATE]
        tools/count_definitions.py --sum [CRATE]     the sum alone
+       tools/count_definitions.py --check           ends with status 1 where README names another sum for one_history
 
 A law of a crate cites modules of specs/, which cite others by their `use` lines. Printed is each file that is reached so from
 the specs/ of the crate (one_history, whose law is the headline), with its lines, and the sum. A line counts unless it is empty,
@@ -14,7 +15,9 @@ import re
 import sys
 from pathlib import Path
 
-CRATES = Path(__file__).resolve().parent.parent / "crates"
+TOP = Path(__file__).resolve().parent.parent
+CRATES = TOP / "crates"
+README = TOP / "README.md"
 HEADLINE = "one_history"
 USE = re.compile(r"(?:pub )?use Rattle\.(\w+)\.specs\.([\w.]+)")
 
@@ -71,25 +74,31 @@ def lines_of(file):
     return sum(map(is_counted, file.read_text().splitlines()))
 
 
-def main():
-    words = sys.argv[1:]
-    if words and words[0] in ("-h", "--help"):
-        print(__doc__.strip())
-        return
-    alone = words[:1] == ["--sum"]
-    crate = next(iter(words[alone:]), HEADLINE)
-    if not (CRATES / crate / "specs").is_dir():
-        sys.exit(f"{crate} has no specs/")
-    files, types, outside = files_cited(crate)
-    total = sum(map(lines_of, files))
-    if alone:
-        print(total)
-        return
+def print_all(files, types, outside, total):
     for file in sorted(files):
         print(f"{lines_of(file):6} {file.relative_to(CRATES)}")
     libraries = sorted({owner for owner, _ in outside})
     print(f"{total:6} lines in {len(files)} files of {len({file.relative_to(CRATES).parts[0] for file in files})} crates")
     print(f"       beside {len(types)} types that Rust sources declare, and {len(outside)} modules of {', '.join(libraries)}")
+
+
+def main():
+    words = sys.argv[1:]
+    if words and words[0] in ("-h", "--help"):
+        print(__doc__.strip())
+        return
+    option = words.pop(0) if words[:1] in (["--sum"], ["--check"]) else ""
+    crate = words[0] if words else HEADLINE
+    if not (CRATES / crate / "specs").is_dir():
+        sys.exit(f"{crate} has no specs/")
+    files, types, outside = files_cited(crate)
+    total = sum(map(lines_of, files))
+    if option == "--sum":
+        print(total)
+    elif option == "--check":
+        sys.exit(None if f"rests on {total} lines" in README.read_text() else f"README names no {total} lines of definitions")
+    else:
+        print_all(files, types, outside, total)
 
 
 if __name__ == "__main__":
