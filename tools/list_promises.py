@@ -1,12 +1,12 @@
 #!/usr/bin/env python3
-"""Lists what each crate promises, in docs/PROVED.md, and the layers of the crates, in docs/ARCHITECTURE.md, between two marks.
+"""Lists what each crate promises in docs/PROVED.md, and the layers of the crates in docs/ARCHITECTURE.md, between two marks.
 
 usage: tools/list_promises.py             writes both lists there
        tools/list_promises.py --check     ends with status 1 where one of the documents has another list
 
-The layers are the comments of crates.txt, with the crates below each in its order. A row of promises has the first sentence of the crate's head; its public
-functions with `ensures` clauses and the number of these, with the names of those that have one; and what is not promised: public
-functions without such a clause, what is a test or a program, and that a call which may wait returns.
+The layers are the comments of crates.txt, with the crates below each in its order. A row of promises has the first sentence of
+the crate's head; its public functions with `ensures` clauses, how many these are, and the names of those that have one; and what is
+not promised: public functions without such a clause, what is a test or a program, and that a call which may wait returns.
 """
 import re
 import sys
@@ -100,26 +100,35 @@ def counted(number, what):
     return f"{number} {what}" if number == 1 else f"{number} {what}s"
 
 
+def promised(functions):
+    """The functions that have clauses, how many these are, and the names of those that have one."""
+    promising = [(owner, name) for owner, name, clauses in functions if clauses]
+    clauses = [clause for _, _, clauses in functions for clause in clauses]
+    if not clauses:
+        return ""
+    named = ", ".join(f"`{name}`" for name in dict.fromkeys(filter(None, clauses)))
+    text = f"{counted(len(promising), 'function')}: {by_type(promising)}; {counted(len(clauses), 'clause')}"
+    return f"{text}, named {named}" if named else text
+
+
+def not_promised(functions, tests, is_program, waits):
+    silent = by_type((owner, name) for owner, name, clauses in functions if not clauses)
+    texts = [f"no `ensures`: {silent}"] if silent else []
+    texts += [counted(tests, "test")] if tests else []
+    texts += ["a program: its `main` promises nothing"] if is_program else []
+    texts += ["that a call which waits returns"] if waits else []
+    return "; ".join(texts)
+
+
 def row_of(crate, flags):
     first = head_of(crate)
     head = first.read_text()
     names = exported(head)
     files = sorted((TOP / "crates" / crate / "src").rglob("*.rt"))
     functions = [found for file in files for found in functions_of(file) if (found[0] or found[1]) in names]
-    promising = [(owner, name) for owner, name, clauses in functions if clauses]
-    clauses = [clause for _, _, clauses in functions for clause in clauses]
-    named = ", ".join(f"`{name}`" for name in dict.fromkeys(filter(None, clauses)))
-    promises = ""
-    if promising:
-        promises = f"{counted(len(promising), 'function')}: {by_type(promising)}; {counted(len(clauses), 'clause')}"
-        promises += f", named {named}" if named else ""
-    silent = by_type((owner, name) for owner, name, clauses in functions if not clauses)
     tests = sum(file.read_text().count("#[test]") for file in files)
-    beside = [f"no `ensures`: {silent}"] if silent else []
-    beside += [counted(tests, "test")] if tests else []
-    beside += ["a program: its `main` promises nothing"] if first.name == "main.rt" else []
-    beside += ["that a call which waits returns"] if "may_wait" in flags else []
-    return f"| `{crate}` | {first_sentence(head)} | {promises} | {'; '.join(beside)} |"
+    beside = not_promised(functions, tests, first.name == "main.rt", "may_wait" in flags)
+    return f"| `{crate}` | {first_sentence(head)} | {promised(functions)} | {beside} |"
 
 
 def layers():
