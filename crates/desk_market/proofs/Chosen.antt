@@ -9,12 +9,12 @@ use Rattle.market_model.specs.declared.setup.Setup.{Setup}
 use Rattle.market_model.specs.Grid.{graph_of}
 use Rattle.market_model.specs.History.{events_of}
 use Rattle.market_model.specs.Rules.{touched_hours}
-use Rattle.day_desks.specs.Kinds.{IsNoBasket}
-use Rattle.day_desks.specs.Rows.{AreReady, IsJournalOf, dropped, hours_of, planning_all}
-use Rattle.day_desks.specs.Day.{DayState, chosen_of, others_of}
+use Rattle.basket_match.specs.Kinds.{IsNoBasket}
+use Rattle.basket_match.specs.Rows.{AreReady, IsJournalOf, dropped, hours_of, planning_all}
+use Rattle.desk_market.specs.Day.{DayState, chosen_of, others_of}
 use Rattle.desk_market.specs.Standing.{IsChosen, planned_desks}
 use Rattle.desk_market.proofs.Planned.{day-failed, day-planned, settled-hours, settled-journal, settled-ready}
-use Rattle.day_desks.proofs.TouchedHours.{AreHoursOf, touched-hours}
+use Rattle.basket_match.proofs.TouchedHours.{AreHoursOf, touched-hours}
 
 module _ (setup : Setup) (entries : List Entry) (caller : ℕ) (given : Command) (day : DayState) (is : IsChosen setup entries caller given day) where
   hours : AreHoursOf setup (touched_hours setup caller given)

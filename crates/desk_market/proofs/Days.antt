@@ -1,8 +1,8 @@
 -- The desks of a day by hour: those that are chosen, and the others.
 use Rattle.std.proofs.Common.{◌≡◌, ◌∙◌, ℕ, zero, suc, ◌+◌, not, Bool, true, false, if◌then◌else◌, List, [], ◌∷◌, filter, map, refl, ap}
 use Rattle.std.specs.List.{range_with_len}
-use Rattle.day_desks.specs.Desk.{DeskState}
-use Rattle.day_desks.specs.Day.{chosen_from, others_from}
+use Rattle.basket_match.specs.Desk.{DeskState}
+use Rattle.desk_market.specs.Day.{chosen_from, others_from}
 
 -- the chosen desks of a day of which each is made by its hour
 pub chosen-made : (takes : ℕ → Bool) (made : ℕ → DeskState) (hour count : ℕ)

@@ -10,9 +10,9 @@ use Rattle.market_model.specs.declared.setup.Setup.{Setup}
 use Rattle.market_model.specs.History.{events_of, journal_events, of_hour}
 use Rattle.market_model.specs.HourSet.{IsSetOf}
 use Rattle.market_model.specs.Market.{IsLegal, reply_to}
-use Rattle.day_desks.specs.Desk.{DeskState, carried}
-use Rattle.day_desks.specs.Rows.{dropped}
-use Rattle.day_desks.specs.Day.{DayState, chosen_of, others_of}
+use Rattle.basket_match.specs.Desk.{DeskState, carried}
+use Rattle.basket_match.specs.Rows.{dropped}
+use Rattle.desk_market.specs.Day.{DayState, chosen_of, others_of}
 use Rattle.desk_market.specs.Standing.{IsMarket, planned_desks, planned_hours}
 use Rattle.desk_market.proofs.Counted.{count-more}
 use Rattle.desk_market.proofs.Planned.{day-carried, day-dropped}

@@ -6,3 +6,6 @@ pub mod Replying
 pub mod Counted
 pub mod Chosen
 pub mod Grown
+pub mod Places
+pub mod Rooms
+pub mod Waits

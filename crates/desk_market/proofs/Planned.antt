@@ -20,13 +20,13 @@ use Rattle.market_model.specs.WellFormed.{IsMarketSetup}
 use Rattle.market_laws.proofs.Journals.{journal_events-more}
 use Rattle.market_laws.proofs.Restrict.{filter-same, map-same}
 use Rattle.trade_journal.specs.Journals.{all_rooms}
-use Rattle.day_desks.specs.Desk.{DeskState, carried, planning, with_nothing_planned}
-use Rattle.day_desks.specs.Rows.{AreReady, IsJournalOf, dropped, hours_of, planning_all}
-use Rattle.day_desks.specs.Day.{DayState, chosen_from, chosen_of, others_from, others_of}
+use Rattle.basket_match.specs.Desk.{DeskState, carried, planning, with_nothing_planned}
+use Rattle.basket_match.specs.Rows.{AreReady, IsJournalOf, dropped, hours_of, planning_all}
+use Rattle.desk_market.specs.Day.{DayState, chosen_from, chosen_of, others_from, others_of}
 use Rattle.desk_market.specs.Standing.{IsOfDay, planned_desk, planned_desks, settled_desk, settled_desks}
 use Rattle.desk_market.proofs.Days.{chosen-made, day-told, others-made}
 use Rattle.desk_market.proofs.Numbers.{numbers-left}
-use Rattle.day_desks.proofs.TouchedHours.{AreHoursOf, filter-has}
+use Rattle.basket_match.proofs.TouchedHours.{AreHoursOf, filter-has}
 
 map-map : {X : Type 0} (f : DeskState → X) (g : ℕ → DeskState) (xs : List ℕ) → map f (map g xs) ≡ map (λ x. f (g x)) xs
 map-map f g [] = refl

@@ -18,8 +18,8 @@ use Rattle.market_model.specs.WellFormed.{IsHistory, IsMarketSetup}
 use Rattle.market_laws.proofs.Journals.{run-history}
 use Rattle.market_laws.proofs.NamedByHour.{history-named}
 use Rattle.market_laws.proofs.WithinHours.{reply-within}
-use Rattle.day_desks.proofs.Touching.{none-elsewhere}
-use Rattle.day_desks.proofs.Commands.{refused-early}
+use Rattle.basket_match.proofs.Touching.{none-elsewhere}
+use Rattle.basket_match.proofs.Commands.{refused-early}
 use Rattle.desk_market.specs.Standing.{planned_hours}
 use Rattle.desk_market.proofs.Touching.{planned-touched}
 

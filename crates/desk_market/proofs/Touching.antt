@@ -4,7 +4,7 @@ use Rattle.market_model.specs.declared.command.Command.{Command}
 use Rattle.market_model.specs.declared.refusal.Refusal.{Refusal}
 use Rattle.market_model.specs.declared.setup.Setup.{Setup}
 use Rattle.market_model.specs.Rules.{early_refusal, touched_hours}
-use Rattle.day_desks.proofs.TouchedHours.{AreHoursOf, touched-hours}
+use Rattle.basket_match.proofs.TouchedHours.{AreHoursOf, touched-hours}
 use Rattle.desk_market.specs.Standing.{planned_hours}
 
 module _ (setup : Setup) (caller : ℕ) (given : Command) where

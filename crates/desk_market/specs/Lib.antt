@@ -1,2 +1,4 @@
 -- What the contracts of this crate cite.
 pub mod Standing
+pub mod Day
+pub mod Chosen

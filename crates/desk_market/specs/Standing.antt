@@ -15,8 +15,8 @@ use Rattle.market_model.specs.Market.{IsLegal}
 use Rattle.market_model.specs.Rules.{early_refusal, touched_hours}
 use Rattle.market_model.specs.WellFormed.{IsMarketSetup}
 use Rattle.trade_journal.specs.Journals.{all_rooms, made_by}
-use Rattle.day_desks.specs.Desk.{DeskState, planning}
-use Rattle.day_desks.specs.Day.{DayState}
+use Rattle.basket_match.specs.Desk.{DeskState, planning}
+use Rattle.desk_market.specs.Day.{DayState}
 
 -- the desk of an hour after some entries, with nothing planned
 abbrev pub settled_desk : Graph → List Entry → (hour : ℕ) → DeskState

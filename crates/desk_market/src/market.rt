@@ -1,7 +1,7 @@
 //! The market.
 
 ghost use Rattle.std.specs.Prelude.{◌≡◌, ◌-◌, ◌<◌, ◌≤◌, ◌^◌, [], IfOk, OnErr, OnOk, Some, length, nat_lt, slice_get};
-ghost use Rattle.day_desks.specs.Desk.{DeskState};
+ghost use Rattle.basket_match.specs.Desk.{DeskState};
 ghost use Rattle.market_model.specs.Grid.{graph_of};
 ghost use Rattle.market_model.specs.History.{journal_events};
 ghost use Rattle.market_model.specs.Market.{entry_of, reply_to};
@@ -9,8 +9,9 @@ ghost use Rattle.market_model.specs.Sweep.{all_parts};
 ghost use Rattle.trade_journal.specs.Journals.{IsJournal, made_by, room_of_caller, with_entry};
 ghost use Rattle.desk_market.specs.Standing as standing;
 
+use crate::day::DayDesks;
 use crate::planning::plan;
-use day_desks::{DayDesks, HourDesk, carry_all, undo_all};
+use basket_match::{HourDesk, carry_all, undo_all};
 use market_model::{Command, Entry, Reply, Setup};
 use std::alloc::Global;
 use std::marker::Model;

@@ -8,7 +8,8 @@ ghost use Rattle.market_model.specs.Market.{reply_to};
 ghost use Rattle.market_model.specs.Rules.{touched_hours};
 ghost use Rattle.desk_market.specs.Standing as standing;
 
-use day_desks::{DayDesks, plan_basket, plan_joint};
+use crate::day::DayDesks;
+use basket_match::{plan_basket, plan_joint};
 use market_model::{Command, Hours, Reply, refuse_early, touches};
 use std::alloc::Global;
 use trade_journal::Journal;

@@ -7,12 +7,11 @@ ghost use Rattle.market_model.specs.Grid.{graph_of};
 ghost use Rattle.market_text.specs.Session.{IsSession};
 
 use crate::answers::Answers;
+use crate::journal::plain_journal_of;
 use crate::kinds::{NOTHING, Tallies, count};
-use desk_market::DeskMarket;
+use desk_market::{DeskMarket, market_of};
 use market_model::{Duplicate, Entry};
 use market_text::{Session, TextFault, read_session};
-use plain_play::plain_journal_of;
-use session_play::market_of;
 use std::alloc::Global;
 use zone_graph::NoMemory;
 

@@ -6,6 +6,7 @@
 
 mod answers;
 mod comparing;
+mod journal;
 mod kinds;
 
 use crate::comparing::compare_on;

@@ -1,6 +1,6 @@
 //! The store.
 
-ghost use Rattle.std.specs.Prelude.{◌≡◌, ◌↔◌, ◌==◌, ◌&&◌, ◌+◌, ◌-◌, ◌*◌, ◌≤◌, ◌<◌, ◌≤ℤ◌, pos, true, [], replicate, length, Some, None, IsErr, IsTrue, IfOk, IfSome, OnOk, OnErr};
+ghost use Rattle.std.specs.Prelude.{◌≡◌, ◌↔◌, ◌==◌, ◌&&◌, ◌+◌, ◌-◌, ◌*◌, ◌≤◌, ◌<◌, ◌≤ℤ◌, pos, true, [], replicate, length, Some, None, IsErr, IfOk, IfSome, OnOk, OnErr};
 ghost use Rattle.std.specs.List.{list_any};
 ghost use Rattle.std.specs.Option.{IsSomeAnd, option_to_list};
 ghost use Rattle.zone_graph.specs.Pour.{same_arc, uses};
@@ -395,12 +395,5 @@ impl HourStore {
         ensures { result ≡ list_any changes_flows self.now.changes }
     {
         any_changes_flows(self.log.as_slice())
-    }
-
-    /// Whether no change is noted.
-    pub fn is_settled(&self) -> bool
-        ensures { IsTrue result ↔ (self.now.changes ≡ []) }
-    {
-        self.log.is_empty()
     }
 }

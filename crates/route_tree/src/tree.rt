@@ -1,13 +1,9 @@
 //! The tree of the best routes to one zone, or from it, which is made once and read many times.
 
-ghost use Rattle.std.specs.Prelude.{◌≡◌, ◌<◌, IsSome, IsTrue, Some, is_some, length, take};
-ghost use Rattle.std.specs.List.{list_all};
-ghost use Rattle.zone_graph.specs.declared.route.Arc.{Arc};
+ghost use Rattle.std.specs.Prelude.{◌≡◌, ◌<◌, IsSome, Some, is_some, length, take};
 ghost use Rattle.zone_graph.specs.Graph.{HasZone, border_count};
 ghost use Rattle.zone_graph.specs.Rooms.{room_of};
-ghost use Rattle.zone_graph.specs.Route.{IsIn};
-ghost use Rattle.route_choice.specs.Freshness.{has_room};
-ghost use Rattle.route_tree.specs.Tree.{StaysTold, TellsRoutes, told_route};
+ghost use Rattle.route_tree.specs.Tree.{TellsRoutes, told_route};
 
 use crate::reading::{read_from, read_towards};
 use crate::search::Branches;
@@ -18,7 +14,7 @@ use zone_graph::{Arc, Grid, MOST_ZONES, Rooms};
 /// (`towards`) or from it. It keeps, for each other zone, the step that its best route takes at that
 /// zone, so that a route is read off without a search and without memory. The routes are the best
 /// ones over the rooms that the tree was made over, and over later ones as long as no arc of a route
-/// that carried something was used up (`tells_after`).
+/// that carried something was used up.
 ///
 /// Contracts see the zone, the direction, the distances and the steps.
 #[derive(Drop)]
@@ -77,20 +73,6 @@ impl RouteTree {
         self.branches.search(grid, rooms, zone, towards);
     }
 
-    /// The zone that the routes lead to or from.
-    pub fn zone(&self) -> u32
-        ensures { result ≡ self.now.zone }
-    {
-        self.zone
-    }
-
-    /// Whether they lead to the zone.
-    pub fn towards(&self) -> bool
-        ensures { result ≡ self.now.towards }
-    {
-        self.towards
-    }
-
     /// Whether the tree tells a route between another zone and its own, in its direction.
     pub fn reaches(&self, other: u32) -> bool
         ensures { result ≡ is_some (told_route self.now other) }
@@ -121,22 +103,5 @@ impl RouteTree {
             read_from(&self.branches.steps, other, route);
         }
         count
-    }
-
-    /// Whether a tree that tells the best routes does so after a leg over one of them: whether each
-    /// arc of the route still has room. If not, a tree is to be made anew.
-    ///
-    /// The rooms are those after the leg, and the arcs are over borders that have rooms.
-    pub fn tells_after(&self, rooms: &Rooms, route: &[Arc]) -> bool
-        requires { (arc : Arc) → IsIn arc route.now → arc.border < length rooms.now }
-        ensures room { result ≡ list_all (has_room (room_of rooms.now)) route.now }
-        ensures told { IsTrue result → StaysTold self.now (room_of rooms.now) route.now }
-    {
-        for arc in route {
-            if rooms.at(*arc) == 0 {
-                return false;
-            }
-        }
-        true
     }
 }

@@ -10,7 +10,7 @@ use market_text::{TextFault, read_session};
 use outside::Sink;
 use run_status::Status;
 use session_io::write_lines;
-use session_play::journal_of;
+use desk_market::journal_of;
 use std::alloc::Global;
 use zone_graph::{NoMemory, Text};
 

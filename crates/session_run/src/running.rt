@@ -18,7 +18,7 @@ use command_words::{Task, is_trade, task_of};
 use outside::{Gate, Sink, Source};
 use record_run::{audit_record, ship_record};
 use run_status::Status;
-use session_play::journal_of;
+use desk_market::journal_of;
 use session_trade::trade_session;
 use std::alloc::Global;
 use std::sync::Wait;

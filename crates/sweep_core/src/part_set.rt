@@ -19,13 +19,6 @@ impl PartSet {
         PartSet { parts: [true; 7] }
     }
 
-    /// The set of no part.
-    pub fn empty() -> PartSet
-        ensures { (part : ℕ) → has_part result part ≡ false }
-    {
-        PartSet { parts: [false; 7] }
-    }
-
     /// Whether a part is in it.
     pub fn contains(self, part: u32) -> bool
         requires { part < 7 }

@@ -1,7 +1,7 @@
 //! Trees of routes on small grids, against the best route between each two zones.
 
 ghost use Rattle.std.specs.Prelude.{◌≡◌, ◌<◌, length};
-ghost use Rattle.zone_graph.specs.Graph.{border_count, zone_count};
+ghost use Rattle.zone_graph.specs.Graph.{border_count};
 
 use crate::made::{expect_equal, rooms_over};
 use route_choice::best_route;
@@ -11,12 +11,12 @@ use std::test::Fail;
 use worked_grids::{diamond, grid_of, ring_of_twelve};
 use zone_graph::{Arc, Grid, Rooms, Route};
 
-// The zones between which a tree tells a route, from the first to the second.
-fn ends_of(tree: &RouteTree, other: u32) -> (u32, u32) {
-    if tree.towards() {
-        (other, tree.zone())
+// The zones between which a tree of a zone, in a direction, tells a route, from the first to the second.
+fn ends_of((zone, towards): (u32, bool), other: u32) -> (u32, u32) {
+    if towards {
+        (other, zone)
     } else {
-        (tree.zone(), other)
+        (zone, other)
     }
 }
 
@@ -37,20 +37,21 @@ fn expect_route(
     grid: &Grid,
     rooms: &Rooms,
     tree: &RouteTree,
+    asked: (u32, bool),
     other: u32,
 )
     requires { length rooms.now ≡ border_count grid.now }
 {
-    let (from, to) = ends_of(tree, other);
+    let (from, to) = ends_of(asked, other);
     if from >= grid.zones() || to >= grid.zones() {
         rt.panic("no such zone");
     }
     let best = best_route(rt.alloc(), grid, rooms, from, to).expect(rt, "memory");
     let told = told_route(rt, tree, other);
-    expect_equal(rt, &told, &best, &(from, to, tree.towards(), rooms));
+    expect_equal(rt, &told, &best, &(from, to, asked.1, rooms));
 }
 
-// A tree is that of a zone in a direction, and tells the best routes between it and all zones.
+// A tree that was made for a zone in a direction tells the best routes between it and all zones.
 fn expect_routes(
     rt: &(impl Abort + AllocGlobal),
     grid: &Grid,
@@ -60,9 +61,8 @@ fn expect_routes(
 )
     requires { length rooms.now ≡ border_count grid.now }
 {
-    expect_equal(rt, &(tree.zone(), tree.towards()), &asked, &rooms);
     for other in 0..grid.zones() {
-        expect_route(rt, grid, rooms, tree, other);
+        expect_route(rt, grid, rooms, tree, asked, other);
     }
 }
 
@@ -76,26 +76,6 @@ fn expect_trees(rt: &(impl Abort + AllocGlobal), grid: &Grid, room: &[(u32, u32)
         tree.remake(grid, &rooms, zone, false);
         expect_routes(rt, grid, &rooms, &tree, (zone, false));
     }
-}
-
-// Whether a tree of the diamond that was made over some rooms tells the routes over later ones after a
-// leg over its first arc, and after one over its third.
-fn tells_after_each(
-    rt: &impl Abort,
-    grid: &Grid,
-    before: &Rooms,
-    later: &[(u32, u32)],
-) -> (bool, bool)
-    requires zones { zone_count grid.now ≡ 4 }
-    requires borders { border_count grid.now ≡ 4 }
-    requires size { length before.now ≡ border_count grid.now }
-{
-    let after = rooms_over(rt, grid, later);
-    let tree = RouteTree::new(grid, before, 3, true);
-    (
-        tree.tells_after(&after, &[Arc::over(0, true)]),
-        tree.tells_after(&after, &[Arc::over(2, true)]),
-    )
 }
 
 // The room of an arc in the rooms of a number: some arcs of each have none.
@@ -177,16 +157,5 @@ fn trees_of_a_square_tell_the_best_routes(rt: HostRuntime) -> Result<(), Fail> {
 fn trees_of_a_line_tell_the_best_routes(rt: HostRuntime) -> Result<(), Fail> {
     let grid = grid_of(rt.alloc(), 5, &LINE)?;
     expect_the_best(&rt, &grid);
-    Ok(())
-}
-
-#[test]
-fn a_tree_tells_no_more_after_an_arc_is_used_up(rt: HostRuntime) -> Result<(), Fail> {
-    let grid = diamond(rt.alloc())?;
-    let before = rooms_over(&rt, &grid, &[(7, 0); 4]);
-    let with_room = tells_after_each(&rt, &grid, &before, &[(1, 6), (7, 0), (1, 6), (7, 0)]);
-    expect_equal(&rt, &with_room, &(true, true), &"with room");
-    let used_up = tells_after_each(&rt, &grid, &before, &[(1, 6), (7, 0), (0, 7), (7, 0)]);
-    expect_equal(&rt, &used_up, &(true, false), &"used up");
     Ok(())
 }

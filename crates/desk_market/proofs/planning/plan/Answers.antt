@@ -2,7 +2,7 @@ use Rattle.std.proofs.Common.{◌∙◌, sym, ap}
 use Rattle.market_model.specs.declared.setup.Setup.{Setup}
 use Rattle.market_model.specs.History.{journal_events}
 use Rattle.market_model.specs.Rules.{early_refusal}
-use Rattle.day_desks.proofs.Commands.{refused-early}
+use Rattle.basket_match.proofs.Commands.{refused-early}
 use Rattle.desk_market.proofs.planning.plan.Goals as goal
 
 -- a rule refuses the command by itself

@@ -6,9 +6,9 @@ use Rattle.market_model.specs.declared.setup.Setup.{Setup}
 use Rattle.market_model.specs.History.{journal_events}
 use Rattle.market_model.specs.Market.{reply_to}
 use Rattle.market_model.specs.Rules.{early_refusal, touched_hours}
-use Rattle.day_desks.specs.Rows.{IsJournalOf}
-use Rattle.day_desks.specs.Day.{chosen_of}
-use Rattle.day_desks.proofs.Commands.{is-no_basket}
+use Rattle.basket_match.specs.Rows.{IsJournalOf}
+use Rattle.desk_market.specs.Day.{chosen_of}
+use Rattle.basket_match.proofs.Commands.{is-no_basket}
 use Rattle.desk_market.proofs.Chosen.{chosen-hours, chosen-journal, chosen-ready, nothing-planned, reply-planned, still-chosen}
 use Rattle.desk_market.proofs.planning.plan_chosen.Goals as goal
 

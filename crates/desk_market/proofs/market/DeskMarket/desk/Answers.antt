@@ -3,7 +3,7 @@ use Rattle.std.proofs.lemmas.List.FromFn.{get_or-map-range_with_len, length-map-
 use Rattle.std.proofs.lemmas.Option.{get_or_from_slice_get}
 use Rattle.market_model.specs.Grid.{graph_of}
 use Rattle.trade_journal.specs.Journals.{JournalState}
-use Rattle.day_desks.specs.Desk.{DeskState}
+use Rattle.basket_match.specs.Desk.{DeskState}
 use Rattle.desk_market.specs.Standing.{settled_desk}
 use Rattle.desk_market.proofs.market.DeskMarket.desk.Goals as goal
 

@@ -2,7 +2,7 @@ use Rattle.std.proofs.Common.{◌∙◌, ℕ, List, length, slice_index, sym, ap
 use Rattle.std.proofs.lemmas.List.{length-replicate}
 use Rattle.zone_graph.specs.Graph.{Graph}
 use Rattle.trade_journal.specs.Journals.{JournalState}
-use Rattle.day_desks.specs.Day.{DayState, empty_desks}
+use Rattle.desk_market.specs.Day.{DayState, empty_desks}
 use Rattle.desk_market.specs.Standing.{IsMarket}
 use Rattle.desk_market.proofs.Counted.{none-counted}
 use Rattle.desk_market.proofs.market.DeskMarket.new.Goals as goal

@@ -1,5 +1,0 @@
-pub mod Places
--- What stands below and is passed on to the crates above.
-pub use Rattle.basket_match.proofs.Commands
-pub use Rattle.basket_match.proofs.TouchedHours
-pub use Rattle.basket_match.proofs.Touching

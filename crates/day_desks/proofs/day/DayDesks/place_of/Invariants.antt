@@ -1,9 +1,0 @@
-use Rattle.market_model.specs.HourSet.{has_hour}
-use Rattle.day_desks.proofs.Places.{IsSought}
-use Rattle.day_desks.proofs.day.DayDesks.place_of.Given as goal
-
--- what is left to look through
-abbrev pub invariant-loop-i : goal.invariant-loop-i
-invariant-loop-i l = record {
-  sought : IsSought (has_hour l.self.chosen) l.self.desks l.fn.place l.i l.before;
-}

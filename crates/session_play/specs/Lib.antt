@@ -1,1 +1,0 @@
--- What the contracts of this crate cite.
