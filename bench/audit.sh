@@ -10,7 +10,7 @@ top=$(cd "$(dirname "$(readlink -f "$0")")/.." && pwd)
 work=$(mktemp -d)
 trap 'rm -rf "$work"' EXIT
 program=$top/crates/market_program/out/market_program
-"$top/sidc" generate 1 >/dev/null
+"$top/sidc" prove
 [ $# -gt 0 ] || set -- 10000 20000 100000
 for commands; do
     "$top/bench/generated_session.py" "$commands" >"$work/session"

@@ -11,7 +11,7 @@ top=$(cd "$(dirname "$(readlink -f "$0")")/.." && pwd)
 work=$(mktemp -d)
 trap 'rm -rf "$work"' EXIT
 program=$top/crates/market_program/out/market_program
-"$top/sidc" generate 1 >/dev/null
+"$top/sidc" prove
 
 # A session of so many resting sells and so many commands more, with a leg or without.
 session() {

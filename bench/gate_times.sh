@@ -1,6 +1,6 @@
 #!/usr/bin/env bash
-# Where the gate's time goes: the processor seconds of each crate's check, tests and must-fail
-# edits, from nothing, and their sum in minutes.
+# Where the gate's time goes: the processor seconds of each crate's check, tests, seed and must-fail edits, from nothing, and
+# their sum in minutes. The seed is the proof of the crate over which its edits are tried, and its check once they were.
 #
 #     bench/gate_times.sh            all crates
 #     bench/gate_times.sh NAME..     these crates and those below them
@@ -21,13 +21,13 @@ import time
 
 top, *names = sys.argv[1:]
 tick = os.sysconf("SC_CLK_TCK")
-kinds = ("check", "tests", "edits")
+kinds = ("check", "tests", "seed", "edits")
 
 
 def kind_of(words, folder):
     """What a process of the prover is at work on."""
     if "/rt-edit-" in folder:
-        return "edits"
+        return "seed" if any(word.endswith("/seed") for word in words) else "edits"
     return "tests" if "--test" in words else "check"
 
 
@@ -64,7 +64,7 @@ for key, spent in used.items():
     crate, kind = known[key]
     seconds[crate][kind] += spent
 
-print(f"{'crate':20}{'check':>8}{'tests':>8}{'edits':>8}{'all':>8}")
+print(f"{'crate':20}" + "".join(f"{kind:>8}" for kind in (*kinds, "all")))
 for crate, spent in sorted(seconds.items(), key=lambda item: -sum(item[1].values())):
     print(f"{crate:20}" + "".join(f"{spent[kind]:8.0f}" for kind in kinds) + f"{sum(spent.values()):8.0f}")
 sums = [sum(spent[kind] for spent in seconds.values()) for kind in kinds]

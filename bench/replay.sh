@@ -12,7 +12,7 @@ top=$(cd "$(dirname "$(readlink -f "$0")")/.." && pwd)
 work=$(mktemp -d)
 trap 'rm -rf "$work"' EXIT
 program=$top/crates/market_program/out/market_program
-"$top/sidc" generate 1 >/dev/null
+"$top/sidc" prove
 
 # The instructions of all calls of a function whose name holds a word, with what it calls.
 within() {

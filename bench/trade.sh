@@ -11,7 +11,7 @@ top=$(cd "$(dirname "$(readlink -f "$0")")/.." && pwd)
 work=$(mktemp -d)
 trap 'rm -rf "$work"' EXIT
 program=$top/crates/market_program/out/market_program
-"$top/sidc" generate 1 >/dev/null
+"$top/sidc" prove
 "$top/bench/generated_session.py" "${1:-100000}" >"$work/session"
 
 # The shortest of three runs of a word on some processors.
