@@ -1,3 +1,9 @@
+pub mod Memory
+pub mod Blocks
+pub mod Sharing
+pub mod Crosses
+pub mod FilledLemmas
+pub mod RowLemmas
 pub mod Chains
 pub mod Edits
 pub mod OnceLemmas

@@ -1,5 +1,5 @@
 -- What a pool keeps while places move between its rings.
-use Rattle.std.proofs.Common.{◌≡◌, ◌≢◌, inl, inr, ℕ, zero, suc, ◌+◌, ◌<◌, List, [], ◌∷◌, ◌++◌, length, map, get_or, set, drop, sum_by, Contains, Option, Some, None, IsSome, refl, sym, ap, ◌∙◌, subst, arith}
+use Rattle.std.proofs.Common.{◌≡◌, ◌≢◌, inl, inr, ℕ, zero, suc, ◌+◌, ◌<◌, ◌≤◌, List, [], ◌∷◌, ◌++◌, length, map, get_or, set, drop, sum_by, Contains, Option, Some, None, IsSome, refl, sym, ap, ◌∙◌, subst, arith}
 use Rattle.std.proofs.lemmas.Bool.{cases_eq, cases_lt}
 use Rattle.std.proofs.lemmas.List.{get_or-set_same, get_or-set_other, length-set, get_or-drop, length-drop, drop-set-add, drop-set-lt, get_or_past}
 use Rattle.std.proofs.lemmas.List.Sums.{sum_by-cons}
@@ -66,14 +66,6 @@ lines_after_take old new place before some ahead moved =
     let cut = insertion_split out new 0 before place (moved (line + 1) front back there) (omega (arith, some, length-set old (line + 1) (front ++ back))) (ahead (line + 1) front back there) in
     ap (drop 1) cut.3 ∙ drop-set-free out (cut.0 ++ place ∷ cut.1) ∙ drop-set-line old line (front ++ back)
 
--- a place that goes from a line to a line
-pub lines_after_shift : (old new : List (List ℕ)) (line place : ℕ) (before : Option ℕ) → IsMoved old new place (line + 1) before → IsMoved (drop 1 old) (drop 1 new) place line before
-lines_after_shift old new line place before moved =
-    λ from front back stands.
-    let inserted = inserted_in_line (set old (from + 1) (front ++ back)) new line before place (moved (from + 1) front back (between_in_ring old from place front back stands)) in
-    let P : List (List ℕ) → Type 0 = λ l. IsInserted l (drop 1 new) line before place in
-    subst P (drop-set-line old from (front ++ back)) inserted
-
 -- the places of the lines are those that are not in the first ring
 pub total_behind : (rings : List (List ℕ)) → 0 < length rings → sum_by length rings ≡ length (line_at rings 0) + sum_by length (drop 1 rings)
 total_behind [] some = absurd (omega arith)
@@ -94,13 +86,13 @@ first_in_some (y ∷ ys) x is = (0, omega arith, cc)
 pub first_stands : (rings : List (List ℕ)) (k place : ℕ) → k < length rings → first_in (line_at rings k) ≡ Some place → StandsIn rings k place
 first_stands rings k place within is = (within, first_in_some (line_at rings k) place is)
 
-module _ {T : Type 0} (places : List (Option T)) (rings : List (List ℕ)) (pool : IsPool places rings) where
-  -- a place that holds an item is one of the 4096
-  pub live_low : (place : ℕ) → IsSome (get_or places place None) → place < 4096
+module _ {T : Type 0} (places : List (Option T)) (rings : List (List ℕ)) (used : ℕ) (pool : IsPool places rings used) where
+  -- a place that holds an item was used
+  pub live_low : (place : ℕ) → IsSome (get_or places place None) → place < used
   live_low place live =
-      elim (cases_lt place 4096) [
+      elim (cases_lt place used) [
         | inl low ↦ low
-        | inr high ↦ absurd (none_is_not_some (get_or places place None) (get_or_past places place None (omega (arith, high, pool.size))) live)
+        | inr high ↦ absurd (none_is_not_some (get_or places place None) (pool.untouched place high) live)
       ]
 
   -- and stands in a line
@@ -127,15 +119,15 @@ module _ {T : Type 0} (places : List (Option T)) (rings : List (List ℕ)) (pool
         once = λ line other place front back front' back' here there.
             let same = pool.sound.once (line + 1) (other + 1) place front back front' back' (between_in_ring rings line place front back here) (between_in_ring rings other place front' back' there) in
             (omega (arith, same.0), same.1, same.2);
-        few = omega (arith, total_behind rings (omega (arith, pool.two)), pool.total);
+        few = omega (arith, total_behind rings (omega (arith, pool.two)), pool.total, pool.within);
       }
 
-  -- the pool is full exactly where the first ring is empty
-  pub full_where_none_free : first_in (line_at rings 0) ≡ None → (sum_by length (drop 1 rings) ≡ 4096) × ((place : ℕ) → place < 4096 → IsSome (get_or places place None))
-  full_where_none_free empty =
+  -- the pool is full exactly where the first ring is empty and every place was used
+  pub full_where_none_free : first_in (line_at rings 0) ≡ None → used ≡ 4096 → (sum_by length (drop 1 rings) ≡ 4096) × ((place : ℕ) → place < 4096 → IsSome (get_or places place None))
+  full_where_none_free empty all =
       let nothing = first_in_none (line_at rings 0) empty in (
         omega (arith, total_behind rings (omega (arith, pool.two)), pool.total, ap length nothing),
-        λ place low. let there = pool.covered place low in by_ring place there.0 there.1,
+        λ place low. let there = pool.covered place (omega (arith, all, low)) in by_ring place there.0 there.1,
       )
     where
       by_ring : (place ring : ℕ) → StandsIn rings ring place → IsSome (get_or places place None)
@@ -149,15 +141,21 @@ module _ {T : Type 0} (places : List (Option T)) (rings : List (List ℕ)) (pool
   not_full_where_one_free place is =
       λ full.
       let has = first_in_some (line_at rings 0) place is in
-      omega (arith, has.1, full, total_behind rings (omega (arith, pool.two)), pool.total)
+      omega (arith, has.1, full, total_behind rings (omega (arith, pool.two)), pool.total, pool.within)
 
-  -- a place moves, and holds what belongs where it goes
-  pub IsPool-shifted : (new : List (List ℕ)) (place ring : ℕ) (slot : Option T) → IsShifted rings new place ring → AreRings new → place < 4096 → (ring ≡ 0 → slot ≡ None) → (0 < ring → IsSome slot) → IsPool (set places place slot) new
-  IsPool-shifted new place ring slot shifted sound low empty_if full_if =
-      let here : get_or (set places place slot) place None ≡ slot = get_or-set_same places place slot None (omega (arith, low, pool.size)) in
+  pub not_full_where_one_unused : used < 4096 → sum_by length (drop 1 rings) ≢ 4096
+  not_full_where_one_unused more =
+      λ full. omega (arith, more, full, total_behind rings (omega (arith, pool.two)), pool.total)
+
+  -- a place moves or joins, and holds what belongs where it goes
+  pub IsPool-shifted : (new : List (List ℕ)) (place ring grown : ℕ) (slot : Option T) → IsShifted rings new place ring grown → AreRings new → place < used + grown → used + grown ≤ 4096 → ((other : ℕ) → other < used + grown → other ≢ place → other < used)
+      → (ring ≡ 0 → slot ≡ None) → (0 < ring → IsSome slot) → IsPool (set places place slot) new (used + grown)
+  IsPool-shifted new place ring grown slot shifted sound low fits others empty_if full_if =
+      let here : get_or (set places place slot) place None ≡ slot = get_or-set_same places place slot None (omega (arith, low, fits, pool.size)) in
       record {
         size = length-set places place slot ∙ pool.size;
         two = omega (arith, pool.two, shifted.many);
+        within = fits;
         free = λ other stands. elim (cases_eq other place) [
           | inl same ↦
               let P : ℕ → Type 0 = λ p. StandsIn new 0 p in
@@ -179,21 +177,29 @@ module _ {T : Type 0} (places : List (Option T)) (rings : List (List ℕ)) (pool
               let P : ℕ → Type 0 = λ p. StandsIn new ring p in
               (ring, subst P (sym same) shifted.here)
           | inr differs ↦
-              let there = pool.covered other inside in
+              let there = pool.covered other (others other inside differs) in
               (there.0, shifted.stays there.0 other differs there.1)
         ];
-        total = shifted.total ∙ pool.total;
+        low = λ k other stands. elim (cases_eq other place) [
+          | inl same ↦ omega (arith, same, low)
+          | inr differs ↦ omega (arith, pool.low k other (shifted.stood k other differs stands))
+        ];
+        untouched = λ other high.
+            let differs : other ≢ place = λ same. omega (arith, same, low, high) in
+            get_or-set_other places place other slot None differs ∙ pool.untouched other (omega (arith, high));
+        total = omega (arith, shifted.total, pool.total);
         sound = sound;
       }
 
   -- another item at a live place
-  pub IsPool-rewritten : (place : ℕ) (item : T) → IsSome (get_or places place None) → IsPool (set places place (Some item)) rings
+  pub IsPool-rewritten : (place : ℕ) (item : T) → IsSome (get_or places place None) → IsPool (set places place (Some item)) rings used
   IsPool-rewritten place item live =
       let low = live_low place live in
-      let here : get_or (set places place (Some item)) place None ≡ Some item = get_or-set_same places place (Some item) None (omega (arith, low, pool.size)) in
+      let here : get_or (set places place (Some item)) place None ≡ Some item = get_or-set_same places place (Some item) None (omega (arith, low, pool.within, pool.size)) in
       record {
         size = length-set places place (Some item) ∙ pool.size;
         two = pool.two;
+        within = pool.within;
         free = λ other stands. elim (cases_eq other place) [
           | inl same ↦ absurd (none_is_not_some (get_or places place None) (ap (λ p. get_or places p None) (sym same) ∙ pool.free other stands) live)
           | inr differs ↦ get_or-set_other places place other (Some item) None differs ∙ pool.free other stands
@@ -207,6 +213,10 @@ module _ {T : Type 0} (places : List (Option T)) (rings : List (List ℕ)) (pool
               subst Q (sym (get_or-set_other places place other (Some item) None differs)) (pool.held line other stands)
         ];
         covered = pool.covered;
+        low = pool.low;
+        untouched = λ other high.
+            let differs : other ≢ place = λ same. omega (arith, same, low, high) in
+            get_or-set_other places place other (Some item) None differs ∙ pool.untouched other high;
         total = pool.total;
         sound = pool.sound;
       }

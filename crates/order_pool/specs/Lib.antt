@@ -1,6 +1,11 @@
 pub mod Lines
 pub mod Links
+pub mod Rows
 pub mod Rings
 pub mod Pool
+pub mod Region
+pub mod Cells
+pub mod Ownership
+pub mod CellLends
 pub mod Slots
 pub mod Lends

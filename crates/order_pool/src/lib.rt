@@ -7,8 +7,11 @@
 //! other call depends on how many places are live.
 #![tactic(auto)]
 
+mod cells;
 mod faults;
+mod links;
 mod pool;
+mod region;
 mod rings;
 mod slots;
 

@@ -7,8 +7,9 @@ ghost use Rattle.order_pool.specs.Lines.{line_at, first_in, last_in, StandsIn, I
 ghost use Rattle.order_pool.specs.Pool.{item_at, IsLive, live_count, IsSound};
 
 use crate::faults::{Full, NoMemory};
-use crate::rings::{FREE, PLACES, Rings, filled_rings};
-use crate::slots::{Slot, copy_slots, free_slots};
+use crate::region::Region;
+use crate::rings::{FREE, PLACES, Rings};
+use crate::slots::Slot;
 use std::alloc::Global;
 use std::marker::Model;
 
@@ -23,26 +24,26 @@ pub const MOST_LINES: u32 = 65536;
 /// takes memory, and the time of every other call is independent of how many places are live.
 #[derive(Drop)]
 pub struct Pool<T> {
-    slots: Vec<Slot<T>>,
+    slots: Region<Slot<T>>,
     rings: Rings,
 }
 
 impl<T> Model for Pool<T> {
-    ghost use Rattle.std.specs.Prelude.{map, drop};
+    ghost use Rattle.std.specs.Prelude.{◌≡◌, drop, length};
     ghost use Rattle.order_pool.specs.Pool.{PoolState, pool_code};
 
     ghost Value = { PoolState T };
 
     ghost coded = { pool_code T.code };
 
-    ghost use Rattle.order_pool.specs.Slots.{item_in, IsPool};
+    ghost use Rattle.order_pool.specs.Slots.{places_in, IsPool};
 
     ghost view = { λ a. record {
-      places = map item_in a.slots.items;
+      places = places_in a.slots.items;
       lines = drop 1 a.rings;
     } };
 
-    ghost invariant = { λ a. IsPool (map item_in a.slots.items) a.rings };
+    ghost invariant = { λ a. (a.slots.room ≡ 4096) × IsPool (places_in a.slots.items) a.rings (length a.slots.items) };
 }
 
 impl<T: Copy> Pool<T> {
@@ -73,8 +74,8 @@ impl<T: Copy> Pool<T> {
         ensures lines { IfOk result (λ pool. pool.lines ≡ replicate lines []) }
         ensures sound { IfOk result (λ pool. IsSound pool) }
     {
-        let slots = free_slots(alloc, PLACES)?;
-        let rings = filled_rings(alloc, lines + 1)?;
+        let slots = Region::new(alloc, PLACES)?;
+        let rings = Rings::new(alloc, lines + 1)?;
         Ok(Pool { slots, rings })
     }
 
@@ -87,7 +88,7 @@ impl<T: Copy> Pool<T> {
         ensures same { IfOk result (λ pool. pool ≡ self.now) }
     {
         let rings = self.rings.copy()?;
-        let slots = copy_slots(*self.slots.allocator(), self.slots.as_slice())?;
+        let slots = self.slots.copy()?;
         Ok(Pool { slots, rings })
     }
 
@@ -141,11 +142,17 @@ impl<T: Copy> Pool<T> {
         ensures line_count { length self.new.lines ≡ length self.old.lines }
         ensures sound { IsSound self.new }
     {
-        let Some(place) = self.rings.first(FREE) else {
+        if let Some(place) = self.rings.first(FREE) {
+            self.slots.set(place, Slot::Held(item));
+            self.rings.shift(place, line + 1, before);
+            return Ok(place);
+        }
+        let place = self.slots.len();
+        if place == PLACES {
             return Err(Full);
-        };
-        self.slots[place as usize] = Slot::Held(item);
-        self.rings.shift(place, line + 1, before);
+        }
+        self.slots.push(Slot::Held(item));
+        self.rings.insert(line + 1, before, place);
         Ok(place)
     }
 
@@ -158,33 +165,11 @@ impl<T: Copy> Pool<T> {
         ensures line_count { length self.new.lines ≡ length self.old.lines }
         ensures sound { IsSound self.new }
     {
-        let item = *self.slots[place as usize].item();
-        self.slots[place as usize] = Slot::Free;
+        let item = *self.slots.get(place).item();
+        self.slots.set(place, Slot::Free);
         let first = self.rings.first(FREE);
         self.rings.shift(place, FREE, first);
         item
-    }
-
-    /// Moves a live place to a line, right before the place `before` of that line, which is
-    /// another one, or to its end where there is none. It keeps its item.
-    pub fn shift(&mut self, place: u32, line: u32, before: Option<u32>)
-        requires live { IsLive self.old place }
-        requires line { line < length self.old.lines }
-        requires before { ForSome before (λ after. StandsIn self.old.lines line after) }
-        requires apart { before ≢ Some place }
-        ensures places { self.new.places ≡ self.old.places }
-        ensures lines { IsMoved self.old.lines self.new.lines place line before }
-        ensures line_count { length self.new.lines ≡ length self.old.lines }
-        ensures sound { IsSound self.new }
-    {
-        self.rings.shift(place, line + 1, before);
-    }
-
-    /// Whether a place is live.
-    pub fn is_live(&self, place: u32) -> bool
-        ensures { IsTrue result ↔ IsLive self.now place }
-    {
-        matches!(self.slots.get(place as usize), Some(Slot::Held(_)))
     }
 
     /// The item at a live place.
@@ -192,7 +177,7 @@ impl<T: Copy> Pool<T> {
         requires { IsLive self.now place }
         ensures { item_at self.now place ≡ Some result.now }
     {
-        self.slots[place as usize].item()
+        self.slots.get(place).item()
     }
 
     /// The item at a live place, for writing.
@@ -201,7 +186,7 @@ impl<T: Copy> Pool<T> {
         ensures* writes_back { sem 𝓛 (LendsItem T.row self.entry place result) }
         ensures item { item_at self.old place ≡ Some result.now }
     {
-        self.slots[place as usize].item_mut()
+        self.slots.get_mut(place).item_mut()
     }
 
     /// The first place of a line, or `None` where the line is empty.

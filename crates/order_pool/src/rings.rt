@@ -3,26 +3,27 @@
 ghost use Rattle.std.specs.Prelude.{◌≡◌, ◌≢◌, ℕ, ◌+◌, ◌<◌, ◌≤◌, ◌^◌, List, [], length, sum_by, slice_index, replicate, IfOk, Some, None, vec_len, nat_lt, if◌then◌else◌};
 ghost use Rattle.std.specs.Option.{ForSome};
 ghost use Rattle.order_pool.specs.Lines.{line_at, first_in, last_in, StandsIn, StandsBetween, IsRemoved, IsInserted, IsNext, IsPrevious, IsMoved};
-ghost use Rattle.order_pool.specs.Rings.{AreRings, AreFilled};
+ghost use Rattle.order_pool.specs.Rings.{AreRings};
 
 use crate::faults::NoMemory;
+use crate::links::Ends;
 use std::alloc::Global;
 use std::marker::Model;
 
 /// How many places a pool has.
 pub const PLACES: u32 = 4096;
 
-/// The ring of the places that are free.
+/// The ring of the places that were given back.
 pub const FREE: u32 = 0;
 
 /// Rings of places. Each place stands in one ring at most, and each ring is a list of places.
 ///
-/// Two numbers are kept for each place, the place behind it and the place ahead of it, and as many
-/// for each ring's mark, which closes it: the mark of ring `k` has the number `PLACES + k`.
+/// Two links lead from each place, to the place behind it and to the place ahead of it, and as many
+/// from each ring's mark, which closes it: the mark of ring `k` has the number `PLACES + k`.
 #[derive(Drop)]
 pub struct Rings {
-    next: Vec<u32>,
-    previous: Vec<u32>,
+    next: Ends,
+    previous: Ends,
 }
 
 impl Model for Rings {
@@ -31,21 +32,9 @@ impl Model for Rings {
 
     ghost Value = { List (List ℕ) };
 
-    ghost view = { λ a. rings_linked a.next.items };
+    ghost view = { λ a. rings_linked a.next };
 
-    ghost invariant = { λ a. AreLinked a.next.items a.previous.items (rings_linked a.next.items) };
-}
-
-// The numbers from 0 on: links that lead each from its number to itself.
-fn numbers(alloc: Global, count: u32) -> Result<Vec<u32>, NoMemory>
-    ensures len { IfOk result (λ v. vec_len v ≡ count) }
-    ensures each { IfOk result (λ v. (k : ℕ) → k < count → slice_index v.items k ≡ k) }
-{
-    let mut all = Vec::with_capacity(alloc, count as usize)?;
-    for number in 0..count {
-        all.push(number)?;
-    }
-    Ok(all)
+    ghost invariant = { λ a. AreLinked a.next a.previous (rings_linked a.next) };
 }
 
 // A link's end as a place, if it is one.
@@ -66,8 +55,8 @@ impl Rings {
         ensures empty { IfOk result (λ made. made ≡ replicate rings []) }
         ensures sound { IfOk result (λ made. AreRings made) }
     {
-        let next = numbers(alloc, PLACES + rings)?;
-        let previous = numbers(alloc, PLACES + rings)?;
+        let next = Ends::new(alloc, rings)?;
+        let previous = Ends::new(alloc, rings)?;
         Ok(Rings { next, previous })
     }
 
@@ -80,8 +69,8 @@ impl Rings {
         ensures { IfOk result (λ made. made ≡ self.now) }
     {
         Ok(Rings {
-            next: self.next.clone()?,
-            previous: self.previous.clone()?,
+            next: self.next.copy()?,
+            previous: self.previous.copy()?,
         })
     }
 
@@ -90,7 +79,7 @@ impl Rings {
         requires { ring < length self.now }
         ensures { result ≡ first_in (line_at self.now ring) }
     {
-        place_of(self.next[(PLACES + ring) as usize])
+        place_of(self.next.at(PLACES + ring))
     }
 
     /// The last place of a ring, or `None` where it has none.
@@ -98,7 +87,7 @@ impl Rings {
         requires { ring < length self.now }
         ensures { result ≡ last_in (line_at self.now ring) }
     {
-        place_of(self.previous[(PLACES + ring) as usize])
+        place_of(self.previous.at(PLACES + ring))
     }
 
     /// The place behind a place that stands in a ring, or `None` at the ring's end.
@@ -106,7 +95,7 @@ impl Rings {
         requires { (ring : ℕ) × StandsIn self.now ring place }
         ensures { IsNext self.now place result }
     {
-        place_of(self.next[place as usize])
+        place_of(self.next.at(place))
     }
 
     /// The place ahead of a place that stands in a ring, or `None` at the ring's start.
@@ -114,7 +103,7 @@ impl Rings {
         requires { (ring : ℕ) × StandsIn self.now ring place }
         ensures { IsPrevious self.now place result }
     {
-        place_of(self.previous[place as usize])
+        place_of(self.previous.at(place))
     }
 
     /// Takes a place out of its ring.
@@ -123,10 +112,10 @@ impl Rings {
         ensures removed { IsRemoved self.old self.new place }
         ensures sound { AreRings self.new }
     {
-        let before = self.previous[place as usize];
-        let after = self.next[place as usize];
-        self.next[before as usize] = after;
-        self.previous[after as usize] = before;
+        let before = self.previous.at(place);
+        let after = self.next.at(place);
+        self.next.set(before, after);
+        self.previous.set(after, before);
     }
 
     /// Puts a place that stands in no ring into a ring, right before the place `before` of that
@@ -142,11 +131,11 @@ impl Rings {
         ensures sound { AreRings self.new }
     {
         let after = before.unwrap_or(PLACES + ring);
-        let before = self.previous[after as usize];
-        self.next[before as usize] = place;
-        self.next[place as usize] = after;
-        self.previous[after as usize] = place;
-        self.previous[place as usize] = before;
+        let before = self.previous.at(after);
+        self.next.set(before, place);
+        self.next.set(place, after);
+        self.previous.set(after, place);
+        self.previous.set(place, before);
     }
 
     /// Takes a place from where it stands, and puts it into a ring as [`Rings::insert`] does.
@@ -162,21 +151,4 @@ impl Rings {
         self.remove(place);
         self.insert(ring, before, place);
     }
-}
-
-/// So many rings, of which the first holds all places.
-///
-/// # Errors
-///
-/// [`NoMemory`] where memory runs out.
-pub fn filled_rings(alloc: Global, count: u32) -> Result<Rings, NoMemory>
-    requires some { 1 ≤ count }
-    requires fits { 4096 + count < 2 ^ 32 }
-    ensures { IfOk result (λ rings. AreFilled rings count 4096) }
-{
-    let mut rings = Rings::new(alloc, count)?;
-    for place in 0..PLACES {
-        rings.insert(FREE, None, place);
-    }
-    Ok(rings)
 }

@@ -1,11 +1,8 @@
 //! The slots of a pool's items.
 
-ghost use Rattle.std.specs.Prelude.{◌≡◌, IfOk, IsSome, Some, None, vec_len};
+ghost use Rattle.std.specs.Prelude.{◌≡◌, IsSome, Some};
 ghost use Rattle.std.specs.Borrow.{Lends, sem};
-ghost use Rattle.order_pool.specs.Slots.{item_in, AllFree};
-
-use crate::faults::NoMemory;
-use std::alloc::Global;
+ghost use Rattle.order_pool.specs.Slots.{item_in};
 
 /// What a place holds: nothing, or an item.
 #[derive(Clone, Copy)]
@@ -39,35 +36,4 @@ impl<T> Slot<T> {
             Slot::Free => unreachable!(),
         }
     }
-}
-
-/// So many slots that hold nothing.
-///
-/// # Errors
-///
-/// [`NoMemory`] where memory runs out.
-pub fn free_slots<T: Copy>(alloc: Global, count: u32) -> Result<Vec<Slot<T>>, NoMemory>
-    ensures len { IfOk result (λ slots. vec_len slots ≡ count) }
-    ensures free { IfOk result (λ slots. AllFree slots.items) }
-{
-    let mut slots = Vec::with_capacity(alloc, count as usize)?;
-    for _number in 0..count {
-        slots.push(Slot::Free)?;
-    }
-    Ok(slots)
-}
-
-/// The same slots again.
-///
-/// # Errors
-///
-/// [`NoMemory`] where memory runs out.
-pub fn copy_slots<T: Copy>(alloc: Global, slots: &[Slot<T>]) -> Result<Vec<Slot<T>>, NoMemory>
-    ensures { IfOk result (λ copied. copied.items ≡ slots.now) }
-{
-    let mut copied = Vec::with_capacity(alloc, slots.len())?;
-    for slot in slots {
-        copied.push(*slot)?;
-    }
-    Ok(copied)
 }
