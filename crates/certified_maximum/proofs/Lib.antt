@@ -4,6 +4,7 @@ pub mod BoundsFall
 pub mod Certified
 pub mod CrossingPeaks
 pub mod Duality
+pub mod Entered
 pub mod Entries
 pub mod Obtained
 pub mod OrdersMet

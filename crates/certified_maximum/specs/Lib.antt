@@ -1,4 +1,5 @@
 -- What the contracts of this crate cite.
+pub mod Entering
 pub mod FlowPlan
 pub mod Passed
 pub mod Rooms

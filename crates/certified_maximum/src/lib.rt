@@ -3,6 +3,7 @@
 
 mod blocks;
 mod examples;
+mod journals;
 mod plans;
 mod rooms;
 mod takings;
@@ -10,6 +11,7 @@ mod unfilled;
 
 pub use blocks::blocks_are_passed_over_for_want_of_room;
 pub use examples::falling_iceberg_stops_short;
+pub use journals::journals_obtain_the_most;
 pub use plans::{no_plan_beats_a_bound, no_plan_beats_the_bound};
 pub use rooms::{legs_leave_the_rooms, takings_leave_the_rooms, takings_open_no_way};
 pub use takings::{takings_obtain_the_most, takings_reach_their_bound};
