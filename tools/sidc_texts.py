@@ -7,6 +7,7 @@ from __future__ import annotations
 
 import json
 import re
+import sys
 from dataclasses import dataclass, field
 from datetime import date
 from typing import Any, NamedTuple, NoReturn, Optional, Sequence, Union
@@ -45,6 +46,14 @@ CLOSED_SECONDS = 300
 def text_of(data: bytes) -> str:
     """The text of some bytes, a character for each."""
     return data.decode("latin-1")
+
+
+def read_bytes(name: Optional[str]) -> bytes:
+    """What a file holds, or standard input where none is named."""
+    if name is None:
+        return sys.stdin.buffer.read()
+    with open(name, "rb") as file:
+        return file.read()
 
 
 def split_record(text: str) -> tuple[str, Optional[str]]:
@@ -103,8 +112,7 @@ def read_session(text: str) -> Session:
         end = (len(rest), len(rest) + 1)
         raise BadSession(after, rest, end, "the last line does not end with a line feed")
     if not reader.session.begin_line:
-        due = listed(reader.due(), "or")
-        raise BadSession(after, "", (0, 1), f"the text ends before `begin`; {due} is due")
+        raise BadSession(after, "", (0, 1), f"the text ends before `begin`; {reader.said_due()}")
     return reader.session
 
 
@@ -140,12 +148,12 @@ class Line:
         end = first + len(parts)
         if len(self.words) < end:
             part = PARTS[parts[len(self.words) - first]]
-            reason = f"{part.called} is missing after {quoted(self.words[-1])}: that is {part.spelling}"
+            reason = f"{part.called} is missing after {quoted(self.words[-1])}: it is {part.spelling}"
             self.refuse(reason, len(self.words), form)
         if len(self.words) > end:
             most = f", as a basket has at most {MOST_ITEMS} items" if form.endswith("..") else ""
-            surplus = len(self.words) - end
-            what = f"{quoted(self.words[end])} is a word" if surplus == 1 else f"from {quoted(self.words[end])} on {surplus} words are"
+            word, surplus = quoted(self.words[end]), len(self.words) - end
+            what = f"{word} is a word" if surplus == 1 else f"from {word} on {surplus} words are"
             self.refuse(f"{what} too many{most}", end, form, surplus)
 
 
@@ -176,8 +184,8 @@ class Reader:
         else:
             self.read_header(line)
 
-    def due(self) -> list[str]:
-        """The forms of the lines that may come next before the commands."""
+    def said_due(self) -> str:
+        """Which lines may come next before the commands."""
         session = self.session
         if session.day is None:
             names = ["day"]
@@ -187,7 +195,7 @@ class Reader:
             names = ["trader", "operator", "begin"]
         else:
             names = ["border", "trader", "operator", "begin"] if session.borders else list(HEADINGS)[1:]
-        return [f"{name} {HEADINGS[name]}".strip() for name in names]
+        return f"{listed([form_of_heading(name) for name in names], 'or')} is due"
 
     def read_header(self, line: Line) -> None:
         heading = line.words[0]
@@ -195,12 +203,11 @@ class Reader:
             line.refuse(f"a command of {quoted(heading)} comes before the line `begin`", 0)
         if heading not in HEADINGS:
             near = nearest(heading, list(HEADINGS))
-            line.refuse(f"no line before the commands begins with {quoted(heading)}{near}; {listed(self.due(), 'or')} is due", 0)
-        late = self.reason_of_order(heading)
-        if late:
-            line.refuse(f"{late}; {listed(self.due(), 'or')} is due", 0)
-        form = f"{heading} {HEADINGS[heading]}".strip()
-        line.check_words(1, HEADINGS[heading].split(), form)
+            line.refuse(f"no line before `begin` begins with {quoted(heading)}{near}; {self.said_due()}", 0)
+        reason = self.reason_of_order(heading)
+        if reason:
+            line.refuse(f"{reason}; {self.said_due()}", 0)
+        line.check_words(1, HEADINGS[heading].split(), form_of_heading(heading))
         if heading == "day":
             self.session.day, self.session.day_line = date_of(line.words[1]), line.number
         elif heading == "zone":
@@ -241,7 +248,7 @@ class Reader:
         for place, zone in enumerate(ends, 1):
             if zone not in self.session.zones:
                 near = nearest(zone, list(self.session.zones))
-                line.refuse(f"no zone {quoted(zone)} is declared{near}", place, "border NAME NAME")
+                line.refuse(f"no zone {quoted(zone)} is declared{near}", place)
         if ends[0] == ends[1]:
             line.refuse("a border joins two different zones", 2)
         before = borders.get(ends) or borders.get(ends[::-1])
@@ -256,11 +263,11 @@ class Reader:
         if caller not in self.session.callers:
             line.refuse(self.reason_of_caller(line), 0)
         if len(line.words) == 1:
-            line.refuse(f"a verb is missing after {quoted(caller)}: {listed(list(VERBS), 'or', len(VERBS))}", 1)
+            line.refuse(f"a verb is missing after {quoted(caller)}: it is {listed(list(VERBS), 'or', len(VERBS))}", 1)
         verb = line.words[1]
         if verb not in VERBS:
             near = nearest(verb, list(VERBS))
-            line.refuse(f"{quoted(verb)} is no verb{near}: that is {listed(list(VERBS), 'or', len(VERBS))}", 1)
+            line.refuse(f"{quoted(verb)} is not a verb{near}: a verb is {listed(list(VERBS), 'or', len(VERBS))}", 1)
         line.check_words(2, parts_of(verb, line.words[2:]), f"CALLER {verb} {VERBS[verb]}")
         if verb == "clock":
             self.take_clock(line)
@@ -273,14 +280,15 @@ class Reader:
         if word == "begin":
             return f"`begin` stands on line {self.session.begin_line} already"
         if word in HEADINGS:
-            return f"a line {quoted(word)} comes before `begin`, which stands on line {self.session.begin_line}"
+            return f"a line {quoted(word)} has its place before `begin`, which stands on line {self.session.begin_line}"
         if word in VERBS:
             return f"the name of a caller is due in front of the verb {quoted(word)}"
         if line.text == DIVIDER:
             return f"{quoted(DIVIDER)} divides a record, which audit and ship read, and is no line of a session"
         if not callers:
             return f"no caller {quoted(word)} is declared: the session has none"
-        return f"no caller {quoted(word)} is declared{nearest(word, callers)}: {listed(callers)} {'is' if len(callers) == 1 else 'are'}"
+        near, are = nearest(word, callers), "is" if len(callers) == 1 else "are"
+        return f"no caller {quoted(word)} is declared{near}: {listed(callers)} {are}"
 
     def take_clock(self, line: Line) -> None:
         """The gates for which a clock line stands."""
@@ -292,17 +300,22 @@ class Reader:
     def take(self, line: Line, commands: list[str], by_clock: bool) -> None:
         given = self.session.commands
         if len(given) + len(commands) > MOST_COMMANDS:
-            stands = f"the clock line stands for {counted(len(commands), 'gate')}" if by_clock else "this is a command more"
-            reason = f"{stands}, {len(given)} commands come before, and a session has at most {MOST_COMMANDS}"
+            stands = f"the clock line stands for {counted(len(commands), 'gate')}, " if by_clock else ""
+            reason = f"{stands}{len(given)} commands come before this line, and a session has at most {MOST_COMMANDS}"
             line.refuse(reason, 0, count=len(line.words))
         given.extend(Command(line.number, line.words[0], words, by_clock) for words in commands)
+
+
+def form_of_heading(heading: str) -> str:
+    """The form of a line before the commands."""
+    return f"{heading} {HEADINGS[heading]}".strip()
 
 
 def behind(what: str, others: dict[str, dict[Any, int]]) -> str:
     """Why a line comes too late where lines are there that come after it."""
     for name, lines in others.items():
         if lines:
-            return f"the {what} come before the {name}s, of which the first stands on line {min(lines.values())}"
+            return f"the {what} come before the {name}s, the first of which stands on line {min(lines.values())}"
     return ""
 
 
@@ -416,7 +429,10 @@ REFUSALS = {
         "",
         "a quantity is not 0.1 to 999.0 MW, an offer above 100000.0 MW, or what is to be left not less than what is left",
     ),
-    "BadPeak": ("", "a peak is 0.0 or not below the quantity, there are over 100 peaks, or the last one's price is out of range"),
+    "BadPeak": (
+        "",
+        "a peak is 0.0 or not below the quantity, there are over 100 peaks, or the last one's price is out of range",
+    ),
     "Closed": ("first", "{first} is closed"),
     "GateBack": ("phase", "the hour is {phase}, and the phase asked for is not later"),
     "UnknownOrder": ("", "the caller has no such order open"),

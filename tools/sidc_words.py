@@ -85,7 +85,7 @@ class Part:
     def refusal(self, word: str) -> str:
         """Why the word is no such part."""
         closer = self.look(word)
-        return f"{quoted(word)} is not {self.called}{closer and ', as ' + closer}: that is {self.spelling}"
+        return f"{quoted(word)} is not {self.called}{closer and ', as ' + closer}: {self.called} is {self.spelling}"
 
 
 # What is to be said of a word that is no such part, if it is more than the spelling.
@@ -202,7 +202,10 @@ HOUR = Part("an hour", "`h` and 1 or 2 digits, as `h12`", like(AN_HOUR), look_at
 QUARTER = Part("a quarter", "an hour, `q` and one digit, as `h12q1`", like(AN_HOUR + "q[0-9]"), look_at_quarter)
 HALF = Part("a half", "an hour, `f` and one digit, as `h12f1`", like(AN_HOUR + "f[0-9]"))
 CONTRACT = Part(
-    "a contract", "an hour, a quarter or a half, as `h12`, `h12q1` or `h12f1`", like(AN_HOUR + "([qf][0-9])?"), look_at_contract
+    "a contract",
+    "an hour, a quarter or a half, as `h12`, `h12q1` or `h12f1`",
+    like(AN_HOUR + "([qf][0-9])?"),
+    look_at_contract,
 )
 ORDER = Part(
     "the name of an order", "an hour, `#` and 1 to 9 digits, as `h12#4`", like(AN_HOUR + "#[0-9]{1,9}"), look_at_order
