@@ -30,7 +30,7 @@ pub is-same_side : (a b : Side) → a ≡ b → same_side a b ≡ true
 is-same_side Buy b e = subst (λ s. same_side Buy s ≡ true) e refl
 is-same_side Sell b e = subst (λ s. same_side Sell s ≡ true) e refl
 
-and-both : (a b : Bool) → (a && b) ≡ true → (a ≡ true) × (b ≡ true)
+pub and-both : (a b : Bool) → (a && b) ≡ true → (a ≡ true) × (b ≡ true)
 and-both true b e = (refl, e)
 and-both false b e = absurd (true≢false (sym e))
 

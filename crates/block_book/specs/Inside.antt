@@ -1,69 +1,90 @@
 -- How a book lays out its blocks. No public clause cites this module.
-use Rattle.std.specs.Prelude.{◌≡◌, ◌≢◌, ℕ, ◌+◌, ◌*◌, ◌%◌, List, [], length, Option, Some, None}
+use Rattle.std.specs.Prelude.{◌≡◌, ℕ, ◌+◌, ◌*◌, ◌%◌, ◌==◌, ◌&&◌, nat_lt, if◌then◌else◌, Bool, true, false, List, [], ◌∷◌, filter, length, Option, Some, None}
 use Rattle.order_kinds.specs.declared.side.Side.{Side}
 use Rattle.order_kinds.specs.declared.side.Side.TheVariants.{Buy, Sell}
-use Rattle.order_pool.specs.Lines.{line_at}
-use Rattle.zone_graph.specs.InOrder.{IsStrictlyInOrder, in_order}
-use Rattle.zone_graph.specs.Route.{IsIn}
-use Rattle.record_pool.specs.Keyed.{held, held_at, AreKeyed}
+use Rattle.order_pool.specs.Lines.{StandsIn}
+use Rattle.zone_graph.specs.InOrder.{in_order}
+use Rattle.record_pool.specs.Keyed.{held, AreKeyed}
 use Rattle.record_pool.specs.Lines.{AreLines}
 use Rattle.block_book.specs.declared.block.RestingBlock.{RestingBlock}
 use Rattle.block_book.specs.declared.ladder.Ladder.{Ladder}
 use Rattle.block_book.specs.declared.line_key.Grain.{Grain}
-use Rattle.block_book.specs.declared.line_key.Grain.TheVariants as grain
+use Rattle.block_book.specs.declared.line_key.Grain.TheVariants as grains
 use Rattle.block_book.specs.declared.line_key.LineKey.{LineKey}
 use Rattle.block_book.specs.Blocks.{block_cmp, number_cmp, number_of}
-
--- what the line is found by in which a block stands
-abbrev pub key_by : Grain → RestingBlock → LineKey
-key_by grain.Period block = record { last = block.last; side = block.side; quantity = None }
-key_by grain.Quantity block = record { last = block.last; side = block.side; quantity = Some block.quantity }
-
--- the number of the chain in which a line is looked for
-abbrev pub key_bucket : LineKey → ℕ
-key_bucket key = (key.last % 4096 * 173 + lots key.quantity % 2048 * 2 + code key.side) % 4096
-  where
-    lots : Option ℕ → ℕ
-    lots None = 0
-    lots (Some quantity) = quantity
-
-    code : Side → ℕ
-    code Buy = 0
-    code Sell = 1
+use Rattle.block_book.specs.Book.{is_of}
 
 -- the blocks that places hold, by ascending number
 abbrev pub book_in : List (Option RestingBlock) → List RestingBlock
 book_in places = in_order number_cmp (held places)
 
--- the side of a line
-abbrev pub side_by : List (Option LineKey) → (line : ℕ) → Side
-side_by levels line = of_level (held_at levels line)
+-- what the line is found by that has a block
+abbrev pub key_by : Grain → RestingBlock → LineKey
+key_by grain block = record { last = block.last; side = block.side; quantity = lots grain }
   where
-    of_level : Option LineKey → Side
-    of_level None = Buy
-    of_level (Some key) = key.side
+    lots : Grain → Option ℕ
+    lots grains.Period = None
+    lots grains.Quantity = Some block.quantity
 
--- a block stands in the line of its key
-abbrev pub Belongs : Grain → List (Option LineKey) → (line : ℕ) → RestingBlock → Type 0
-Belongs grain levels line block = held_at levels line ≡ Some (key_by grain block)
+-- the quantities are the same, or none is given
+abbrev pub same_lots : Option ℕ → Option ℕ → Bool
+same_lots None None = true
+same_lots None (Some other) = false
+same_lots (Some one) None = false
+same_lots (Some one) (Some other) = one == other
 
--- the blocks stand in the lines of their keys, and no line is kept in which none stands
+-- a block is in the line of this key
+abbrev pub has_key : Grain → LineKey → RestingBlock → Bool
+has_key grain key block = same_lots (key_by grain block).quantity key.quantity && is_of key.last key.side block
+
+-- the line of a key: its blocks, in priority
+abbrev pub line_by : Grain → List RestingBlock → LineKey → List RestingBlock
+line_by grain book key = in_order (block_cmp key.side) (filter (has_key grain key) book)
+
+-- periods and quantities, spread over the rings of a side
+abbrev pub spread : (last : ℕ) → Option ℕ → ℕ
+spread last quantity = (last % 2048 * 83 + lots quantity % 2039) % 2048
+  where
+    lots : Option ℕ → ℕ
+    lots None = 0
+    lots (Some quantity) = quantity
+
+-- the buyers' rings are the first half, and the sellers' the second
+abbrev pub in_half : Side → ℕ → ℕ
+in_half Buy ring = ring
+in_half Sell ring = 2048 + ring
+
+-- the number of the ring that has the line of a key
+abbrev pub key_ring : LineKey → ℕ
+key_ring key = in_half key.side (spread key.last key.quantity)
+
+-- the side of a ring
+abbrev pub side_by : (ring : ℕ) → Side
+side_by ring = if nat_lt ring 2048 then Buy else Sell
+
+-- a block stands in the ring of its key
+abbrev pub Belongs : Grain → (ring : ℕ) → RestingBlock → Type 0
+Belongs grain ring block = key_ring (key_by grain block) ≡ ring
+
+-- a place stands in one of the rings
+abbrev pub StandsSomewhere : List (List ℕ) → (place : ℕ) → Type 0
+StandsSomewhere rings place = (ring : ℕ) × StandsIn rings ring place
+
+-- the places of a ring from one of them on
+abbrev pub places_from : Option ℕ → List ℕ → List ℕ
+places_from None ring = []
+places_from (Some place) [] = []
+places_from (Some place) (first ∷ rest) = if first == place then first ∷ rest else places_from (Some place) rest
+
+-- the blocks stand in the rings of their keys, each ring in priority
 pub record IsLadder (places : List (Option RestingBlock)) (ladder : Ladder) : Type 0 where
-  pub keyed : AreKeyed (λ (key : LineKey). key) ladder.levels
-  pub many : length ladder.lines ≡ 4096
-  pub are : AreLines block_cmp (side_by ladder.levels) (Belongs ladder.grain ladder.levels) places ladder.lines
-  pub used : (line : ℕ) (key : LineKey) → held_at ladder.levels line ≡ Some key → line_at ladder.lines line ≢ []
-
--- a list is the line of a key: the blocks of that key that places hold, in priority
-pub record IsLine (grain : Grain) (places : List (Option RestingBlock)) (key : LineKey) (line : List RestingBlock) : Type 0 where
-  pub sorted : IsStrictlyInOrder (block_cmp key.side) line
-  pub each : (block : RestingBlock) → IsIn block line → (place : ℕ) × (held_at places place ≡ Some block) × (key_by grain block ≡ key)
-  pub all : (place : ℕ) (block : RestingBlock) → held_at places place ≡ Some block → key_by grain block ≡ key → IsIn block line
+  pub many : length ladder.rings ≡ 4096
+  pub are : AreLines block_cmp side_by (Belongs ladder.grain) places ladder.rings
 
 -- the blocks are found by their numbers and stand in lines of both kinds
 pub record IsInside (places : List (Option RestingBlock)) (by_period by_quantity : Ladder) : Type 0 where
   pub keyed : AreKeyed number_of places
-  pub of_period : by_period.grain ≡ grain.Period
-  pub of_quantity : by_quantity.grain ≡ grain.Quantity
+  pub of_period : by_period.grain ≡ grains.Period
+  pub of_quantity : by_quantity.grain ≡ grains.Quantity
   pub periods : IsLadder places by_period
   pub quantities : IsLadder places by_quantity

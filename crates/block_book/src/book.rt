@@ -15,10 +15,14 @@ use zone_graph::NoMemory;
 /// The blocks that rest and start in one hour: contracts see them by ascending number, and for each
 /// period and side the line of its blocks in priority.
 ///
-/// A block is found by its number, and a line by what its blocks have in common, each over an index.
-/// No call but [`BlockBook::new`] and [`BlockBook::copy`] takes memory. The steps of
-/// [`BlockBook::rest`] grow with how far the block's places in its two lines are from the nearer
-/// ends of those lines; the steps of the other calls are independent of how many blocks rest.
+/// A block is found by its number over an index. A line is found in a ring, whose number is computed
+/// from what the blocks of the line have in common, and which may have blocks of other lines of the
+/// same side besides. No call but [`BlockBook::new`] and [`BlockBook::copy`] takes memory. The steps
+/// of [`BlockBook::rest`] grow with how far the block's places in its two rings are from the nearer
+/// ends of those rings. The steps of the other calls are independent of how many blocks rest, but
+/// for the blocks of other lines that [`BlockBook::first`], [`BlockBook::after`] and their kin pass
+/// over in one ring: none in the lines of all quantities, as long as no period has 2048 hours or
+/// more, and few in those of one quantity, as periods and quantities spread over 2048 rings a side.
 #[derive(Drop)]
 pub struct BlockBook {
     blocks: KeyedPool<RestingBlock>,
@@ -119,8 +123,8 @@ impl BlockBook {
         ensures sound { books.IsBook self.new }
     {
         let place = self.blocks.find(number)?;
-        self.by_period.leave(&self.blocks, place);
-        self.by_quantity.leave(&self.blocks, place);
+        self.by_period.leave(place);
+        self.by_quantity.leave(place);
         Some(self.blocks.take(place))
     }
 

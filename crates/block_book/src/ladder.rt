@@ -1,12 +1,14 @@
 //! Lines of blocks, found by what their blocks have in common.
 
-ghost use Rattle.std.specs.Prelude.{◌≡◌, ◌⊎◌, ◌<◌, List, replicate, Some, None, IsSome, IfOk, IfSome, slice_set};
-ghost use Rattle.record_pool.specs.Keyed.{held_at, held_count, AreKeyed, Holds};
+ghost use Rattle.std.specs.Prelude.{◌≡◌, List, Option, filter, replicate, None, IsSome, IfOk, IfSome, slice_set};
+ghost use Rattle.std.specs.Option.{ForSome};
+ghost use Rattle.order_pool.specs.Lines.{line_at, StandsIn};
+ghost use Rattle.record_pool.specs.Keyed.{held_at, AreKeyed};
+ghost use Rattle.record_pool.specs.Ranked.{records_of};
 ghost use Rattle.block_book.specs.declared.block.RestingBlock.{RestingBlock as Block};
-ghost use Rattle.block_book.specs.declared.line_key.LineKey.{LineKey as Key};
 ghost use Rattle.block_book.specs.Blocks.{number_of};
 ghost use Rattle.block_book.specs.Book.{after_in, first_of};
-ghost use Rattle.block_book.specs.Inside.{IsLadder, IsLine, key_by};
+ghost use Rattle.block_book.specs.Inside.{IsLadder, book_in, has_key, key_by, key_ring, line_by, places_from, StandsSomewhere};
 
 use crate::block::RestingBlock;
 use crate::line_key::{Grain, LineKey};
@@ -15,12 +17,12 @@ use record_pool::{KeyedPool, spot};
 use std::alloc::Global;
 use zone_graph::NoMemory;
 
-/// The lines of blocks, each with its number: the place of its key.
+/// Lines of blocks. A line is in the ring whose number its key tells: the ring has the blocks of
+/// all keys of that number, in priority, so that those of one key are met in it in their order.
 #[derive(Drop)]
 pub struct Ladder {
     pub grain: Grain,
-    pub levels: KeyedPool<LineKey>,
-    pub lines: Rings,
+    pub rings: Rings,
 }
 
 impl Ladder {
@@ -29,29 +31,22 @@ impl Ladder {
         ensures grain { IfOk result (λ ladder. ladder.grain ≡ grain) }
         ensures sound { IfOk result (λ ladder. IsLadder (replicate 4096 None) ladder) }
     {
-        let levels = KeyedPool::new(alloc)?;
-        let Ok(lines) = Rings::new(alloc, PLACES) else {
+        let Ok(rings) = Rings::new(alloc, PLACES) else {
             return Err(NoMemory);
         };
-        Ok(Ladder {
-            grain,
-            levels,
-            lines,
-        })
+        Ok(Ladder { grain, rings })
     }
 
     /// The same lines.
     pub fn copy(&self) -> Result<Ladder, NoMemory>
         ensures same { IfOk result (λ ladder. ladder ≡ self.now) }
     {
-        let levels = self.levels.copy()?;
-        let Ok(lines) = self.lines.copy() else {
+        let Ok(rings) = self.rings.copy() else {
             return Err(NoMemory);
         };
         Ok(Ladder {
             grain: self.grain,
-            levels,
-            lines,
+            rings,
         })
     }
 
@@ -64,36 +59,28 @@ impl Ladder {
         ensures sound { IsLadder blocks.now self.new }
     {
         let block = *blocks.get(place);
-        let line = line_for(&mut self.levels, self.grain.key_of(&block));
-        let before = spot(blocks, &self.lines, line, block.side, &block);
-        self.lines.insert(line, before, place);
+        let ring = self.grain.key_of(&block).ring();
+        let before = spot(blocks, &self.rings, ring, block.side, &block);
+        self.rings.insert(ring, before, place);
     }
 
     /// Takes the block of a place out of its line.
-    pub fn leave(&mut self, blocks: &KeyedPool<RestingBlock>, place: u32)
-        requires sound { IsLadder blocks.now self.old }
-        requires held { IsSome (held_at blocks.now place) }
+    pub fn leave(&mut self, place: u32)
+        requires { StandsSomewhere self.old.rings place }
         ensures grain { self.new.grain ≡ self.old.grain }
-        ensures sound { IsLadder (slice_set blocks.now place None) self.new }
+        ensures sound { (places : List (Option Block)) → IsLadder places self.old → IsSome (held_at places place)
+            → IsLadder (slice_set places place None) self.new }
     {
-        let key = self.grain.key_of(blocks.get(place));
-        let Some(line) = self.levels.find(key) else {
-            unreachable!();
-        };
-        self.lines.remove(place);
-        if self.lines.first(line).is_none() {
-            self.levels.take(line);
-        }
+        self.rings.remove(place);
     }
 
     /// The first block of the line of a key.
     pub fn first(&self, blocks: &KeyedPool<RestingBlock>, key: LineKey) -> Option<RestingBlock>
-        requires { IsLadder blocks.now self.now }
-        ensures { (line : List Block) → IsLine self.now.grain blocks.now key line → result ≡ first_of line }
+        requires sound { IsLadder blocks.now self.now }
+        requires keyed { AreKeyed number_of blocks.now }
+        ensures { result ≡ first_of (line_by self.now.grain (book_in blocks.now) key) }
     {
-        let line = self.levels.find(key)?;
-        let place = self.lines.first(line)?;
-        Some(*blocks.get(place))
+        self.find_from(blocks, key, self.rings.first(key.ring()))
     }
 
     /// The block behind that of a place in its line.
@@ -102,28 +89,32 @@ impl Ladder {
         requires keyed { AreKeyed number_of blocks.now }
         requires held { IsSome (held_at blocks.now place) }
         ensures { IfSome (held_at blocks.now place) (λ block.
-            (line : List Block) → IsLine self.now.grain blocks.now (key_by self.now.grain block) line
-            → result ≡ after_in block.number line) }
+            result ≡ after_in block.number (line_by self.now.grain (book_in blocks.now) (key_by self.now.grain block))) }
     {
-        let next = self.lines.next(place)?;
-        Some(*blocks.get(next))
+        let key = self.grain.key_of(blocks.get(place));
+        self.find_from(blocks, key, self.rings.next(place))
     }
-}
 
-// The number of the line of a key, which gets one where it has none.
-fn line_for(levels: &mut KeyedPool<LineKey>, key: LineKey) -> u32
-    requires keyed { AreKeyed (λ (k : Key). k) levels.old }
-    requires few { held_count levels.old < 4096 }
-    ensures was { (held_at levels.old result ≡ None) ⊎ (held_at levels.old result ≡ Some key) }
-    ensures within { result < 4096 }
-    ensures set { levels.new ≡ slice_set levels.old result (Some key) }
-    ensures keyed { AreKeyed (λ (k : Key). k) levels.new }
-{
-    if let Some(line) = levels.find(key) {
-        return line;
+    // The first block of a key from a place of the key's ring on.
+    fn find_from(
+        &self,
+        blocks: &KeyedPool<RestingBlock>,
+        key: LineKey,
+        from: Option<u32>,
+    ) -> Option<RestingBlock>
+        requires sound { IsLadder blocks.now self.now }
+        requires from { ForSome from (λ place. StandsIn self.now.rings (key_ring key) place) }
+        ensures { result ≡ first_of (filter (has_key self.now.grain key)
+            (records_of blocks.now (places_from from (line_at self.now.rings (key_ring key))))) }
+    {
+        let mut at = from;
+        while let Some(place) = at {
+            let block = blocks.get(place);
+            if self.grain.is_key_of(key, block) {
+                return Some(*block);
+            }
+            at = self.rings.next(place);
+        }
+        None
     }
-    let Ok(line) = levels.put(key) else {
-        unreachable!();
-    };
-    line
 }

@@ -1,12 +1,11 @@
 //! What a line is found by.
 
-ghost use Rattle.std.specs.Prelude.{◌≡◌};
+ghost use Rattle.std.specs.Prelude.{◌≡◌, ◌↔◌, IsTrue};
 
 use crate::block::RestingBlock;
 use order_kinds::Side;
-use record_pool::Keyed;
 
-/// Which blocks stand in one line: those of a period and side, or those of a quantity among them.
+/// Which blocks a line has: those of a period and side, or those of a quantity among them.
 #[derive(Clone, Copy, Debug, PartialEq, Eq)]
 pub enum Grain {
     /// A line has the blocks of one period and side.
@@ -32,7 +31,7 @@ pub struct LineKey {
 impl Grain {
     ghost use Rattle.block_book.specs.Inside.{key_by};
 
-    /// What the line is found by in which a block stands.
+    /// What the line is found by that has a block.
     pub fn key_of(self, block: &RestingBlock) -> LineKey
         ensures { result ≡ key_by self block.now }
     {
@@ -46,30 +45,30 @@ impl Grain {
             quantity,
         }
     }
+
+    /// Whether a key is the one by which the line is found that has a block.
+    pub fn is_key_of(self, key: LineKey, block: &RestingBlock) -> bool
+        ensures { IsTrue result ↔ (key_by self block.now ≡ key) }
+    {
+        self.key_of(block) == key
+    }
 }
 
-impl Keyed for LineKey {
-    ghost use Rattle.block_book.specs.Inside.{key_bucket};
+impl LineKey {
+    ghost use Rattle.block_book.specs.Inside.{key_ring};
 
-    type Key = LineKey;
-
-    ghost key_of = { λ key. key };
-
-    ghost bucket_of = { key_bucket };
-
-    fn key(&self) -> LineKey {
-        *self
-    }
-
-    fn is_of(&self, key: LineKey) -> bool {
-        *self == key
-    }
-
-    fn bucket(key: LineKey) -> u32 {
-        let side = match key.side {
-            Side::Buy => 0,
-            Side::Sell => 1,
-        };
-        (key.last % 4096 * 173 + key.quantity.unwrap_or(0) % 2048 * 2 + side) % 4096
+    /// The number of the ring in which the blocks of the line stand: below 2048 for buyers, and
+    /// from there on for sellers. 2039 is a prime, and 83 is odd, so that quantities that are all
+    /// multiples of ten or a hundred lots spread too, and that two lines of all quantities share a
+    /// ring only where their last hours are a multiple of 2048 hours apart.
+    pub fn ring(self) -> u32
+        ensures { result ≡ key_ring self }
+    {
+        let lots = self.quantity.unwrap_or(0);
+        let spread = (self.last % 2048 * 83 + lots % 2039) % 2048;
+        match self.side {
+            Side::Buy => spread,
+            Side::Sell => 2048 + spread,
+        }
     }
 }

@@ -1,18 +1,16 @@
-use Rattle.std.proofs.Common.{◌∙◌, sym}
-use Rattle.block_book.proofs.Ladders.{after-none, after-some, held-some, if-held, next-live}
+use Rattle.std.proofs.Common.{sym, subst}
+use Rattle.std.specs.Option.{ForSome}
+use Rattle.order_pool.specs.Lines.{StandsIn}
+use Rattle.block_book.specs.Inside.{key_ring}
+use Rattle.block_book.proofs.Ladders.{behind-met, behind-stands}
 use Rattle.block_book.proofs.ladder.Ladder.after.Goals as goal
 
-pub returns-in_err-next : goal.returns-in_err-next
-returns-in_err-next c =
-    if-held c.args.blocks.now c.args.place _ (λ block holds. λ line is.
-    c.from_residual.ensures ∙ sym (after-none c.args.blocks.now c.args.self.now c.requires.sound c.requires.keyed c.args.place block holds c.next.result c.next.ensures c.in_err-next.was line is))
-
-pub get-requires : goal.get-requires
-get-requires c =
-    let held = held-some c.args.blocks.now c.args.place c.requires.held in
-    next-live c.args.blocks.now c.args.self.now c.requires.sound c.requires.keyed c.args.place held.0 held.1 c.next.result c.in_ok-next.next c.next.ensures c.in_ok-next.was
+pub find_from-requires-clause-from : goal.find_from-requires-clause-from
+find_from-requires-clause-from c =
+    subst (λ k. ForSome c.next.result (StandsIn c.args.self.now.rings (key_ring k))) (sym c.key_of-key.ensures)
+    (behind-stands c.args.blocks.now c.args.self.now c.requires.sound c.requires.keyed c.args.place c.get.result.now c.get.ensures c.next.result c.next.ensures)
 
 pub returns : goal.returns
 returns c =
-    if-held c.args.blocks.now c.args.place _ (λ block holds. λ line is.
-    sym (after-some c.args.blocks.now c.args.self.now c.requires.sound c.requires.keyed c.args.place block holds c.next.result c.in_ok-next.next c.get.result.now c.next.ensures c.in_ok-next.was c.get.ensures line is))
+    rw (c.get.ensures, c.find_from.ensures, c.key_of-key.ensures)
+    (behind-met c.args.blocks.now c.args.self.now c.requires.sound c.requires.keyed c.args.place c.get.result.now c.get.ensures c.next.result c.next.ensures)
