@@ -17,6 +17,7 @@ const euro = (cents) => (cents / 100).toFixed(2);
 const total = (numbers) => numbers.reduce((sum, number) => sum + number, 0);
 const most = (numbers, least) => numbers.reduce((high, number) => Math.max(high, number), least);
 const unique = (values) => [...new Set(values)];
+const counted = (count, one, many = `${one}s`) => `${count} ${count === 1 ? one : many}`;
 const chosenQuarter = () => 4 * (view.hour - 1) + view.quarter - 1;
 
 function stateAt(states, place, fits = () => true) {
@@ -89,7 +90,7 @@ function scale(low, high, from, to, count) {
   }
   const digits = Math.max(0, -Math.floor(Math.log10(apart)));
   const at = (value) => from + ((value - low) / (high - low || 1)) * (to - from);
-  return { at, ticks, told: (value) => value.toFixed(digits) };
+  return { at, ticks, told: (value) => value.toFixed(digits), shift: 0 };
 }
 
 const FRAME = { left: 78, right: WIDTH - 24, top: 18, bottom: 300 };
@@ -103,7 +104,7 @@ function drawAxes(svg, x, y, xName, yName) {
   for (const tick of x.ticks) {
     const at = x.at(tick);
     draw(svg, "line", { class: "grid", x1: at, x2: at, y1: FRAME.top, y2: FRAME.bottom });
-    draw(svg, "text", { class: "tick", x: at, y: FRAME.bottom + 18, "text-anchor": "middle" }, x.told(tick));
+    draw(svg, "text", { class: "tick", x: at + x.shift, y: FRAME.bottom + 18, "text-anchor": "middle" }, x.told(tick));
   }
   const { left, right, top, bottom } = FRAME;
   draw(svg, "path", { class: "axis", fill: "none", d: `M${left} ${top}V${bottom}H${right}` });
@@ -139,6 +140,9 @@ function phaseAt(hour) {
   return gate ? gate[2] : "open";
 }
 
+/** How much of a thing a label in a box would hide, by the thing's weight. */
+const hides = (box, thing) => thing.weight * overlap(box, thing);
+
 const overlap = (one, other) =>
   Math.max(0, Math.min(one.right, other.right) - Math.max(one.left, other.left)) *
   Math.max(0, Math.min(one.bottom, other.bottom) - Math.max(one.top, other.top));
@@ -155,32 +159,36 @@ function* spots(line, width, height, thick) {
   const [dx, dy] = [line.x2 - line.x1, line.y2 - line.y1];
   const length = Math.hypot(dx, dy);
   const [nx, ny] = [-dy / length, dx / length];
-  for (const part of [0.5, 0.42, 0.58, 0.34, 0.66, 0.27, 0.73]) {
+  for (const part of [0.5, 0.42, 0.58, 0.34, 0.66, 0.26, 0.74, 0.18, 0.82]) {
     for (const side of [1, -1]) {
-      const away = thick / 2 + 4 + (Math.abs(nx) * width + Math.abs(ny) * height) / 2;
+      const away = thick / 2 + 3 + (Math.abs(nx) * width + Math.abs(ny) * height) / 2;
       yield [line.x1 + part * dx + side * away * nx, line.y1 + part * dy + side * away * ny];
     }
   }
 }
 
-/** Moves a label to where it hides least of what is there already. */
-function settleLabel(label, line, thick, taken) {
+/** Where a label can stand, each place with how much of what is there already it would hide. */
+function* settlings(label, line, thick, taken) {
   const [width, height] = [label.getComputedTextLength() + 6, 16];
-  let best = null;
   for (const [x, y] of spots(line, width, height, thick)) {
     const box = boxAt(x, y, width, height);
-    const outside = box.left < 0 || box.right > DATA.map[0] || box.top < 0 || box.bottom > DATA.map[1] ? 1e6 : 0;
-    const hidden = outside + total(taken.map((other) => overlap(box, other)));
-    if (!best || hidden < best.hidden) {
-      best = { x, y, box, hidden };
-    }
-    if (hidden === 0) {
-      break;
-    }
+    const isOutside = box.left < 0 || box.right > DATA.map[0] || box.top < 0 || box.bottom > DATA.map[1];
+    yield { x, y, box, hidden: (isOutside ? 1e6 : 0) + total(taken.map((thing) => hides(box, thing))) };
   }
-  label.setAttribute("x", best.x);
-  label.setAttribute("y", best.y + 4);
-  taken.push(best.box);
+}
+
+/** Moves each label to where it hides least, those with the fewest free places first. */
+function settleLabels(labels, taken) {
+  for (const label of labels) {
+    label.free = [...settlings(label.text, label.line, label.thick, taken)].filter((spot) => spot.hidden === 0).length;
+  }
+  for (const { text, line, thick } of labels.sort((one, other) => one.free - other.free)) {
+    const all = [...settlings(text, line, thick, taken)];
+    const best = all.reduce((least, next) => (next.hidden < least.hidden ? next : least));
+    text.setAttribute("x", best.x);
+    text.setAttribute("y", best.y + 4);
+    taken.push({ weight: 4, ...best.box });
+  }
 }
 
 function lineBetween(start, end) {
@@ -191,17 +199,19 @@ function lineBetween(start, end) {
 }
 
 /** Points on a line, as small boxes, so that labels keep off it. */
-function pointsOf(line) {
+function pointsOf(border) {
+  const line = lineBetween(border.start, border.end);
+  const weight = border.carried || border.halted ? 1 : 0.2;
   const count = Math.ceil(Math.hypot(line.x2 - line.x1, line.y2 - line.y1) / 12);
   return Array.from({ length: count }, (_, number) => {
     const part = (number + 0.5) / count;
-    return boxAt(line.x1 + part * (line.x2 - line.x1), line.y1 + part * (line.y2 - line.y1), 6, 6);
+    return { weight, ...boxAt(line.x1 + part * (line.x2 - line.x1), line.y1 + part * (line.y2 - line.y1), 6, 6) };
   });
 }
 
 function drawHead(svg, line, size) {
   const angle = (Math.atan2(line.y2 - line.y1, line.x2 - line.x1) * 180) / Math.PI;
-  const [x, y] = [(line.x1 + line.x2) / 2, (line.y1 + line.y2) / 2];
+  const [x, y] = [line.x1 + 0.6 * (line.x2 - line.x1), line.y1 + 0.6 * (line.y2 - line.y1)];
   const shape = `M${-size} ${-size}L${size} 0L${-size} ${size}Z`;
   draw(svg, "path", { class: "head", d: shape, transform: `translate(${x} ${y}) rotate(${angle})` });
 }
@@ -230,8 +240,9 @@ function drawBorder(svg, border) {
   }
   draw(group, "line", { class: "border", ...line });
   if (border.carried) {
-    draw(group, "line", { class: "flow", "stroke-width": Math.max(2, (thick * border.carried) / border.offered), ...line });
-    drawHead(group, line, 4 + thick / 4);
+    const full = Math.max(2, (thick * border.carried) / border.offered);
+    draw(group, "line", { class: "flow", "stroke-width": full, ...line });
+    drawHead(group, line, 5 + full / 2);
   }
   if (border.halted) {
     draw(group, "line", { class: "halted", ...line });
@@ -245,8 +256,13 @@ function drawNodes(svg, taken) {
     const group = draw(svg, "g", { class: "node" });
     draw(group, "rect", { x: x - width / 2, y: y - height / 2, width, height, rx: 5 });
     draw(group, "text", { x, y: y + 5 }, zone);
-    taken.push(boxAt(x, y, width + 4, height + 4));
+    taken.push({ weight: 4, ...boxAt(x, y, width + 4, height + 4) });
   }
+}
+
+function drawLabel(svg, border) {
+  const text = border.halted && !border.carried ? "halted" : `${mw(border.carried)} of ${mw(border.offered)}`;
+  return draw(svg, "text", { class: border.halted ? "label stop" : "label" }, text, toldBorder(border));
 }
 
 function drawMap() {
@@ -256,14 +272,13 @@ function drawMap() {
   const thick = new Map(borders.map((border) => [border, drawBorder(svg, border)]));
   const taken = [];
   drawNodes(svg, taken);
-  for (const border of told) {
-    taken.push(...pointsOf(lineBetween(border.start, border.end)));
-  }
-  for (const border of told) {
-    const text = border.halted && !border.carried ? "halted" : `${mw(border.carried)} of ${mw(border.offered)}`;
-    const label = draw(svg, "text", { class: border.halted ? "label stop" : "label" }, text, toldBorder(border));
-    settleLabel(label, lineBetween(border.start, border.end), thick.get(border), taken);
-  }
+  taken.push(...borders.flatMap(pointsOf));
+  const labels = told.map((border) => ({
+    text: drawLabel(svg, border),
+    line: lineBetween(border.start, border.end),
+    thick: thick.get(border),
+  }));
+  settleLabels(labels, taken);
   drawMapTexts(borders);
 }
 
@@ -271,7 +286,8 @@ function drawMapTexts(borders) {
   const carrying = borders.filter((border) => border.carried).length;
   const phase = phaseAt(view.hour);
   byId("quarter-text").textContent =
-    `Hour ${view.hour} is ${phase} here; ${carrying} of ${borders.length} borders carry something in quarter ${view.quarter}.`;
+    `Hour ${view.hour} is ${phase} here. In quarter ${view.quarter} something flows over ${carrying} of ` +
+    `${counted(borders.length, "border")}.`;
   fillTable(
     "borders",
     ["Border", "Flows to", "Flow, MW", "Of it granted, MW", "Offered forward, MW", "Offered back, MW", "Halted"],
@@ -378,7 +394,7 @@ function drawPrices() {
   const svg = sheet("prices", trades.length ? 350 : 10);
   const energy = total(trades.map((trade) => (trade[8] * (trade[3] - trade[2])) / 40));
   byId("trades-text").textContent = trades.length
-    ? `${trades.length} trades, ${energy.toFixed(1)} MWh. Those behind the place in the journal are pale.`
+    ? `${counted(trades.length, "trade")}, ${energy.toFixed(1)} MWh. Those behind the place in the journal are pale.`
     : "Nothing was traded.";
   if (!trades.length) {
     return;
@@ -399,13 +415,14 @@ function drawPrices() {
     "Orders are blue, blocks orange.";
 }
 
-/** The hours in which something was traded. Hour 12 lies between its tick and the next. */
+/** The hours in which something was traded. The name of each stands in the middle of its time. */
 function hourScale(trades) {
   const first = Math.min(...trades.map((trade) => Math.floor(trade[2] / 4)));
   const last = Math.max(...trades.map((trade) => Math.ceil(trade[3] / 4)));
   const at = (quarter) => FRAME.left + ((quarter / 4 - first) / (last - first)) * (FRAME.right - FRAME.left);
   const ticks = Array.from({ length: last - first }, (_, number) => 4 * (first + number));
-  return { at, ticks, told: (quarter) => `h${quarter / 4 + 1}` };
+  const shift = (FRAME.right - FRAME.left) / (last - first) / 2;
+  return { at, ticks, told: (quarter) => `h${quarter / 4 + 1}`, shift };
 }
 
 function drawTrade(svg, trade, x, y, size) {
@@ -502,7 +519,7 @@ function drawRun(svg, zone, run, top, box) {
     cell.addEventListener("click", () => choose({ hour: Math.floor(quarter / 4) + 1, quarter: (quarter % 4) + 1 }));
   }
   const text = draw(
-    svg, "text", { class: "tick", x: x + width / 2, y: top + 16, "text-anchor": "middle", "pointer-events": "none" }, signed(run.net),
+    svg, "text", { class: "value", x: x + width / 2, y: top + 16, "text-anchor": "middle" }, signed(run.net),
   );
   if (text.getComputedTextLength() + 4 > width) {
     text.remove();
@@ -535,7 +552,7 @@ function filterJournal() {
     byId("journal").tBodies[0].rows[at].hidden = !fits;
     shown += fits;
   });
-  byId("journal-text").textContent = `${shown} of ${LAST} entries. A click on one goes to its place.`;
+  byId("journal-text").textContent = `${shown} of ${counted(LAST, "entry", "entries")}. A click on one goes to its place.`;
 }
 
 function markEntry() {
@@ -549,7 +566,7 @@ function tellPlace() {
   byId("place").value = view.place;
   byId("place-text").textContent = number
     ? `After entry ${number} of ${LAST}: ${caller} ${asked} (${kind})`
-    : `Before the first of ${LAST} entries`;
+    : "Before the first entry";
 }
 
 // What is picked
@@ -630,8 +647,9 @@ function begin() {
   byId("day").textContent = DAY;
   document.title = `sidc: ${DAY}`;
   byId("summary").textContent =
-    `${HOURS} hours, ${DATA.zones.length} zones, ${DATA.borders.length} borders, ${DATA.callers.length} callers; ` +
-    `${LAST} entries, ${refused} of them refused; ${DATA.trades.length} trades.`;
+    `${HOURS} hours, ${counted(DATA.zones.length, "zone")}, ${counted(DATA.borders.length, "border")}, ` +
+    `${counted(DATA.callers.length, "caller")}; ${counted(LAST, "entry", "entries")}, ${refused} of them refused; ` +
+    `${counted(DATA.trades.length, "trade")}.`;
   byId("map-legend").textContent =
     "Numbers are MW: what flows, of what is offered in that direction. The pale band is the wider, the more is offered; the share " +
     "of it that is full green is the share that flows. A thin line: a border without an offer. Dashed red: a halted one.";

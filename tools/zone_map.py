@@ -1,14 +1,13 @@
 """Where the zones of a session stand on a map, without any randomness.
 
 Where all zones are zones of Europe's coupled market by their public names, they stand roughly where they lie; otherwise
-they stand round an ellipse, in the order of their declaration.
+they stand in the order of their declaration: a few round an ellipse, many in rows, to and fro.
 """
 import math
 
 WIDTH = 1100
-HEIGHT = 1060
-SMALL_HEIGHT = 620
 BOX_HEIGHT = 24
+ROUND_MOST = 16
 
 # Rough places of bidding zones, drawn apart so that what stands at their borders can be read.
 PLACES = {
@@ -24,14 +23,14 @@ PLACES = {
     "EE": (970, 245),
     "LV": (980, 340),
     "LT": (940, 435),
-    "DK1": (370, 385),
-    "DK2": (530, 425),
+    "DK1": (415, 355),
+    "DK2": (550, 430),
     "SE4": (680, 385),
-    "NL": (250, 500),
+    "NL": (230, 520),
     "DE-LU": (480, 545),
     "DE": (480, 545),
     "PL": (790, 530),
-    "BE": (160, 595),
+    "BE": (140, 620),
     "CZ": (650, 620),
     "SK": (830, 640),
     "FR": (180, 725),
@@ -59,45 +58,47 @@ def box_width(name: str) -> int:
     return max(40, 9 * len(name) + 14)
 
 
-def on_the_map(zones: list[str]) -> list[tuple[int, int]]:
-    return [PLACES[zone] for zone in zones]
-
-
-def spread(places: list[tuple[int, int]]) -> list[tuple[int, int]]:
-    """The same places, moved and stretched so that they fill the map."""
+def spread(zones: list[str], height: int) -> list[tuple[int, int]]:
+    """The zones' places, moved and stretched so that they fill the map."""
+    places = [PLACES[zone] for zone in zones]
     left, right = min(x for x, _ in places), max(x for x, _ in places)
     top, bottom = min(y for _, y in places), max(y for _, y in places)
-    scale = min(
-        (WIDTH - 200) / max(1, right - left),
-        (SMALL_HEIGHT - 120) / max(1, bottom - top),
-    )
-    middle = ((left + right) / 2, (top + bottom) / 2)
+    scale = min((WIDTH - 150) / max(1, right - left), (height - 80) / max(1, bottom - top))
     return [
-        (round(WIDTH / 2 + scale * (x - middle[0])), round(SMALL_HEIGHT / 2 + scale * (y - middle[1]))) for x, y in places
+        (
+            round(WIDTH / 2 + scale * (x - (left + right) / 2)),
+            round(height / 2 + scale * (y - (top + bottom) / 2)),
+        )
+        for x, y in places
     ]
 
 
-def round_an_ellipse(zones: list[str]) -> list[tuple[int, int]]:
-    """Where boxes would touch, every second or third of them stands further in."""
+def round_an_ellipse(zones: list[str], height: int) -> list[tuple[int, int]]:
+    """The first zone stands at the left, and the others clockwise."""
+    across = WIDTH / 2 - max(box_width(zone) for zone in zones) / 2 - 10
+    down = height / 2 - 40
+    angles = [math.pi + 2 * math.pi * number / len(zones) for number in range(len(zones))]
+    return [(round(WIDTH / 2 + across * math.cos(at)), round(height / 2 + down * math.sin(at))) for at in angles]
+
+
+def in_rows(zones: list[str]) -> tuple[list[tuple[int, int]], int]:
+    """Every second box of a row stands lower, so that a line between two others does not pass behind it."""
     widest = max(box_width(zone) for zone in zones)
-    across, down = WIDTH / 2 - widest / 2 - 10, HEIGHT / 2 - 30 if len(zones) > 12 else SMALL_HEIGHT / 2 - 60
-    step = 2 * math.pi * min(across, down) / len(zones)
-    rings = max(1, math.ceil((widest + 10) / step)) if len(zones) > 2 else 1
-    height = HEIGHT if len(zones) > 12 else SMALL_HEIGHT
+    columns = WIDTH // (widest + 40)
     places = []
     for number in range(len(zones)):
-        angle = math.pi + 2 * math.pi * number / len(zones)
-        inward = 1 - 0.13 * (number % rings)
-        places.append(
-            (round(WIDTH / 2 + inward * across * math.cos(angle)), round(height / 2 + inward * down * math.sin(angle)))
-        )
-    return places
+        row, at = divmod(number, columns)
+        column = at if row % 2 == 0 else columns - 1 - at
+        places.append((round((column + 0.5) * WIDTH / columns), 40 + 110 * row + 40 * (column % 2)))
+    return places, places[-1][1] + 80
 
 
 def places_of(zones: list[str]) -> tuple[list[tuple[int, int]], int]:
     """The middle of each zone's box, and the height of the map."""
-    if not all(zone in PLACES for zone in zones) or {"DE", "DE-LU"} <= set(zones):
-        return round_an_ellipse(zones), HEIGHT if len(zones) > 12 else SMALL_HEIGHT
-    if len(zones) > 12:
-        return on_the_map(zones), HEIGHT + 20
-    return spread(on_the_map(zones)), SMALL_HEIGHT
+    height = {1: 100, 2: 240}.get(len(zones), 620)
+    if len({PLACES.get(zone) for zone in zones} - {None}) == len(zones):
+        height = 1080 if len(zones) > ROUND_MOST else height
+        return spread(zones, height), height
+    if len(zones) <= ROUND_MOST:
+        return round_an_ellipse(zones, height), height
+    return in_rows(zones)
