@@ -5,9 +5,8 @@ The journal's events are folded up, entry after entry. Of a border, an order and
 changed, so that the page finds what held at any place of the journal by looking it up, and reckons nothing itself.
 """
 import json
-from collections import defaultdict
 
-from record import Command, Entry, Record, hour_of, hours_in, hundredths, quarter_name, quarters_of, tenths
+from record import BadRecord, Command, Entry, Record, hour_of, hours_in, hundredths, quarters_of, tenths
 from zone_map import BOX_HEIGHT, WIDTH, box_width, places_of
 
 
@@ -100,7 +99,10 @@ class Folded:
         self.bought = {zone: [0] * quarters for zone in session.zones}
         self.touched: dict[str, Order] = {}
         for entry in record.entries:
-            self.add(entry)
+            try:
+                self.add(entry)
+            except (AttributeError, IndexError, KeyError, TypeError, ValueError) as fault:
+                raise BadRecord(f"line {entry.number} of the journal does not follow from those before it") from fault
 
     def add(self, entry: Entry) -> None:
         wanted = asked_orders(entry.command)
@@ -288,23 +290,3 @@ def json_of(data: dict[str, list]) -> str:
         lines = ",\n".join(json.dumps(item, separators=(",", ":")) for item in items)
         lists.append(f"{json.dumps(name)}:[\n{lines}\n]" if lines else f"{json.dumps(name)}:[]")
     return "{\n" + ",\n".join(lists) + "\n}\n"
-
-
-def schedule_of(data: dict[str, list]) -> str:
-    """The schedule that `sidc ship` writes of the same record, from the data alone."""
-    lines = []
-    rows: dict[int, list[str]] = defaultdict(list)
-    for quarter, arc, traded, granted in data["exchanges"]:
-        rows[quarter].append(f"exchange {quarter_name(quarter)} {arc} {megawatts(traded)} {megawatts(granted)}")
-    for quarter, zone, sold, bought in data["positions"]:
-        amounts = " ".join(megawatts(lots) for lots in (sold, bought, sold - bought))
-        rows[quarter].append(f"position {quarter_name(quarter)} {zone} {amounts}")
-    for quarter in sorted(rows):
-        lines += rows[quarter]
-    return "".join(line + "\n" for line in lines)
-
-
-def megawatts(lots: int) -> str:
-    """Lots as a session spells them, in MW with one digit after the point."""
-    sign = "-" if lots < 0 else ""
-    return f"{sign}{abs(lots) // 10}.{abs(lots) % 10}"

@@ -402,7 +402,7 @@ function drawPrices() {
   const prices = trades.map((trade) => trade[9] / 100);
   const [low, high] = [Math.min(...prices), Math.max(...prices)];
   const margin = Math.max(1, (high - low) * 0.1);
-  const y = scale(low - margin, high + margin, FRAME.bottom, FRAME.top, 6);
+  const y = scale(low - margin, high + margin, FRAME.bottom, FRAME.top, 8);
   const x = view.along === "delivery" ? hourScale(trades) : scale(0, LAST, FRAME.left, FRAME.right, 12);
   const xName = view.along === "delivery" ? "Hour of delivery" : "Entry of the journal";
   drawAxes(svg, x, y, xName, "Price, EUR/MWh");
@@ -430,7 +430,7 @@ function drawTrade(svg, trade, x, y, size) {
   const name = `trade${trade[1].includes(" ") ? " block" : ""}${trade[0] > view.place ? " later" : ""}`;
   if (view.along === "delivery") {
     const ends = { x1: x.at(trade[2]) + 1, x2: x.at(trade[3]) - 1, y1: at, y2: at };
-    draw(svg, "line", { class: name, "stroke-width": 3 + 8 * size, ...ends }, "", toldTrade(trade));
+    draw(svg, "line", { class: name, "stroke-width": 3 + 5 * size, ...ends }, "", toldTrade(trade));
   } else {
     draw(svg, "circle", { class: name, cx: x.at(trade[0]), cy: at, r: 3 + 9 * size }, "", toldTrade(trade));
   }

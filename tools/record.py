@@ -83,11 +83,6 @@ def quarters_of(contract: str) -> range:
     return range(first, first + 4)
 
 
-def quarter_name(quarter: int) -> str:
-    """The spelling of a quarter that is counted from 0 through the day."""
-    return f"h{quarter // 4 + 1}q{quarter % 4 + 1}"
-
-
 def last_sunday(year: int, month: int) -> date:
     last = date(year, month, 31)
     return last - timedelta(days=(last.weekday() + 1) % 7)
@@ -162,7 +157,7 @@ def read_journal(session: Session, text: str) -> list[Entry]:
     for command in reversed(session.commands):
         waiting[command.caller].append(command)
     entries = []
-    for number, line in enumerate(text.splitlines(), 1):
+    for number, line in enumerate(text.removesuffix("\n").split("\n") if text else [], 1):
         told = json.loads(line)
         if not waiting.get(told["caller"]):
             raise BadRecord(f"line {number} of the journal answers no command")
@@ -180,5 +175,5 @@ def read_record(text: str) -> Record:
     try:
         session = read_session("\n".join(lines[:border]))
         return Record(session, read_journal(session, "\n".join(lines[border + 1 :])))
-    except (ValueError, KeyError, IndexError) as fault:
+    except (ValueError, KeyError, IndexError, TypeError) as fault:
         raise BadRecord(f"a line is not of its form ({fault})") from fault
