@@ -168,26 +168,28 @@ function* spots(line, width, height, thick) {
 }
 
 /** Where a label can stand, each place with how much of what is there already it would hide. */
-function* settlings(label, line, thick, taken) {
-  const [width, height] = [label.getComputedTextLength() + 6, 16];
-  for (const [x, y] of spots(line, width, height, thick)) {
+function settlings({ text, line, thick }, taken) {
+  const [width, height] = [text.getComputedTextLength() + 6, 16];
+  return [...spots(line, width, height, thick)].map(([x, y]) => {
     const box = boxAt(x, y, width, height);
     const isOutside = box.left < 0 || box.right > DATA.map[0] || box.top < 0 || box.bottom > DATA.map[1];
-    yield { x, y, box, hidden: (isOutside ? 1e6 : 0) + total(taken.map((thing) => hides(box, thing))) };
-  }
+    return { x, y, box, hidden: (isOutside ? 1e6 : 0) + total(taken.map((thing) => hides(box, thing))) };
+  });
 }
 
 /** Moves each label to where it hides least, those with the fewest free places first. */
 function settleLabels(labels, taken) {
   for (const label of labels) {
-    label.free = [...settlings(label.text, label.line, label.thick, taken)].filter((spot) => spot.hidden === 0).length;
+    label.settlings = settlings(label, taken);
   }
-  for (const { text, line, thick } of labels.sort((one, other) => one.free - other.free)) {
-    const all = [...settlings(text, line, thick, taken)];
-    const best = all.reduce((least, next) => (next.hidden < least.hidden ? next : least));
-    text.setAttribute("x", best.x);
-    text.setAttribute("y", best.y + 4);
-    taken.push({ weight: 4, ...best.box });
+  const free = (label) => label.settlings.filter((place) => place.hidden === 0).length;
+  const settled = [];
+  for (const label of labels.sort((one, other) => free(one) - free(other))) {
+    const cost = (place) => place.hidden + total(settled.map((thing) => hides(place.box, thing)));
+    const best = label.settlings.reduce((least, next) => (cost(next) < cost(least) ? next : least));
+    label.text.setAttribute("x", best.x);
+    label.text.setAttribute("y", best.y + 4);
+    settled.push({ weight: 4, ...best.box });
   }
 }
 
@@ -349,10 +351,10 @@ function drawSteps(svg, side, steps, x, y) {
 
 function drawBook() {
   const orders = bookAt();
-  const place = view.zone ? `in ${view.zone}` : "in all zones";
+  const place = view.zone ? ` in ${view.zone}` : "";
   byId("book-text").textContent = orders.length
-    ? `${orders.length} open after entry ${view.place} ${place}. Orders of different zones trade where capacity lets them.`
-    : `Nothing of ${view.contract} is open after entry ${view.place} ${place}.`;
+    ? `${orders.length} open${place} after entry ${view.place}. Orders of different zones trade where capacity lets them.`
+    : `Nothing of ${view.contract} is open${place} after entry ${view.place}.`;
   drawDepth(orders);
   fillTable(
     "book",
@@ -518,11 +520,9 @@ function drawRun(svg, zone, run, top, box) {
     const cell = draw(svg, "rect", { class: `cell ${side}`, "fill-opacity": strength, ...place }, "", told);
     cell.addEventListener("click", () => choose({ hour: Math.floor(quarter / 4) + 1, quarter: (quarter % 4) + 1 }));
   }
-  const text = draw(
-    svg, "text", { class: "value", x: x + width / 2, y: top + 16, "text-anchor": "middle" }, signed(run.net),
-  );
-  if (text.getComputedTextLength() + 4 > width) {
-    text.remove();
+  const text = signed(run.net);
+  if (8 * text.length <= width) {
+    draw(svg, "text", { class: "value", x: x + width / 2, y: top + 16, "text-anchor": "middle" }, text);
   }
 }
 
@@ -571,18 +571,26 @@ function tellPlace() {
 
 // What is picked
 
-/** Picks anew, and draws what hangs on it. */
+/** What is drawn anew where one of these was picked. */
+const DRAWN = [
+  [tellPlace, ["place"]],
+  [drawMap, ["place", "hour", "quarter"]],
+  [drawBook, ["place", "contract", "zone"]],
+  [drawPrices, ["place", "along"]],
+  [drawPositions, ["hour", "quarter"]],
+  [markEntry, ["place"]],
+];
+
 function choose(picked) {
   Object.assign(view, picked);
   for (const id of ["hour", "quarter", "contract", "zone", "along"]) {
     byId(id).value = view[id];
   }
-  tellPlace();
-  drawMap();
-  drawBook();
-  drawPrices();
-  drawPositions();
-  markEntry();
+  for (const [drawn, picks] of DRAWN) {
+    if (picks.some((pick) => pick in picked)) {
+      drawn();
+    }
+  }
 }
 
 /** The contract with the most open orders at the end, or else with the most orders. */
@@ -650,15 +658,13 @@ function begin() {
     `${HOURS} hours, ${counted(DATA.zones.length, "zone")}, ${counted(DATA.borders.length, "border")}, ` +
     `${counted(DATA.callers.length, "caller")}; ${counted(LAST, "entry", "entries")}, ${refused} of them refused; ` +
     `${counted(DATA.trades.length, "trade")}.`;
-  byId("map-legend").textContent =
-    "Numbers are MW: what flows, of what is offered in that direction. The pale band is the wider, the more is offered; the share " +
-    "of it that is full green is the share that flows. A thin line: a border without an offer. Dashed red: a halted one.";
   fillPicks();
   fillJournal();
   filterJournal();
   listen();
   const quarter = firstQuarter();
-  choose({ hour: Math.floor(quarter / 4) + 1, quarter: (quarter % 4) + 1, contract: firstContract(), ...fromAddress() });
+  const first = { hour: Math.floor(quarter / 4) + 1, quarter: (quarter % 4) + 1, contract: firstContract() };
+  choose({ ...view, ...first, ...fromAddress() });
 }
 
 begin();
