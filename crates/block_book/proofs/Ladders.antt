@@ -1,11 +1,11 @@
 -- What the lines of blocks are, and what becomes of them where a block joins or leaves.
-use Rattle.std.proofs.Common.{◌≡◌, ◌≢◌, ◌∙◌, ℕ, zero, suc, ◌+◌, ◌<◌, ◌==◌, Bool, true, false, cond, List, [], ◌∷◌, ◌++◌, filter, length, set, sum_by, replicate, Contains, Option, Some, None, IsSome, refl, sym, ap, subst, arith, append_assoc, if◌then◌else◌, eq-eqb, eqb-true}
-use Rattle.std.proofs.lemmas.Bool.{le-ltb, lt-ltb, true≢false}
+use Rattle.std.proofs.Common.{◌≡◌, ◌≢◌, ◌∙◌, ℕ, zero, suc, ◌+◌, ◌<◌, nat_eq, Bool, true, false, cond, List, [], ◌∷◌, ◌++◌, filter, length, set, sum_by, replicate, Contains, Option, Some, None, IsSome, refl, sym, ap, subst, arith, append_assoc, if◌then◌else◌, eq-eqb, eqb-true}
+use Rattle.std.proofs.lemmas.Bool.{le-ltb, lt-ltb, ne_eqb, true≢false}
 use Rattle.std.proofs.lemmas.List.{get_or-set_same, get_or-set_other, length-set, length-replicate, set-get_or}
 use Rattle.std.proofs.lemmas.List.Elements.{filter-append}
 use Rattle.std.proofs.lemmas.Nat.{mod_below}
 use Rattle.std.specs.List.{cons_option}
-use Rattle.std.specs.Option.{ForSome, IfSome}
+use Rattle.std.specs.Option.{ForSome, IfSome, option_eq}
 use Rattle.std.specs.Ordering.{is_lt}
 use Rattle.order_kinds.specs.declared.side.Side.{Side}
 use Rattle.order_kinds.specs.declared.side.Side.TheVariants.{Buy, Sell}
@@ -31,7 +31,7 @@ use Rattle.block_book.specs.declared.line_key.Grain.{Grain}
 use Rattle.block_book.specs.declared.line_key.LineKey.{LineKey}
 use Rattle.block_book.specs.Blocks.{block_cmp, number_of}
 use Rattle.block_book.specs.Book.{after_in, first_of, is_of}
-use Rattle.block_book.specs.Inside.{Belongs, IsLadder, StandsSomewhere, book_in, has_key, in_half, key_by, key_ring, line_by, places_from, same_lots, side_by, spread}
+use Rattle.block_book.specs.Inside.{Belongs, IsLadder, book_in, first_from, has_key, in_half, key_by, key_ring, line_by, places_from, side_by, spread}
 use Rattle.block_book.specs.Priority.{block_total}
 use Rattle.block_book.proofs.Held.{differ, from_book, in_book, none-held}
 use Rattle.block_book.proofs.Lists.{after-through, and-both, apart, block-ties, differ-filter, from_ordered, in_ordered, is-is_of, is_of-last, is_of-side, one_list, strict-in_order}
@@ -47,46 +47,39 @@ held-again places place block holds =
     set-twice places place None (Some block) ∙ ap (set places place) (sym holds) ∙ set-get_or places place None
 
 -- the block of a place that holds one
-pub held-some : (places : List (Option RestingBlock)) (place : ℕ) → IsSome (held_at places place) → (block : RestingBlock) × (held_at places place ≡ Some block)
+held-some : (places : List (Option RestingBlock)) (place : ℕ) → IsSome (held_at places place) → (block : RestingBlock) × (held_at places place ≡ Some block)
 held-some places place some = go (held_at places place) refl some
   where
     go : (o : Option RestingBlock) → held_at places place ≡ o → IsSome o → (block : RestingBlock) × (held_at places place ≡ Some block)
     go None e none = absurd (cc)
     go (Some block) e _ = (block, e)
 
-pub if-held : (places : List (Option RestingBlock)) (place : ℕ) (P : RestingBlock → Type 0) → ((block : RestingBlock) → held_at places place ≡ Some block → P block) → IfSome (held_at places place) P
-if-held places place P each = go (held_at places place) refl
-  where
-    go : (o : Option RestingBlock) → held_at places place ≡ o → IfSome o P
-    go None e = tt
-    go (Some block) e = each block e
-
 -- a block has a key exactly where it is the block's
-same_lots-is : (a b : Option ℕ) → same_lots a b ≡ true → a ≡ b
-same_lots-is None None e = refl
-same_lots-is None (Some b) e = absurd (true≢false (sym e))
-same_lots-is (Some a) None e = absurd (true≢false (sym e))
-same_lots-is (Some a) (Some b) e = ap Some (eqb-true a b e)
+same_lots : (a b : Option ℕ) → option_eq nat_eq a b ≡ true → a ≡ b
+same_lots None None e = refl
+same_lots None (Some b) e = absurd (true≢false (sym e))
+same_lots (Some a) None e = absurd (true≢false (sym e))
+same_lots (Some a) (Some b) e = ap Some (eqb-true a b e)
 
-same_lots-own : (a : Option ℕ) → same_lots a a ≡ true
-same_lots-own None = refl
-same_lots-own (Some a) = eq-eqb a a refl
+own_lots : (a : Option ℕ) → option_eq nat_eq a a ≡ true
+own_lots None = refl
+own_lots (Some a) = eq-eqb a a refl
 
 module _ (grain : Grain) (key : LineKey) (block : RestingBlock) where
-  pub has_key-is : has_key grain key block ≡ true → key_by grain block ≡ key
+  has_key-is : has_key grain key block ≡ true → key_by grain block ≡ key
   has_key-is e =
-      let both = and-both (same_lots (key_by grain block).quantity key.quantity) (is_of key.last key.side block) e in
+      let both = and-both (option_eq nat_eq (key_by grain block).quantity key.quantity) (is_of key.last key.side block) e in
       let key_of : ℕ → Side → Option ℕ → LineKey = λ last side quantity. record { last = last; side = side; quantity = quantity } in
       ap (λ l. key_of l block.side (key_by grain block).quantity) (is_of-last key.last key.side block both.1)
       ∙ ap (λ s. key_of key.last s (key_by grain block).quantity) (is_of-side key.last key.side block both.1)
-      ∙ ap (key_of key.last key.side) (same_lots-is (key_by grain block).quantity key.quantity both.0)
+      ∙ ap (key_of key.last key.side) (same_lots (key_by grain block).quantity key.quantity both.0)
 
-  pub is-has_key : key_by grain block ≡ key → has_key grain key block ≡ true
+  is-has_key : key_by grain block ≡ key → has_key grain key block ≡ true
   is-has_key e =
       subst (λ k. has_key grain k block ≡ true) e
-      (rw (same_lots-own (key_by grain block).quantity, is-is_of block.last block.side block refl refl) refl)
+      (rw (own_lots (key_by grain block).quantity, is-is_of block.last block.side block refl refl) refl)
 
-  pub has_no-key : key_by grain block ≢ key → has_key grain key block ≡ false
+  has_no-key : key_by grain block ≢ key → has_key grain key block ≡ false
   has_no-key differs = go (has_key grain key block) refl
     where
       go : (b : Bool) → has_key grain key block ≡ b → b ≡ false
@@ -105,7 +98,7 @@ half-low Sell ring low = omega (arith, low)
 spread-low : (last : ℕ) (quantity : Option ℕ) → spread last quantity < 2048
 spread-low last quantity = mod_below _ 2048 (omega arith)
 
-pub ring-side : (key : LineKey) → side_by (key_ring key) ≡ key.side
+ring-side : (key : LineKey) → side_by (key_ring key) ≡ key.side
 ring-side key = half-side key.side (spread key.last key.quantity) (spread-low key.last key.quantity)
 
 -- the places of a ring from one on, and from the next
@@ -115,11 +108,7 @@ module _ (rings : List (List ℕ)) (once : StandOnce rings) (k : ℕ) where
     where
       go : (f : List ℕ) → Misses place f → places_from (Some place) (f ++ place ∷ back) ≡ place ∷ back
       go [] misses = rw (eq-eqb place place refl) refl
-      go (first ∷ f) misses = rw (differs (first == place) refl) (go f misses.1)
-        where
-          differs : (b : Bool) → (first == place) ≡ b → (first == place) ≡ false
-          differs true e = absurd (misses.0 (eqb-true first place e))
-          differs false e = e
+      go (first ∷ f) misses = rw (ne_eqb first place misses.0) (go f misses.1)
 
   module _ (front : List ℕ) (place : ℕ) (back : List ℕ) (stands : StandsBetween rings k front place back) where
     after-it : (next : ℕ) (rest : List ℕ) → back ≡ next ∷ rest → StandsBetween rings k (front ++ place ∷ []) next rest
@@ -147,9 +136,6 @@ from-first [] = refl
 from-first (place ∷ ring) = rw (eq-eqb place place refl) refl
 
 module _ (places : List (Option RestingBlock)) (ladder : Ladder) (sound : IsLadder places ladder) where
-  pub stands-somewhere : (place : ℕ) → IsSome (held_at places place) → StandsSomewhere ladder.rings place
-  stands-somewhere place some = let held = held-some places place some in sound.are.stands place held.0 held.1
-
   -- a block stands in the ring of its key
   own_ring : (place : ℕ) (block : RestingBlock) → held_at places place ≡ Some block → StandsIn ladder.rings (key_ring (key_by ladder.grain block)) place
   own_ring place block holds =
@@ -158,69 +144,44 @@ module _ (places : List (Option RestingBlock)) (ladder : Ladder) (sound : IsLadd
       let same : own.0 ≡ block = (let a = own.1 in cc) in
       subst (λ r. StandsIn ladder.rings r place) (sym own.2 ∙ ap (λ b. key_ring (key_by ladder.grain b)) same) there.1
 
-  pub ring-within : (key : LineKey) → key_ring key < length ladder.rings
+  ring-within : (key : LineKey) → key_ring key < length ladder.rings
   ring-within key = omega (arith, half-low key.side (spread key.last key.quantity) (spread-low key.last key.quantity), sound.many)
 
   pub ring-live : (ring place : ℕ) → StandsIn ladder.rings ring place → IsSome (held_at places place)
   ring-live ring place stands = subst IsSome (sym (sound.are.live ring place stands).1) refl
 
   -- of the blocks of its ring those of a key are the line of the key
-  pub line-is : AreKeyed number_of places → (key : LineKey) → filter (has_key ladder.grain key) (records_of places (line_at ladder.rings (key_ring key))) ≡ line_by ladder.grain (book_in places) key
+  line-is : AreKeyed number_of places → (key : LineKey) → filter (has_key ladder.grain key) (records_of places (line_at ladder.rings (key_ring key))) ≡ line_by ladder.grain (book_in places) key
   line-is keyed key =
-      one_list (block_cmp key.side) (block_total key.side) (block-ties key.side)
-      (filter (has_key ladder.grain key) (records_of places (line_at ladder.rings (key_ring key)))) (line_by ladder.grain (book_in places) key)
-      (in_order-filter (block_cmp key.side) (has_key ladder.grain key) (records_of places (line_at ladder.rings (key_ring key)))
-      (subst (λ s. IsStrictlyInOrder (block_cmp s) (records_of places (line_at ladder.rings (key_ring key)))) (ring-side key) (sound.are.sorted (key_ring key) (ring-within key))))
-      (strict-in_order (block_cmp key.side) (block_total key.side) (block-ties key.side) (filter (has_key ladder.grain key) (book_in places)) (differ-filter (has_key ladder.grain key) (book_in places) (differ places keyed)))
+      let p = has_key ladder.grain key in
+      let records = records_of places (line_at ladder.rings (key_ring key)) in
+      one_list (block_cmp key.side) (block_total key.side) (block-ties key.side) (filter p records) (line_by ladder.grain (book_in places) key)
+      (in_order-filter (block_cmp key.side) p records (subst (λ s. IsStrictlyInOrder (block_cmp s) records) (ring-side key) (sound.are.sorted (key_ring key) (ring-within key))))
+      (strict-in_order (block_cmp key.side) (block_total key.side) (block-ties key.side) (filter p (book_in places)) (differ-filter p (book_in places) (differ places keyed)))
       (λ block i.
-      let there = from_filter (has_key ladder.grain key) block (records_of places (line_at ladder.rings (key_ring key))) i in
+      let there = from_filter p block records i in
       let at = from_records places block (line_at ladder.rings (key_ring key)) there.0 in
-      in_ordered (block_cmp key.side) block (filter (has_key ladder.grain key) (book_in places))
-      (IsIn-filter (has_key ladder.grain key) block (book_in places) (in_book places at.0 block at.2) there.1))
+      in_ordered (block_cmp key.side) block (filter p (book_in places)) (IsIn-filter p block (book_in places) (in_book places at.0 block at.2) there.1))
       (λ block i.
-      let there = from_filter (has_key ladder.grain key) block (book_in places) (from_ordered (block_cmp key.side) block (filter (has_key ladder.grain key) (book_in places)) i) in
+      let there = from_filter p block (book_in places) (from_ordered (block_cmp key.side) block (filter p (book_in places)) i) in
       let at = from_book places block there.0 in
       let stands = subst (λ k. StandsIn ladder.rings (key_ring k) at.0) (has_key-is ladder.grain key block there.1) (own_ring at.0 block at.1) in
-      IsIn-filter (has_key ladder.grain key) block (records_of places (line_at ladder.rings (key_ring key)))
-      (in_records places block at.0 (line_at ladder.rings (key_ring key)) stands.1 at.1) there.1)
+      IsIn-filter p block records (in_records places block at.0 (line_at ladder.rings (key_ring key)) stands.1 at.1) there.1)
 
   -- the first of a line is met from the ring's first place on
   module _ (key : LineKey) (from : Option ℕ) (is : from ≡ first_in (line_at ladder.rings (key_ring key))) where
     pub first-stands : ForSome from (StandsIn ladder.rings (key_ring key))
     first-stands = λ place some. first_stands ladder.rings (key_ring key) place (ring-within key) (sym is ∙ some)
 
-    pub first-met : AreKeyed number_of places → first_of (filter (has_key ladder.grain key) (records_of places (places_from from (line_at ladder.rings (key_ring key))))) ≡ first_of (line_by ladder.grain (book_in places) key)
+    pub first-met : AreKeyed number_of places → first_from ladder places key from ≡ first_of (line_by ladder.grain (book_in places) key)
     first-met keyed =
         let ring = line_at ladder.rings (key_ring key) in
-        ap (λ l. first_of (filter (has_key ladder.grain key) (records_of places l))) (ap (λ o. places_from o ring) is ∙ from-first ring)
-        ∙ ap first_of (line-is keyed key)
+        ap (λ l. first_of (filter (has_key ladder.grain key) (records_of places l))) (ap (λ o. places_from o ring) is ∙ from-first ring) ∙ ap first_of (line-is keyed key)
 
-  -- a walk along a ring
-  module _ (key : LineKey) (at : Option ℕ) (place : ℕ) (is : at ≡ Some place) (stands : ForSome at (StandsIn ladder.rings (key_ring key))) where
-    pub walk-stands : StandsIn ladder.rings (key_ring key) place
-    walk-stands = stands place is
-
+  -- a walk along a ring is at a place, and goes on to the next
+  module _ (key : LineKey) (place : ℕ) (stands : StandsIn ladder.rings (key_ring key) place) where
     cut : (front : List ℕ) × (back : List ℕ) × StandsBetween ladder.rings (key_ring key) front place back
-    cut = between_in ladder.rings (key_ring key) place walk-stands
-
-    here-on : places_from at (line_at ladder.rings (key_ring key)) ≡ place ∷ cut.1
-    here-on = ap (λ o. places_from o (line_at ladder.rings (key_ring key))) is ∙ from-between ladder.rings sound.are.rings.once (key_ring key) cut.0 place cut.1 cut.2
-
-    met : (block : RestingBlock) → held_at places place ≡ Some block → (b : Bool) → has_key ladder.grain key block ≡ b
-        → first_of (filter (has_key ladder.grain key) (records_of places (places_from at (line_at ladder.rings (key_ring key)))))
-        ≡ (if b then Some block else first_of (filter (has_key ladder.grain key) (records_of places cut.1)))
-    met block holds b e =
-        ap (λ l. first_of (filter (has_key ladder.grain key) (records_of places l))) here-on
-        ∙ ap (λ o. first_of (filter (has_key ladder.grain key) (cons_option o (records_of places cut.1)))) holds
-        ∙ go b e
-      where
-        go : (b : Bool) → has_key ladder.grain key block ≡ b → first_of (filter (has_key ladder.grain key) (block ∷ records_of places cut.1)) ≡ (if b then Some block else first_of (filter (has_key ladder.grain key) (records_of places cut.1)))
-        go true e = rw e refl
-        go false e = rw e refl
-
-    pub walk-found : (block : RestingBlock) → held_at places place ≡ Some block → key_by ladder.grain block ≡ key
-        → first_of (filter (has_key ladder.grain key) (records_of places (places_from at (line_at ladder.rings (key_ring key))))) ≡ Some block
-    walk-found block holds same = met block holds true (is-has_key ladder.grain key block same)
+    cut = between_in ladder.rings (key_ring key) place stands
 
     module _ (next : Option ℕ) (next_is : IsNext ladder.rings place next) where
       on : places_from next (line_at ladder.rings (key_ring key)) ≡ cut.1
@@ -229,39 +190,60 @@ module _ (places : List (Option RestingBlock)) (ladder : Ladder) (sound : IsLadd
       pub walk-next : ForSome next (StandsIn ladder.rings (key_ring key))
       walk-next = next-stands ladder.rings sound.are.rings.once (key_ring key) cut.0 place cut.1 cut.2 next (next_is (key_ring key) cut.0 cut.1 cut.2)
 
-      pub walk-less : length (places_from next (line_at ladder.rings (key_ring key))) < length (places_from at (line_at ladder.rings (key_ring key)))
-      walk-less = omega (arith, ap length on, ap length here-on)
+    module _ (at : Option ℕ) (is : at ≡ Some place) where
+      here : places_from at (line_at ladder.rings (key_ring key)) ≡ place ∷ cut.1
+      here = ap (λ o. places_from o (line_at ladder.rings (key_ring key))) is ∙ from-between ladder.rings sound.are.rings.once (key_ring key) cut.0 place cut.1 cut.2
 
-      pub walk-passed : (block : RestingBlock) → held_at places place ≡ Some block → key_by ladder.grain block ≢ key
-          → first_of (filter (has_key ladder.grain key) (records_of places (places_from at (line_at ladder.rings (key_ring key)))))
-          ≡ first_of (filter (has_key ladder.grain key) (records_of places (places_from next (line_at ladder.rings (key_ring key)))))
-      walk-passed block holds differs =
-          met block holds false (has_no-key ladder.grain key block differs)
-          ∙ ap (λ l. first_of (filter (has_key ladder.grain key) (records_of places l))) (sym on)
+      met : (block : RestingBlock) → held_at places place ≡ Some block → (b : Bool) → has_key ladder.grain key block ≡ b
+          → first_from ladder places key at ≡ (if b then Some block else first_of (filter (has_key ladder.grain key) (records_of places cut.1)))
+      met block holds b e =
+          ap (λ l. first_of (filter (has_key ladder.grain key) (records_of places l))) here
+          ∙ ap (λ o. first_of (filter (has_key ladder.grain key) (cons_option o (records_of places cut.1)))) holds
+          ∙ go b e
+        where
+          go : (b : Bool) → has_key ladder.grain key block ≡ b
+              → first_of (filter (has_key ladder.grain key) (block ∷ records_of places cut.1)) ≡ (if b then Some block else first_of (filter (has_key ladder.grain key) (records_of places cut.1)))
+          go true e = rw e refl
+          go false e = rw e refl
+
+      pub walk-found : (block : RestingBlock) → held_at places place ≡ Some block → key_by ladder.grain block ≡ key → first_from ladder places key at ≡ Some block
+      walk-found block holds same = met block holds true (is-has_key ladder.grain key block same)
+
+      module _ (next : Option ℕ) (next_is : IsNext ladder.rings place next) where
+        pub walk-less : length (places_from next (line_at ladder.rings (key_ring key))) < length (places_from at (line_at ladder.rings (key_ring key)))
+        walk-less = omega (arith, ap length (on next next_is), ap length here)
+
+        pub walk-passed : (block : RestingBlock) → held_at places place ≡ Some block → key_by ladder.grain block ≢ key → first_from ladder places key at ≡ first_from ladder places key next
+        walk-passed block holds differs =
+            met block holds false (has_no-key ladder.grain key block differs)
+            ∙ ap (λ l. first_of (filter (has_key ladder.grain key) (records_of places l))) (sym (on next next_is))
 
   -- what stands behind a block in its line
-  module _ (keyed : AreKeyed number_of places) (place : ℕ) (block : RestingBlock) (holds : held_at places place ≡ Some block) (next : Option ℕ) (next_is : IsNext ladder.rings place next) where
-    pub behind-stands : ForSome next (StandsIn ladder.rings (key_ring (key_by ladder.grain block)))
-    behind-stands = walk-next (key_by ladder.grain block) (Some place) place refl (λ at same. subst (StandsIn ladder.rings (key_ring (key_by ladder.grain block))) (let e : place ≡ at = cc in e) (own_ring place block holds)) next next_is
+  module _ (place : ℕ) (block : RestingBlock) (holds : held_at places place ≡ Some block) (key : LineKey) (is : key ≡ key_by ladder.grain block) (next : Option ℕ) (next_is : IsNext ladder.rings place next) where
+    here_stands : StandsIn ladder.rings (key_ring key) place
+    here_stands = subst (λ k. StandsIn ladder.rings (key_ring k) place) (sym is) (own_ring place block holds)
 
-    pub behind-met : first_of (filter (has_key ladder.grain (key_by ladder.grain block)) (records_of places (places_from next (line_at ladder.rings (key_ring (key_by ladder.grain block))))))
-        ≡ after_in block.number (line_by ladder.grain (book_in places) (key_by ladder.grain block))
-    behind-met =
-        let key = key_by ladder.grain block in
+    pub behind-stands : ForSome next (StandsIn ladder.rings (key_ring key))
+    behind-stands = walk-next key place here_stands next next_is
+
+    behind-line : AreKeyed number_of places → after_in block.number (line_by ladder.grain (book_in places) key) ≡ first_from ladder places key next
+    behind-line keyed =
         let p = has_key ladder.grain key in
-        let parts = between_in ladder.rings (key_ring key) place (own_ring place block holds) in
-        let on_from = from-next ladder.rings sound.are.rings.once (key_ring key) parts.0 place parts.1 parts.2 next (next_is (key_ring key) parts.0 parts.1 parts.2) in
+        let parts = cut key place here_stands in
         let through : records_of places (line_at ladder.rings (key_ring key)) ≡ records_of places parts.0 ++ block ∷ records_of places parts.1 =
         line-through block_cmp side_by (Belongs ladder.grain) places ladder.rings sound.are (key_ring key) place block holds parts.0 parts.1 parts.2 in
-        let own : p block ≡ true = is-has_key ladder.grain key block refl in
         let line : line_by ladder.grain (book_in places) key ≡ filter p (records_of places parts.0) ++ block ∷ filter p (records_of places parts.1) =
         sym (line-is keyed key) ∙ ap (filter p) through ∙ filter-append p (records_of places parts.0) (block ∷ records_of places parts.1)
-        ∙ ap (λ b. filter p (records_of places parts.0) ++ cond b (block ∷ filter p (records_of places parts.1)) (filter p (records_of places parts.1))) own in
-        ap (λ l. first_of (filter p (records_of places l))) on_from
-        ∙ sym (ap (after_in block.number) line ∙ after-through (filter p (records_of places parts.0)) (filter p (records_of places parts.1)) block (λ y i. λ same.
+        ∙ ap (λ b. filter p (records_of places parts.0) ++ cond b (block ∷ filter p (records_of places parts.1)) (filter p (records_of places parts.1))) (is-has_key ladder.grain key block (sym is)) in
+        ap (after_in block.number) line
+        ∙ after-through (filter p (records_of places parts.0)) (filter p (records_of places parts.1)) block (λ y i. λ same.
         let at = from_records places y parts.0 (from_filter p y (records_of places parts.0) i).0 in
         let is_here : at.0 ≡ place = keyed.once at.0 place y block at.2 holds same in
-        misses_contains place at.0 parts.0 (once_front ladder.rings sound.are.rings.once (key_ring key) place parts.0 parts.1 parts.2) at.1 is_here))
+        misses_contains place at.0 parts.0 (once_front ladder.rings sound.are.rings.once (key_ring key) place parts.0 parts.1 parts.2) at.1 is_here)
+        ∙ ap (λ l. first_of (filter p (records_of places l))) (sym (on key place here_stands next next_is))
+
+    pub behind-met : AreKeyed number_of places → IfSome (held_at places place) (λ it. first_from ladder places key next ≡ after_in it.number (line_by ladder.grain (book_in places) (key_by ladder.grain it)))
+    behind-met keyed = rw holds (sym (behind-line keyed) ∙ ap (λ k. after_in block.number (line_by ladder.grain (book_in places) k)) is)
 
 -- a block joins its line
 module _ (places : List (Option RestingBlock)) (ladder : Ladder) (place : ℕ) (sound : IsLadder (set places place None) ladder) (keyed : AreKeyed number_of places)
@@ -278,7 +260,7 @@ module _ (places : List (Option RestingBlock)) (ladder : Ladder) (place : ℕ) (
   pub join-room : sum_by length ladder.rings < 4096
   join-room = omega (arith, sound.are.total, held_count-take places place block holds, held_count-most places, keyed.size)
 
-  pub join-low : place < 4096
+  join-low : place < 4096
   join-low = omega (arith, low, keyed.size)
 
   -- what stands in the rings is held besides
@@ -287,7 +269,7 @@ module _ (places : List (Option RestingBlock)) (ladder : Ladder) (place : ℕ) (
       let there = sound.are.live k at stands in
       subst IsSome (sym (sym (get_or-set_other places place at None None (λ same. join-absent k (subst (StandsIn ladder.rings k) same stands))) ∙ there.1)) refl
 
-  pub join-within : k < length ladder.rings
+  join-within : k < length ladder.rings
   join-within = subst (λ r. r < length ladder.rings) (sym is) (ring-within (set places place None) ladder sound (key_by ladder.grain block))
 
   misses : Misses place (line_at ladder.rings k)

@@ -1,6 +1,6 @@
 -- What the calls of a book tell, said of what its callers see.
 use Rattle.std.proofs.Common.{◌≡◌, ◌∙◌, ℕ, ◌<◌, List, filter, length, set, Option, Some, None, IfSome, sym, ap, subst, arith}
-use Rattle.std.proofs.lemmas.List.{get_or-set_same, set-get_or}
+use Rattle.std.proofs.lemmas.List.{set-get_or}
 use Rattle.order_kinds.specs.declared.side.Side.{Side}
 use Rattle.zone_graph.specs.InOrder.{in_order}
 use Rattle.zone_graph.proofs.InOrder.{in_order-filter}
@@ -100,11 +100,8 @@ module _ (places : List (Option RestingBlock)) (keyed : AreKeyed number_of place
         ap (λ g. line_by grain (book_in places) (key_by g holds.0)) is ∙ told-quantity grain is holds.0.last holds.0.quantity holds.0.side in
         rw (told-block place number holds.0 holds.1 holds.2) (after_it ∙ ap (after_in number) line)
 
--- a block comes to a free place, and stands in the lines then
-module _ (places : List (Option RestingBlock)) (place : ℕ) (block : RestingBlock) (free : held_at places place ≡ None) (within : place < 4096) (size : length places ≡ 4096) (new : List (Option RestingBlock)) (put : new ≡ set places place (Some block)) where
-  pub told-held : held_at new place ≡ Some block
-  told-held = ap (λ l. held_at l place) put ∙ get_or-set_same places place (Some block) None (omega (arith, within, size))
-
-  -- taken out again, it leaves the places as they were
-  pub told-less : set new place None ≡ places
-  told-less = ap (λ l. set l place None) put ∙ set-twice places place (Some block) None ∙ ap (set places place) (sym free) ∙ set-get_or places place None
+-- a block that comes to a free place and is taken out again leaves the places as they were
+pub told-less : (places : List (Option RestingBlock)) (place : ℕ) (block : RestingBlock) → held_at places place ≡ None → (new : List (Option RestingBlock)) → new ≡ set places place (Some block)
+    → set new place None ≡ places
+told-less places place block free new put =
+    ap (λ l. set l place None) put ∙ set-twice places place (Some block) None ∙ ap (set places place) (sym free) ∙ set-get_or places place None

@@ -1,18 +1,20 @@
 -- How a book lays out its blocks. No public clause cites this module.
-use Rattle.std.specs.Prelude.{◌≡◌, ℕ, ◌+◌, ◌*◌, ◌%◌, ◌==◌, ◌&&◌, nat_lt, if◌then◌else◌, Bool, true, false, List, [], ◌∷◌, filter, length, Option, Some, None}
+use Rattle.std.specs.Prelude.{◌≡◌, ℕ, ◌+◌, ◌*◌, ◌%◌, ◌==◌, ◌&&◌, nat_eq, nat_lt, if◌then◌else◌, Bool, List, [], ◌∷◌, filter, length, Option, Some, None}
+use Rattle.std.specs.Option.{option_eq, unwrap_or}
 use Rattle.order_kinds.specs.declared.side.Side.{Side}
 use Rattle.order_kinds.specs.declared.side.Side.TheVariants.{Buy, Sell}
-use Rattle.order_pool.specs.Lines.{StandsIn}
+use Rattle.order_pool.specs.Lines.{line_at}
 use Rattle.zone_graph.specs.InOrder.{in_order}
 use Rattle.record_pool.specs.Keyed.{held, AreKeyed}
 use Rattle.record_pool.specs.Lines.{AreLines}
+use Rattle.record_pool.specs.Ranked.{records_of}
 use Rattle.block_book.specs.declared.block.RestingBlock.{RestingBlock}
 use Rattle.block_book.specs.declared.ladder.Ladder.{Ladder}
 use Rattle.block_book.specs.declared.line_key.Grain.{Grain}
 use Rattle.block_book.specs.declared.line_key.Grain.TheVariants as grains
 use Rattle.block_book.specs.declared.line_key.LineKey.{LineKey}
 use Rattle.block_book.specs.Blocks.{block_cmp, number_cmp, number_of}
-use Rattle.block_book.specs.Book.{is_of}
+use Rattle.block_book.specs.Book.{first_of, is_of}
 
 -- the blocks that places hold, by ascending number
 abbrev pub book_in : List (Option RestingBlock) → List RestingBlock
@@ -26,16 +28,9 @@ key_by grain block = record { last = block.last; side = block.side; quantity = l
     lots grains.Period = None
     lots grains.Quantity = Some block.quantity
 
--- the quantities are the same, or none is given
-abbrev pub same_lots : Option ℕ → Option ℕ → Bool
-same_lots None None = true
-same_lots None (Some other) = false
-same_lots (Some one) None = false
-same_lots (Some one) (Some other) = one == other
-
 -- a block is in the line of this key
 abbrev pub has_key : Grain → LineKey → RestingBlock → Bool
-has_key grain key block = same_lots (key_by grain block).quantity key.quantity && is_of key.last key.side block
+has_key grain key block = option_eq nat_eq (key_by grain block).quantity key.quantity && is_of key.last key.side block
 
 -- the line of a key: its blocks, in priority
 abbrev pub line_by : Grain → List RestingBlock → LineKey → List RestingBlock
@@ -43,11 +38,7 @@ line_by grain book key = in_order (block_cmp key.side) (filter (has_key grain ke
 
 -- periods and quantities, spread over the rings of a side
 abbrev pub spread : (last : ℕ) → Option ℕ → ℕ
-spread last quantity = (last % 2048 * 83 + lots quantity % 2039) % 2048
-  where
-    lots : Option ℕ → ℕ
-    lots None = 0
-    lots (Some quantity) = quantity
+spread last quantity = (last % 2048 * 83 + unwrap_or quantity 0 % 2039) % 2048
 
 -- the buyers' rings are the first half, and the sellers' the second
 abbrev pub in_half : Side → ℕ → ℕ
@@ -66,15 +57,16 @@ side_by ring = if nat_lt ring 2048 then Buy else Sell
 abbrev pub Belongs : Grain → (ring : ℕ) → RestingBlock → Type 0
 Belongs grain ring block = key_ring (key_by grain block) ≡ ring
 
--- a place stands in one of the rings
-abbrev pub StandsSomewhere : List (List ℕ) → (place : ℕ) → Type 0
-StandsSomewhere rings place = (ring : ℕ) × StandsIn rings ring place
-
 -- the places of a ring from one of them on
 abbrev pub places_from : Option ℕ → List ℕ → List ℕ
 places_from None ring = []
 places_from (Some place) [] = []
 places_from (Some place) (first ∷ rest) = if first == place then first ∷ rest else places_from (Some place) rest
+
+-- the first block of a key from a place of the key's ring on
+abbrev pub first_from : Ladder → List (Option RestingBlock) → LineKey → (from : Option ℕ) → Option RestingBlock
+first_from ladder places key from =
+    first_of (filter (has_key ladder.grain key) (records_of places (places_from from (line_at ladder.rings (key_ring key)))))
 
 -- the blocks stand in the rings of their keys, each ring in priority
 pub record IsLadder (places : List (Option RestingBlock)) (ladder : Ladder) : Type 0 where

@@ -20,9 +20,9 @@ use zone_graph::NoMemory;
 /// same side besides. No call but [`BlockBook::new`] and [`BlockBook::copy`] takes memory. The steps
 /// of [`BlockBook::rest`] grow with how far the block's places in its two rings are from the nearer
 /// ends of those rings. The steps of the other calls are independent of how many blocks rest, but
-/// for the blocks of other lines that [`BlockBook::first`], [`BlockBook::after`] and their kin pass
-/// over in one ring: none in the lines of all quantities, as long as no period has 2048 hours or
-/// more, and few in those of one quantity, as periods and quantities spread over 2048 rings a side.
+/// for the blocks of other lines that the calls which answer a line's block pass over in its ring.
+/// For a line of all quantities there are none, as long as no period is longer than 2048 hours. For
+/// one of a quantity they are those whose period and quantity fall to the same of 2048 rings.
 #[derive(Drop)]
 pub struct BlockBook {
     blocks: KeyedPool<RestingBlock>,

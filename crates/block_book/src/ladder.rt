@@ -1,14 +1,13 @@
 //! Lines of blocks, found by what their blocks have in common.
 
-ghost use Rattle.std.specs.Prelude.{◌≡◌, List, Option, filter, replicate, None, IsSome, IfOk, IfSome, slice_set};
+ghost use Rattle.std.specs.Prelude.{◌≡◌, ℕ, List, Option, replicate, None, IsSome, IfOk, IfSome, slice_set};
 ghost use Rattle.std.specs.Option.{ForSome};
-ghost use Rattle.order_pool.specs.Lines.{line_at, StandsIn};
+ghost use Rattle.order_pool.specs.Lines.{StandsIn};
 ghost use Rattle.record_pool.specs.Keyed.{held_at, AreKeyed};
-ghost use Rattle.record_pool.specs.Ranked.{records_of};
 ghost use Rattle.block_book.specs.declared.block.RestingBlock.{RestingBlock as Block};
 ghost use Rattle.block_book.specs.Blocks.{number_of};
 ghost use Rattle.block_book.specs.Book.{after_in, first_of};
-ghost use Rattle.block_book.specs.Inside.{IsLadder, book_in, has_key, key_by, key_ring, line_by, places_from, StandsSomewhere};
+ghost use Rattle.block_book.specs.Inside.{IsLadder, book_in, first_from, key_by, key_ring, line_by};
 
 use crate::block::RestingBlock;
 use crate::line_key::{Grain, LineKey};
@@ -66,7 +65,7 @@ impl Ladder {
 
     /// Takes the block of a place out of its line.
     pub fn leave(&mut self, place: u32)
-        requires { StandsSomewhere self.old.rings place }
+        requires { (ring : ℕ) × StandsIn self.old.rings ring place }
         ensures grain { self.new.grain ≡ self.old.grain }
         ensures sound { (places : List (Option Block)) → IsLadder places self.old → IsSome (held_at places place)
             → IsLadder (slice_set places place None) self.new }
@@ -104,8 +103,7 @@ impl Ladder {
     ) -> Option<RestingBlock>
         requires sound { IsLadder blocks.now self.now }
         requires from { ForSome from (λ place. StandsIn self.now.rings (key_ring key) place) }
-        ensures { result ≡ first_of (filter (has_key self.now.grain key)
-            (records_of blocks.now (places_from from (line_at self.now.rings (key_ring key))))) }
+        ensures { result ≡ first_from self.now blocks.now key from }
     {
         let mut at = from;
         while let Some(place) = at {

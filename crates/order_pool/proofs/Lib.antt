@@ -11,6 +11,6 @@ pub mod RingLemmas
 pub mod RingCalls
 pub mod MoveLemmas
 pub mod PoolLemmas
-pub mod FillLemmas
+pub mod FreshPool
 pub mod PoolCalls
 pub mod PoolStates

@@ -5,6 +5,10 @@
 //! or at its end. [`Rings`] are lines of such places alone, without items, for a second order of
 //! the places of a pool. All memory is taken when a pool or its rings are made or copied, and no
 //! other call depends on how many places are live.
+//!
+//! A pool's places, and the links between them, lie in blocks of raw memory, each taken at once. None
+//! of it is written before it is used, so that opening a pool takes the same few steps whatever its
+//! size, and a copy copies what was used.
 #![tactic(auto)]
 
 mod cells;

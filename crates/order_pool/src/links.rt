@@ -1,6 +1,6 @@
 //! The links of places and of marks, stored from the first on as far as they were ever set.
 
-ghost use Rattle.std.specs.Prelude.{◌≡◌, ℕ, ◌+◌, ◌<◌, ◌≤◌, ◌^◌, List, length, slice_index, slice_set, IfOk};
+ghost use Rattle.std.specs.Prelude.{◌≡◌, ℕ, ◌+◌, ◌<◌, ◌≤◌, ◌^◌, length, slice_index, slice_set, IfOk};
 ghost use Rattle.order_pool.specs.Rows.{padded};
 
 use crate::faults::NoMemory;

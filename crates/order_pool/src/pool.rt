@@ -1,9 +1,9 @@
 //! The pool: items in places, and the places in lines.
 
-ghost use Rattle.std.specs.Prelude.{◌≡◌, ◌≢◌, ℕ, ◌+◌, ◌<◌, ◌≤◌, ◌↔◌, List, [], ◌∷◌, length, replicate, Some, None, IsErr, IsTrue, IfOk, OnErr, slice_set};
+ghost use Rattle.std.specs.Prelude.{◌≡◌, ℕ, ◌+◌, ◌<◌, ◌≤◌, ◌↔◌, [], ◌∷◌, length, replicate, Some, None, IsErr, IfOk, OnErr, slice_set};
 ghost use Rattle.std.specs.Option.{ForSome};
 ghost use Rattle.std.specs.Borrow.{sem};
-ghost use Rattle.order_pool.specs.Lines.{line_at, first_in, last_in, StandsIn, IsRemoved, IsInserted, IsNext, IsPrevious, IsMoved};
+ghost use Rattle.order_pool.specs.Lines.{line_at, first_in, last_in, StandsIn, IsRemoved, IsInserted, IsNext, IsPrevious};
 ghost use Rattle.order_pool.specs.Pool.{item_at, IsLive, live_count, IsSound};
 
 use crate::faults::{Full, NoMemory};
@@ -22,6 +22,9 @@ pub const MOST_LINES: u32 = 65536;
 /// then. Each live place stands in one line. Lines are numbered from 0, and each is in the order
 /// that its insertions made. No call but [`Pool::new`], [`Pool::with_lines`] and [`Pool::copy`]
 /// takes memory, and the time of every other call is independent of how many places are live.
+///
+/// Making a pool writes none of its places and none of its lines: a place is written when it first
+/// gets an item, and the marks of lines when one of them, or one behind it, is first used.
 #[derive(Drop)]
 pub struct Pool<T> {
     slots: Region<Slot<T>>,
@@ -142,6 +145,7 @@ impl<T: Copy> Pool<T> {
         ensures line_count { length self.new.lines ≡ length self.old.lines }
         ensures sound { IsSound self.new }
     {
+        // A place that was given back goes first, then one that was never used.
         if let Some(place) = self.rings.first(FREE) {
             self.slots.set(place, Slot::Held(item));
             self.rings.shift(place, line + 1, before);

@@ -1,8 +1,8 @@
 //! Rings of places, linked through one region of fixed size.
 
-ghost use Rattle.std.specs.Prelude.{◌≡◌, ◌≢◌, ℕ, ◌+◌, ◌<◌, ◌≤◌, ◌^◌, List, [], length, sum_by, slice_index, replicate, IfOk, Some, None, vec_len, nat_lt, if◌then◌else◌};
+ghost use Rattle.std.specs.Prelude.{◌≡◌, ◌≢◌, ℕ, ◌+◌, ◌<◌, ◌^◌, List, [], length, sum_by, replicate, IfOk, Some, None, nat_lt, if◌then◌else◌};
 ghost use Rattle.std.specs.Option.{ForSome};
-ghost use Rattle.order_pool.specs.Lines.{line_at, first_in, last_in, StandsIn, StandsBetween, IsRemoved, IsInserted, IsNext, IsPrevious, IsMoved};
+ghost use Rattle.order_pool.specs.Lines.{line_at, first_in, last_in, StandsIn, IsRemoved, IsInserted, IsNext, IsPrevious, IsMoved};
 ghost use Rattle.order_pool.specs.Rings.{AreRings};
 
 use crate::faults::NoMemory;
@@ -20,6 +20,7 @@ pub const FREE: u32 = 0;
 ///
 /// Two links lead from each place, to the place behind it and to the place ahead of it, and as many
 /// from each ring's mark, which closes it: the mark of ring `k` has the number `PLACES + k`.
+/// A link is stored when it, or one behind it, is first set; until then it leads to its own number.
 #[derive(Drop)]
 pub struct Rings {
     next: Ends,

@@ -15,11 +15,11 @@ returns-in_default-clause-full c =
 
 pub join-requires-clause-sound : goal.join-requires-clause-sound
 join-requires-clause-sound c =
-    subst (λ l. IsLadder l c.self.inside.by_period) (sym (told-less c.self.inside.blocks c.in-Ok.place c.args.block c.in-Ok.ensures.was_free c.in-Ok.ensures.within c.self.invariant.keyed.size _ c.in-Ok.ensures.put)) c.self.invariant.periods
+    subst (λ l. IsLadder l c.self.inside.by_period) (sym (told-less c.self.inside.blocks c.in-Ok.place c.args.block c.in-Ok.ensures.was_free _ c.in-Ok.ensures.put)) c.self.invariant.periods
 
 pub join-requires-2-clause-sound : goal.join-requires-2-clause-sound
 join-requires-2-clause-sound c =
-    subst (λ l. IsLadder l c.self.inside.by_quantity) (sym (told-less c.self.inside.blocks c.in-Ok.place c.args.block c.in-Ok.ensures.was_free c.in-Ok.ensures.within c.self.invariant.keyed.size _ c.in-Ok.ensures.put)) c.self.invariant.quantities
+    subst (λ l. IsLadder l c.self.inside.by_quantity) (sym (told-less c.self.inside.blocks c.in-Ok.place c.args.block c.in-Ok.ensures.was_free _ c.in-Ok.ensures.put)) c.self.invariant.quantities
 
 pub returns-clause-full : goal.returns-clause-full
 returns-clause-full c =

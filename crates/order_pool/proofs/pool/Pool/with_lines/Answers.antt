@@ -1,7 +1,7 @@
 use Rattle.std.proofs.Common.{length, ap, arith}
 use Rattle.order_pool.specs.Slots.{item_in, places_in}
 use Rattle.order_pool.proofs.FilledLemmas.{filled_past}
-use Rattle.order_pool.proofs.FillLemmas.{no_lines, IsPool-made}
+use Rattle.order_pool.proofs.FreshPool.{no_lines, IsPool-made}
 use Rattle.order_pool.proofs.PoolLemmas.{pool_is_sound}
 use Rattle.order_pool.proofs.pool.Pool.with_lines.Goals as goal
 
