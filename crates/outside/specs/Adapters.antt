@@ -11,6 +11,10 @@ source_reader source = source.reader
 abbrev pub source_faults : {R : Type 0} → ReadSource R → ℕ
 source_faults source = source.faults
 
+-- how many reads of it were made
+abbrev pub source_reads : {R : Type 0} → ReadSource R → ℕ
+source_reads source = source.reads
+
 -- the writer that a sink writes to
 abbrev pub sink_writer : {W : Type 0} → WriteSink W → W
 sink_writer sink = sink.writer

@@ -73,6 +73,8 @@ impl Source for BytesSource {
 
     ghost faults = { λ source. source.faults };
 
+    ghost reads = { λ source. source.calls };
+
     /// Gives the least of `most`, the room and what is left, from the front of what is left, and
     /// lets the rest of `into` stand. A call whose number is listed fails, gives nothing and
     /// raises the count of faults. Both counts stay at their last value, 2^64 - 1.
@@ -82,6 +84,7 @@ impl Source for BytesSource {
         ensures bytes { ReadConsumes (Some self.old.left) (Some self.new.left) result into.new }
         ensures kept_count { self.old.faults ≤ self.new.faults }
         ensures failed { OnErr result (Rose self.old.faults self.new.faults) }
+        ensures one_more { self.new.calls ≡ raised self.old.calls }
 
         ensures listed { IsErr result ↔ Contains self.old.fails (raised self.old.calls) }
         ensures count { IfOk result (λ count. count ≡ count_read self.old (length into.old)) }

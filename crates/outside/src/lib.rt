@@ -1,9 +1,9 @@
 //! How bytes come in and go out, and a gate that tests hold commands with.
 //!
 //! A [`Source`] gives bytes and a [`Sink`] takes them, each with a count of its faults that never
-//! falls. [`BytesSource`] and [`BytesSink`] stand in memory and fail at calls that are listed
-//! beforehand, [`SteadySource`] and [`NullSink`] never fail, and [`ReadSource`] and [`WriteSink`]
-//! adapt a reader and a writer of the standard library.
+//! falls; a source counts its reads too. [`BytesSource`] and [`BytesSink`] stand in memory and fail
+//! at calls that are listed beforehand, [`SteadySource`] and [`NullSink`] never fail, and
+//! [`ReadSource`] and [`WriteSink`] adapt a reader and a writer of the standard library.
 #![tactic(auto)]
 
 mod bytes_sink;

@@ -3,28 +3,34 @@
 ghost use Rattle.std.specs.Prelude.{◌≡◌, ◌<◌, ◌≤◌, length, OnErr};
 ghost use Rattle.std.specs.Io.{ReadsAtMost};
 ghost use Rattle.std.specs.Io.KnownBytes.{ReadConsumes};
-ghost use Rattle.outside.specs.Faults.{Rose, faults_after};
-ghost use Rattle.outside.specs.Adapters.{source_reader, source_faults};
+ghost use Rattle.outside.specs.Faults.{raised, Rose, faults_after};
+ghost use Rattle.outside.specs.Adapters.{source_reader, source_faults, source_reads};
 
 use crate::faults::Failed;
 use crate::reading::Source;
 use std::io::Read;
 
-/// A source over a reader. It tells the bytes still to come where the reader does, and counts the
-/// reads that failed.
+/// A source over a reader. It tells the bytes still to come where the reader does, and counts its
+/// reads and those that failed.
 #[derive(Debug, Drop)]
 pub struct ReadSource<R> {
     reader: R,
     faults: u64,
+    reads: u64,
 }
 
 impl<R> ReadSource<R> {
-    /// A source that reads from this reader, and has counted no fault.
+    /// A source that reads from this reader, and has counted no read and no fault.
     pub fn new(reader: R) -> ReadSource<R>
         ensures reader { source_reader result ≡ reader }
         ensures faults { source_faults result ≡ 0 }
+        ensures reads { source_reads result ≡ 0 }
     {
-        ReadSource { reader, faults: 0 }
+        ReadSource {
+            reader,
+            faults: 0,
+            reads: 0,
+        }
     }
 }
 
@@ -32,6 +38,8 @@ impl<R: Read> Source for ReadSource<R> {
     ghost left = { λ source. R.remaining (source_reader source) };
 
     ghost faults = { source_faults };
+
+    ghost reads = { source_reads };
 
     /// Gives what one read of the reader gives. The count of faults rises exactly where that read
     /// is an `Err`, and stays at its last value, 2^64 - 1.
@@ -42,9 +50,11 @@ impl<R: Read> Source for ReadSource<R> {
             (R.remaining (source_reader self.new)) result into.new }
         ensures kept_count { source_faults self.old ≤ source_faults self.new }
         ensures failed { OnErr result (Rose (source_faults self.old) (source_faults self.new)) }
+        ensures one_more { source_reads self.new ≡ raised (source_reads self.old) }
 
         ensures counted { source_faults self.new ≡ faults_after (source_faults self.old) result }
     {
+        self.reads = self.reads.saturating_add(1);
         match self.reader.read(into) {
             Ok(count) => Ok(count),
             Err(_) => {
