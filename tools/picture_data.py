@@ -4,9 +4,27 @@
 The journal's events are folded up, entry after entry. Of a border, an order and an hour there is a state wherever one
 changed, so that the page finds what held at any place of the journal by looking it up, and reckons nothing itself.
 """
-import json
+from __future__ import annotations
 
-from record import BadRecord, Command, Entry, Record, hour_of, hours_in, hundredths, quarters_of, tenths
+import json
+from typing import Optional
+
+from sidc_texts import (
+    DIVIDER,
+    BadText,
+    Command,
+    Entry,
+    Session,
+    Told,
+    commands_answered,
+    hour_of,
+    hours_of,
+    quarters_of,
+    read_journal,
+    read_session,
+    split_record,
+    units_of,
+)
 from zone_map import BOX_HEIGHT, WIDTH, box_width, places_of
 
 
@@ -54,25 +72,29 @@ class Border:
 
 
 class Order:
-    """An order or a block that was entered, with what it shows and what is left of it."""
+    """An order or a block that was entered, with its moment, what it shows and what is left of it. The moment is a place among the
+    events of the whole journal, which is in the order of those among an hour's."""
 
-    def __init__(self, name: str, contract: str, quarters: range, caller: str, words: list[str]):
+    def __init__(self, name: str, contract: str, quarters: range, caller: str, words: list[str], moment: int):
         side, self.zone, quantity, price, *kind = words
         self.name = name
         self.contract = contract
         self.quarters = quarters
         self.caller = caller
         self.side = side
-        self.left = tenths(quantity)
-        self.first_price = hundredths(price)
+        self.left = units_of(quantity)
+        self.first_price = units_of(price)
         self.filled = 0
+        self.moment = moment
         self.kind = kind[0] if kind else "limit"
-        self.peak, self.delta = (tenths(kind[1]), hundredths(kind[2])) if self.kind == "iceberg" else (0, 0)
+        self.peak, self.delta = map(units_of, kind[1:]) if self.kind == "iceberg" else (0, 0)
         self.states: list[list[int]] = []
 
-    def fill(self, lots: int) -> None:
+    def fill(self, lots: int, moment: int) -> None:
         self.filled += lots
         self.left -= lots
+        if self.peak and self.filled % self.peak == 0:
+            self.moment = moment
 
     def price(self) -> int:
         steps = self.filled // self.peak * self.delta if self.peak else 0
@@ -82,15 +104,14 @@ class Order:
         return min(self.peak - self.filled % self.peak, self.left) if self.peak else self.left
 
     def settle(self, entry: int) -> None:
-        self.states.append([entry, self.price(), self.shows(), self.left])
+        self.states.append([entry, self.price(), self.shows(), self.left, self.moment])
 
 
 class Folded:
     """All that the entries so far have made."""
 
-    def __init__(self, record: Record):
-        session = record.session
-        quarters = 4 * hours_in(session.day)
+    def __init__(self, session: Session, entries: list[Entry]):
+        quarters = 4 * hours_of(session.day)
         self.borders = [Border(ends, quarters) for ends in session.borders]
         self.orders: dict[str, Order] = {}
         self.phases: list[list] = []
@@ -98,30 +119,34 @@ class Folded:
         self.sold = {zone: [0] * quarters for zone in session.zones}
         self.bought = {zone: [0] * quarters for zone in session.zones}
         self.touched: dict[str, Order] = {}
-        for entry in record.entries:
+        self.events = 0
+        self.rows: list[list] = []
+        for number, (entry, command) in enumerate(zip(entries, commands_answered(entries, session.commands)), 1):
+            if command is None:
+                raise BadText(f"line {number} of the journal answers no command")
             try:
-                self.add(entry)
+                self.add(entry, command)
             except (AttributeError, IndexError, KeyError, TypeError, ValueError) as fault:
-                raise BadRecord(f"line {entry.number} of the journal does not follow from those before it") from fault
+                raise BadText(f"line {number} of the journal does not follow from those before it") from fault
 
-    def add(self, entry: Entry) -> None:
-        wanted = asked_orders(entry.command)
-        for name, *words in entry.events or []:
-            if name == "entered":
-                self.enter(entry, wanted.pop(0), words)
+    def add(self, entry: Entry, command: Command) -> None:
+        wanted = asked_orders(command)
+        for told in entry.told if entry.reply == "done" else []:
+            self.events += 1
+            if told.name == "entered":
+                self.enter(command.caller, wanted.pop(0), *told.fields.values())
             else:
-                getattr(self, f"add_{name}")(entry.number, *words)
+                getattr(self, f"add_{told.name}")(entry.number, *told.fields.values())
         for border in self.borders:
             border.settle(entry.number)
         for order in self.touched.values():
             order.settle(entry.number)
         self.touched.clear()
+        self.rows.append(row_of(entry, command))
 
-    def enter(self, entry: Entry, words: list[str], names: list[str]) -> None:
-        name, first, last = names[0], names[1], names[-1]
-        quarters = range(quarters_of(first).start, quarters_of(last).stop)
-        contract = first if len(names) == 2 else f"{first} to {last}"
-        self.orders[name] = Order(name, contract, quarters, entry.command.caller, words)
+    def enter(self, caller: str, words: list[str], name: str, first: str, last: Optional[str] = None) -> None:
+        contract = f"{first} to {last}" if last else first
+        self.orders[name] = Order(name, contract, span(first, last or first), caller, words, self.events)
         self.touched[name] = self.orders[name]
 
     def touch(self, name: str) -> Order:
@@ -137,11 +162,11 @@ class Folded:
         raise KeyError(text)
 
     def add_leg(self, entry: int, taker: str, maker: str, quantity: str, price: str, route: list[str]) -> None:
-        lots = tenths(quantity)
+        lots = units_of(quantity)
         pair = [self.touch(taker), self.touch(maker)]
         quarters = pair[1].quarters
         for order in pair:
-            order.fill(lots)
+            order.fill(lots, self.events)
         buy, sell = sorted(pair, key=lambda order: order.side)
         for quarter in quarters:
             self.bought[buy.zone][quarter] += lots
@@ -150,7 +175,7 @@ class Folded:
             border, direction = self.arc(arc)
             border.carry(border.traded, direction, quarters, lots)
         self.trades.append(
-            [entry, pair[1].contract, quarters.start, quarters.stop, taker, maker, sell.zone, buy.zone, lots, hundredths(price)]
+            [entry, pair[1].contract, quarters.start, quarters.stop, taker, maker, sell.zone, buy.zone, lots, units_of(price)]
             + [" ".join(route)]
         )
 
@@ -158,11 +183,11 @@ class Folded:
 
     def add_granted(self, _entry: int, arc: str, first: str, last: str, quantity: str) -> None:
         border, direction = self.arc(arc)
-        border.carry(border.granted, direction, span(first, last), tenths(quantity))
+        border.carry(border.granted, direction, span(first, last), units_of(quantity))
 
     def add_offered(self, _entry: int, arc: str, first: str, last: str, quantity: str) -> None:
         border, direction = self.arc(arc)
-        border.offer(direction, span(first, last), tenths(quantity))
+        border.offer(direction, span(first, last), units_of(quantity))
 
     def add_halted(self, _entry: int, arc: str, first: str, last: str) -> None:
         self.arc(arc)[0].halt(span(first, last), True)
@@ -174,7 +199,7 @@ class Folded:
         self.phases.append([entry, hour_of(hour), phase])
 
     def add_withdrawn(self, _entry: int, name: str, quantity: str) -> None:
-        self.touch(name).left -= tenths(quantity)
+        self.touch(name).left -= units_of(quantity)
 
     add_reduced = add_withdrawn
 
@@ -186,56 +211,47 @@ def span(first: str, last: str) -> range:
 
 def asked_orders(command: Command) -> list[list[str]]:
     """Of each order or block that a command enters: its side, zone, quantity, price and kind."""
-    words = list(command.words)
-    if command.verb in ("buy", "sell"):
-        return [[command.verb, *words[1:]]]
-    if command.verb in ("buyblock", "sellblock"):
-        return [[command.verb.removesuffix("block"), *words[2:5], "block"]]
-    if command.verb == "basket":
+    verb, *words = command.words.split(" ")
+    if verb in ("buy", "sell"):
+        return [[verb, *words[1:]]]
+    if verb in ("buyblock", "sellblock"):
+        return [[verb.removesuffix("block"), *words[2:5], "block"]]
+    if verb == "basket":
         return [[words[at], *words[at + 2 : at + 5], "fok"] for at in range(0, len(words), 5)]
     return []
 
 
-def told_event(name: str, *words) -> str:
-    """An event of the journal in words."""
-    match name:
-        case "entered":
-            return f"{words[0]} enters {' to '.join(words[1:])}"
-        case "leg" | "blockleg":
-            taker, maker, quantity, price, route = words
-            way = f" over {', '.join(route)}" if route else ""
-            return f"{taker} trades with {maker} {quantity} MW at {price} EUR/MWh{way}"
-        case "granted" | "offered":
-            return f"{name} on {words[0]}, {words[1]} to {words[2]}: {words[3]} MW"
-        case "halted" | "resumed":
-            return f"{name}: {words[0]}, {words[1]} to {words[2]}"
-        case "gated":
-            return f"{words[0]} is {words[1]}"
-        case "withdrawn":
-            return f"{words[0]} is withdrawn, {words[1]} MW"
-        case _:
-            return f"{words[0]} is reduced by {words[1]} MW"
+# What the page says of an event and of a row of a view, by its name. An empty route is left out.
+SAID = {
+    "entered": "{order} enters {contract}",
+    "entered block": "{order} enters {first} to {last}",
+    "leg": "{order} trades with {partner} {quantity} MW at {price} EUR/MWh over {route}",
+    "blockleg": "{order} trades with {partner} {quantity} MW at {price} EUR/MWh over {route}",
+    "granted": "granted on {arc}, {first} to {last}: {quantity} MW",
+    "offered": "offered on {arc}, {first} to {last}: {quantity} MW",
+    "halted": "halted: {arc}, {first} to {last}",
+    "resumed": "resumed: {arc}, {first} to {last}",
+    "gated": "{first} is {phase}",
+    "withdrawn": "{order} is withdrawn, {quantity} MW",
+    "reduced": "{order} is reduced by {quantity} MW",
+    "row": "{quantity} MW at {price} EUR/MWh",
+}
+NOTHING = {"rows": "no rows", "done": "nothing happens"}
 
 
-def told_refusal(name: str, *words) -> str:
-    parts = [", ".join(word) if isinstance(word, list) else word for word in words]
-    return f"{name} {'; '.join(parts)}".strip()
+def said_of(told: Told) -> str:
+    """What is told, in words; a refusal by its name, with what it says besides."""
+    fields = {name: ", ".join(value) if isinstance(value, list) else value for name, value in told.fields.items()}
+    name = "entered block" if told.name == "entered" and "last" in fields else told.name
+    if name not in SAID:
+        return f"{name} {'; '.join(fields.values())}".strip()
+    return SAID[name].format(**fields).removesuffix(" over ")
 
 
-def told_entry(entry: Entry) -> list:
+def row_of(entry: Entry, command: Command) -> list:
     """An entry as the table of the journal has it: number, caller, command, how it is answered, and the answer."""
-    command = entry.command
-    asked = command.text.removeprefix(f"{command.caller} ")
-    if asked.startswith("clock "):
-        asked = f"{asked}: {command.verb} {' '.join(command.words)}"
-    if entry.refusal is not None:
-        answer = ["refused", told_refusal(*entry.refusal)]
-    elif entry.rows is not None:
-        rows = [f"{quantity} MW at {price} EUR/MWh" for price, quantity in entry.rows]
-        answer = ["rows", "; ".join(rows) or "no rows"]
-    else:
-        answer = ["done", "; ".join(told_event(*event) for event in entry.events) or "nothing happens"]
-    return [entry.number, command.caller, asked, *answer]
+    asked = f"{command.clock}: {command.words}" if command.clock else command.words
+    return [entry.number, entry.caller, asked, entry.reply, "; ".join(map(said_of, entry.told)) or NOTHING[entry.reply]]
 
 
 def positions_of(folded: Folded) -> list[list]:
@@ -260,13 +276,16 @@ def exchanges_of(folded: Folded) -> list[list]:
     ]
 
 
-def data_of(record: Record) -> dict[str, list]:
-    """All that the page shows, by name."""
-    session = record.session
-    folded = Folded(record)
+def data_of(record: str) -> dict[str, list]:
+    """All that the page of a record shows, by name, or `BadText`."""
+    text, journal = split_record(record)
+    if journal is None:
+        raise BadText(f"it has no line `{DIVIDER}`")
+    session = read_session(text)
+    folded = Folded(session, read_journal(journal))
     places, height = places_of(session.zones)
     return {
-        "day": [session.day.isoformat(), hours_in(session.day)],
+        "day": [session.day.isoformat(), hours_of(session.day)],
         "map": [WIDTH, height, BOX_HEIGHT],
         "callers": [[name, role] for name, role in session.roles.items()],
         "zones": [[zone, x, y, box_width(zone)] for zone, (x, y) in zip(session.zones, places)],
@@ -279,7 +298,7 @@ def data_of(record: Record) -> dict[str, list]:
         "trades": folded.trades,
         "exchanges": exchanges_of(folded),
         "positions": positions_of(folded),
-        "entries": [told_entry(entry) for entry in record.entries],
+        "entries": folded.rows,
     }
 
 

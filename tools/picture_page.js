@@ -307,17 +307,20 @@ function drawMapTexts(borders) {
 
 // The order book
 
-/** The open orders of the contract at the place, the best price first, as the market's lines have them but for moments. */
+/** The open orders of the contract at the place as the market's lines have them: the best price first, then the earlier moment. */
 function bookAt() {
   const orders = [];
   for (const [name, contract, zone, side, kind, caller, states] of DATA.orders) {
     const state = stateAt(states, view.place);
     if (contract === view.contract && state && state[3] > 0 && (!view.zone || zone === view.zone)) {
-      orders.push({ name, zone, side, kind, caller, price: state[1], shows: state[2], left: state[3] });
+      const [, price, shows, left, moment] = state;
+      orders.push({ name, zone, side, kind, caller, price, shows, left, moment });
     }
   }
   const better = (one, other) => (one.side === "sell" ? one.price - other.price : other.price - one.price);
-  return orders.sort((one, other) => one.side.localeCompare(other.side) || better(one, other));
+  return orders.sort(
+    (one, other) => one.side.localeCompare(other.side) || better(one, other) || one.moment - other.moment,
+  );
 }
 
 /** A step for each price of one side: the price, and what is shown there or better. */

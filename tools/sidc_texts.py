@@ -8,9 +8,10 @@ from __future__ import annotations
 import json
 import re
 import sys
+from collections import deque
 from dataclasses import dataclass, field
 from datetime import date
-from typing import Any, NamedTuple, NoReturn, Optional, Sequence, Union
+from typing import Any, Iterator, NamedTuple, NoReturn, Optional, Sequence, Union
 
 from sidc_words import (
     HEADINGS,
@@ -64,12 +65,16 @@ def split_record(text: str) -> tuple[str, Optional[str]]:
     return (session + "\n", journal) if divider else (text, None)
 
 
-class BadSession(Exception):
+class BadText(Exception):
+    """A text is not what it has to be; the message says why."""
+
+
+class BadSession(BadText):
     """The first bad line of a text, counted from 1, its columns that are at fault, why it is bad, and the form that it should
     have, if it has begun as one."""
 
     def __init__(self, line: int, text: str, columns: tuple[int, int], reason: str, form: str = "") -> None:
-        super().__init__(reason)
+        super().__init__(f"line {line} of the session is bad: {reason}")
         self.line = line
         self.text = text
         self.columns = columns
@@ -78,12 +83,11 @@ class BadSession(Exception):
 
 
 class Command(NamedTuple):
-    """A command: its line, its caller, its verb with its words, and whether it is a gate for which a clock line stands."""
+    """A command: its caller, its verb with its words, and those of the clock line that stands for it, if one does."""
 
-    line: int
     caller: str
     words: str
-    by_clock: bool
+    clock: str
 
 
 @dataclass
@@ -272,7 +276,7 @@ class Reader:
         if verb == "clock":
             self.take_clock(line)
         else:
-            self.take(line, [line.text[len(caller) + 1 :]], False)
+            self.take(line, [line.text[len(caller) + 1 :]])
 
     def reason_of_caller(self, line: Line) -> str:
         """Why no command begins with the first word of this line, which is no caller."""
@@ -295,15 +299,15 @@ class Reader:
         caller, day = line.words[0], self.session.day
         before = self.phases.get(caller, [0] * hours_of(day))
         self.phases[caller] = phases_at(day, instant_of(line.words[2]))
-        self.take(line, gates_between(before, self.phases[caller]), True)
+        self.take(line, gates_between(before, self.phases[caller]), line.text[len(caller) + 1 :])
 
-    def take(self, line: Line, commands: list[str], by_clock: bool) -> None:
+    def take(self, line: Line, commands: list[str], clock: str = "") -> None:
         given = self.session.commands
         if len(given) + len(commands) > MOST_COMMANDS:
-            stands = f"the clock line stands for {counted(len(commands), 'gate')}, " if by_clock else ""
+            stands = f"the clock line stands for {counted(len(commands), 'gate')}, " if clock else ""
             reason = f"{stands}{len(given)} commands come before this line, and a session has at most {MOST_COMMANDS}"
             line.refuse(reason, 0, count=len(line.words))
-        given.extend(Command(line.number, line.words[0], words, by_clock) for words in commands)
+        given.extend(Command(line.words[0], words, clock) for words in commands)
 
 
 def form_of_heading(heading: str) -> str:
@@ -363,6 +367,29 @@ def gates_between(before: list[int], now: list[int]) -> list[str]:
     return [f"gate h{hour} {PHASES[new]}" for hour, (old, new) in enumerate(zip(before, now), 1) if new > old]
 
 
+# ---- Numbers and times ----
+
+
+def units_of(text: str) -> int:
+    """The cents of a price, as `-3.50`, and the lots of a quantity, as `4.0`."""
+    return int(text.replace(".", ""))
+
+
+def hour_of(text: str) -> int:
+    """The hour of an hour, a quarter or a half: 12 of `h12`, `h12q4` and `h12f1`."""
+    return int(re.match("h([0-9]+)", text)[1])
+
+
+def quarters_of(contract: str) -> range:
+    """The quarters in which a contract delivers, counted from 0 through the day."""
+    first = 4 * (hour_of(contract) - 1)
+    for letter, length in (("q", 1), ("f", 2)):
+        if letter in contract:
+            first += length * (int(contract.split(letter)[1]) - 1)
+            return range(first, first + length)
+    return range(first, first + 4)
+
+
 # ---- The journal ----
 
 Field = Union[str, "list[str]"]
@@ -389,12 +416,11 @@ class Entry(NamedTuple):
     told: list[Told]
 
 
-class BadEntry(Exception):
+class BadEntry(BadText):
     """The first line of a journal, counted from 1, that is no entry."""
 
     def __init__(self, line: int) -> None:
         super().__init__(f"line {line} of the journal is no entry")
-        self.line = line
 
 
 # The fields of each event and refusal, and what it says in words. An event of a name is told by how many fields it has.
@@ -490,6 +516,16 @@ def is_field(name: str, value: Any) -> bool:
     if name in LISTS:
         return isinstance(value, list) and all(isinstance(one, str) for one in value)
     return isinstance(value, str)
+
+
+def commands_answered(entries: list[Entry], commands: list[Command]) -> Iterator[Optional[Command]]:
+    """The command that each entry answers, if there is one: each caller's commands come in their order."""
+    waiting: dict[str, deque[Command]] = {}
+    for command in commands:
+        waiting.setdefault(command.caller, deque()).append(command)
+    for entry in entries:
+        own = waiting.get(entry.caller)
+        yield own.popleft() if own else None
 
 
 def words_of(told: Told) -> str:
