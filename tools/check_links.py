@@ -5,6 +5,8 @@
            it names behind `#`
   names    in docs/RULES.md the name of a link into crates/ stands in the file, and the name of a link into examples/ is the file's
   rules    in docs/RULES.md each variant of the enums Refusal, Event, Command and Kind has a row that names it, as `Kind::Limit`
+  examples examples/README.md links the name of each example (NAME.session, NAME.session.py, NAME.texts.py, NAME.traded.py or
+           NAME.words) to a file of it, and no other name to a file of examples/
   crates   each crate of crates.txt has its folder, and each folder with sources its line
   layers   no line of crates.txt names a crate that stands below it
 """
@@ -16,6 +18,8 @@ from pathlib import Path
 TOP = Path(__file__).resolve().parent.parent
 RULES = Path("docs/RULES.md")
 CRATES = Path("crates.txt")
+EXAMPLES = Path("examples/README.md")
+EXAMPLE_FILES = ("*.session", "*.session.py", "*.texts.py", "*.traded.py", "*.words")
 ENUMS = {
     "Refusal": Path("crates/market_model/src/refusal.rt"),
     "Event": Path("crates/market_model/src/event.rt"),
@@ -30,7 +34,7 @@ VARIANT = re.compile(r"^    ([A-Z]\w*)(?: \{|\(|,)", re.M)
 
 def documents(top):
     """The documents whose links are checked, as paths from the top."""
-    found = [Path("README.md"), *sorted(path.relative_to(top) for path in (top / "docs").glob("*.md")), Path("examples/README.md")]
+    found = [Path("README.md"), *sorted(path.relative_to(top) for path in (top / "docs").glob("*.md")), EXAMPLES]
     return [path for path in found if (top / path).exists()]
 
 
@@ -70,7 +74,7 @@ def has_word(text, name):
 
 def faults_of_links(top):
     for document in documents(top):
-        for number, text, target in links(top, document):
+        for number, _, target in links(top, document):
             file, _, anchor = target.partition("#")
             path = (top / document).parent / file if file else top / document
             if not path.exists():
@@ -111,6 +115,24 @@ def faults_of_rules(top):
                 yield f"{RULES}: no row has {enum}::{variant}"
 
 
+def faults_of_examples(top):
+    """Where the list of examples has not each of them by its name."""
+    if not (top / EXAMPLES).exists():
+        yield f"no file {EXAMPLES}"
+        return
+    examples = {path.name.split(".")[0] for form in EXAMPLE_FILES for path in (top / EXAMPLES).parent.glob(form)}
+    told = set()
+    for number, text, target in links(top, EXAMPLES):
+        name = target.split(".")[0]
+        if "/" in target:
+            continue
+        # The text of a link has spaces where it goes to another file of an example, as its table of texts.
+        if name not in examples or (text != name and " " not in text):
+            yield f"{EXAMPLES}:{number}: no example {text} in {target}"
+        told.add(text)
+    yield from (f"{EXAMPLES}: no {name}" for name in sorted(examples - told))
+
+
 def crate_lines(top):
     """The crates in order: the line's number, the name, and what the line names besides."""
     for number, line in enumerate((top / CRATES).read_text().splitlines(), 1):
@@ -139,6 +161,7 @@ PARTS = {
     "links": faults_of_links,
     "names": faults_of_names,
     "rules": faults_of_rules,
+    "examples": faults_of_examples,
     "crates": faults_of_crates,
     "layers": faults_of_layers,
 }
