@@ -4,9 +4,10 @@
 usage: tools/list_promises.py             writes both lists there
        tools/list_promises.py --check     ends with status 1 where one of the documents has another list
 
-The layers are the comments of crates.txt, with the crates below each in its order. A row of promises has the first sentence of
-the crate's head; its public functions with `ensures` clauses, how many these are, and the names of those that have one; and what is
-not promised: public functions without such a clause, what is a test or a program, and that a call which may wait returns.
+The layers are the comments of crates.txt, with the crates below each in its order. A row of promises has
+a link to the crate's sources and the first sentence of its head; its public functions with `ensures` clauses, how many these are,
+and the names of those that have one; and what is not promised: public functions without such a clause, what is a test or a program,
+and that a call which may wait returns.
 """
 import re
 import sys
@@ -128,7 +129,7 @@ def row_of(crate, flags):
     functions = [found for file in files for found in functions_of(file) if (found[0] or found[1]) in names]
     tests = sum(file.read_text().count("#[test]") for file in files)
     beside = not_promised(functions, tests, first.name == "main.rt", "may_wait" in flags)
-    return f"| `{crate}` | {first_sentence(head)} | {promised(functions)} | {beside} |"
+    return f"| [`{crate}`](../crates/{crate}/src) | {first_sentence(head)} | {promised(functions)} | {beside} |"
 
 
 def layers():
