@@ -1,5 +1,5 @@
 -- What reading does to a source.
-use Rattle.std.specs.Prelude.{◌≡◌, ℕ, ◌<◌, ◌≤◌, List, [], length, ◌++◌, codes, Option, Bool, true, false}
+use Rattle.std.specs.Prelude.{◌≡◌, ℕ, ◌+◌, ◌<◌, ◌≤◌, List, [], length, ◌++◌, codes, Option, Bool, true, false}
 use Rattle.std.specs.Io.KnownBytes.{Consumes, IsAtEnd, Keeps}
 use Rattle.session_io.specs.declared.reading.ReadError.{ReadError}
 use Rattle.session_io.specs.declared.reading.ReadError.TheVariants as stopped
@@ -11,6 +11,10 @@ longest_session = 8388608
 -- the most bytes that a record may have, a session with its journal
 abbrev pub longest_record : ℕ
 longest_record = 134217728
+
+-- by a count of reads before and after, at most one more was made than so many
+abbrev pub ReadsWithin : (most old new : ℕ) → Type 0
+ReadsWithin most old new = new ≤ old + (most + 1)
 
 -- one more read: what came stands behind the bytes before it, and where the input does not go on
 -- the source is at its end

@@ -2,8 +2,8 @@
 
 ghost use Rattle.std.specs.Prelude.{◌≡◌, ◌<◌, ◌≤◌, length, vec_len, Some, IfOk, IfErr};
 ghost use Rattle.std.specs.Io.KnownBytes.{Consumes, IsAtEnd};
-ghost use Rattle.outside.specs.Faults.{Rose};
-ghost use Rattle.session_io.specs.Reading.{GivesNothing, ReadsMore, Stops, reading_text};
+ghost use Rattle.outside.specs.Faults.{raised, Rose};
+ghost use Rattle.session_io.specs.Reading.{GivesNothing, ReadsMore, ReadsWithin, Stops, reading_text};
 
 use outside::Source;
 use std::alloc::{AllocError, Global};
@@ -57,9 +57,9 @@ impl From<AllocError> for ReadError {
 
 /// Reads a source to its end, where that comes after at most so many bytes.
 ///
-/// Each read but the last gives at least one byte, and none is made once more than `most` bytes
-/// came: so there are at most `most` + 1 reads, 8388609 for [`LONGEST_SESSION`] and 134217729 for
-/// [`LONGEST_RECORD`].
+/// At most `most` + 1 reads are made, 8388609 for [`LONGEST_SESSION`] and 134217729 for
+/// [`LONGEST_RECORD`]: each but the last gives at least one byte, and none is made once more than
+/// `most` bytes came.
 pub fn read_all<S: Source>(alloc: Global, source: &mut S, most: usize) -> Result<Vec<u8>, ReadError>
     ensures count { S.faults source.old ≤ S.faults source.new }
     ensures bytes { IfOk result (λ bytes. Consumes (S.left source.old) (S.left source.new) bytes.items) }
@@ -67,6 +67,7 @@ pub fn read_all<S: Source>(alloc: Global, source: &mut S, most: usize) -> Result
     ensures short { IfOk result (λ bytes. vec_len bytes ≤ most) }
     ensures stopped { IfErr result (Stops most (S.left source.old) (S.left source.new)) }
     ensures fault { result ≡ Err ReadError.Fault → Rose (S.faults source.old) (S.faults source.new) }
+    ensures reads { ReadsWithin most (S.reads source.old) (S.reads source.new) }
 {
     let mut piece = zeros(alloc, PIECE)?;
     let mut bytes = Vec::new(alloc);
@@ -99,6 +100,7 @@ fn read_more<S: Source>(
     ensures more { IfOk result (ReadsMore (S.left source.old) (S.left source.new) bytes.old.items bytes.new.items) }
     ensures nothing { IfErr result (GivesNothing (S.left source.old) (S.left source.new)) }
     ensures fault { result ≡ Err ReadError.Fault → Rose (S.faults source.old) (S.faults source.new) }
+    ensures one_more { S.reads source.new ≡ raised (S.reads source.old) }
 {
     let Ok(count) = source.read(piece) else {
         return Err(ReadError::Fault);
