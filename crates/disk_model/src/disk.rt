@@ -1,6 +1,6 @@
 //! The trait of a disk.
 
-ghost use Rattle.std.specs.Prelude.{◌≡◌, ℕ, ◌+◌, ◌-◌, ◌<◌, ◌≤◌, List, length, take, drop, Option, Some, OnOk, OnErr};
+ghost use Rattle.std.specs.Prelude.{◌≡◌, ℕ, ◌+◌, ◌-◌, ◌<◌, ◌≤◌, List, length, take, drop, Option, Some, None, OnOk, OnErr};
 ghost use Rattle.outside.specs.Faults.{Rose};
 ghost use Rattle.disk_model.specs.Contents.{Contents, IsImage, FailedWrite, settled, written, most_bytes};
 ghost use Rattle.disk_model.specs.Moments.{MayLeave, Elapses};
@@ -9,7 +9,7 @@ use crate::faults::{Failed, NoMemory};
 
 /// A disk: bytes that are written at places and are sure to be kept once they are synced.
 ///
-/// For clauses, `contents` is what it holds, where the type tells it: the bytes that it reads as,
+/// For clauses, `contents` is what it holds, where the type tells it, now and always: the bytes that it reads as,
 /// those that it read as at the last sync, and the ranges that were written since. These say which
 /// images a crash may leave. `size` is the number of its bytes. `moment` is a count of moments
 /// that never falls, and `left_since` says which images a crash at some moment from that one on
@@ -93,6 +93,7 @@ pub trait Disk {
             → contents self.new ≡ Some (written told place piece.now)) }
         ensures torn { OnErr result ((told : Contents) → contents self.old ≡ Some told
             → (torn : Contents) × (contents self.new ≡ Some torn) × FailedWrite place (length piece.now) told torn) }
+        ensures silent { contents self.old ≡ None → contents self.new ≡ None }
         ensures kept_size { size self.old ≤ size self.new }
         ensures reached { OnOk result (place + length piece.now ≤ size self.new) }
         ensures calls { spare_calls self.new ≡ spare_calls self.old - 1 }
@@ -111,6 +112,7 @@ pub trait Disk {
         requires room { 0 < spare_calls self.old }
         ensures synced { OnOk result ((told : Contents) → contents self.old ≡ Some told
             → contents self.new ≡ Some (settled told.bytes)) }
+        ensures silent { contents self.old ≡ None → contents self.new ≡ None }
         ensures err { OnErr result (contents self.new ≡ contents self.old) }
         ensures size { size self.new ≡ size self.old }
         ensures calls { spare_calls self.new ≡ spare_calls self.old - 1 }

@@ -1,6 +1,6 @@
 //! A disk in memory.
 
-ghost use Rattle.std.specs.Prelude.{◌≡◌, ◌+◌, ◌-◌, ◌<◌, ◌≤◌, ◌↔◌, [], length, take, drop, max, Some, Ok, Contains, IsErr, IfOk, OnOk, OnErr};
+ghost use Rattle.std.specs.Prelude.{◌≡◌, ◌+◌, ◌-◌, ◌<◌, ◌≤◌, ◌↔◌, [], length, take, drop, max, Some, None, Ok, Contains, IsErr, IfOk, OnOk, OnErr};
 ghost use Rattle.outside.specs.Faults.{raised, Rose};
 ghost use Rattle.disk_model.specs.Contents.{Contents, IsImage, FailedWrite, settled, written, most_bytes, filled, filled_image};
 ghost use Rattle.disk_model.specs.Moments.{MayLeave, Elapses};
@@ -236,6 +236,7 @@ impl Disk for RamDisk {
             → Some self.new.now ≡ Some (written told place piece.now)) }
         ensures torn { OnErr result ((told : Contents) → Some self.old.now ≡ Some told
             → (torn : Contents) × (Some self.new.now ≡ Some torn) × FailedWrite place (length piece.now) told torn) }
+        ensures silent { Some self.old.now ≡ None → Some self.new.now ≡ None }
         ensures kept_size { length self.old.now.bytes ≤ length self.new.now.bytes }
         ensures reached { OnOk result (place + length piece.now ≤ length self.new.now.bytes) }
         ensures calls { self.new.spare_calls ≡ self.old.spare_calls - 1 }
@@ -274,6 +275,7 @@ impl Disk for RamDisk {
         requires room { 0 < self.old.spare_calls }
         ensures synced { OnOk result ((told : Contents) → Some self.old.now ≡ Some told
             → Some self.new.now ≡ Some (settled told.bytes)) }
+        ensures silent { Some self.old.now ≡ None → Some self.new.now ≡ None }
         ensures err { OnErr result (Some self.new.now ≡ Some self.old.now) }
         ensures size { length self.new.now.bytes ≡ length self.old.now.bytes }
         ensures calls { self.new.spare_calls ≡ self.old.spare_calls - 1 }

@@ -1,0 +1,6 @@
+mod Blocks
+mod Counting
+mod Gates
+mod Numbers
+mod Parsing
+mod Steps

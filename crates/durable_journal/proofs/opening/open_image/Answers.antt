@@ -1,0 +1,74 @@
+-- A crash leaves the lines that the one image stored, at each moment of the call.
+use Rattle.std.proofs.Common.{◌≡◌, ℕ, ◌≤◌, List, [], length, sym, ◌∙◌, ap, subst, arith}
+use Rattle.disk_model.specs.Contents.{settled}
+use Rattle.disk_model.proofs.Moments.{started, goes_on, runs_on, leaves_more}
+use Rattle.durable_journal.specs.Stored.{StoresLines}
+use Rattle.durable_journal.proofs.Parsing.{short_stores_none}
+use Rattle.durable_journal.proofs.Steps.{settled_leaves}
+use Rattle.durable_journal.proofs.opening.open_image.Goals as goal
+
+pub returns-in_err-sync-clause-any_moment : goal.returns-in_err-sync-clause-any_moment
+returns-in_err-sync-clause-any_moment g c = λ bytes lines tells stores.
+    let P : List ℕ → Type 0 = λ image. StoresLines image lines in
+    let begun = started g.D.Disk.moment g.D.Disk.left_since c.args.disk.now P (λ image left. settled_leaves bytes lines stores (g.D.Disk.contents c.args.disk.now) tells image (g.met.D.Disk.only_now c.args.disk.now image left)) in
+    let told_room = c.reserve.ensures.contents ∙ tells in
+    let reserved = goes_on g.D.Disk.moment g.D.Disk.left_since c.args.disk.now c.args.disk.now c.reserve.new.self P (g.D.Disk.contents c.reserve.new.self) begun c.reserve.ensures.time (settled_leaves bytes lines stores (g.D.Disk.contents c.reserve.new.self) told_room) in
+    goes_on g.D.Disk.moment g.D.Disk.left_since c.args.disk.now c.reserve.new.self c.sync.new.self P (g.D.Disk.contents c.sync.new.self) reserved c.sync.ensures.time (settled_leaves bytes lines stores (g.D.Disk.contents c.sync.new.self) (c.in_err-sync.ensures.err ∙ told_room))
+
+pub returns-in_err-image-clause-any_moment : goal.returns-in_err-image-clause-any_moment
+returns-in_err-image-clause-any_moment g c = λ bytes lines tells stores.
+    let P : List ℕ → Type 0 = λ image. StoresLines image lines in
+    let begun = started g.D.Disk.moment g.D.Disk.left_since c.args.disk.now P (λ image left. settled_leaves bytes lines stores (g.D.Disk.contents c.args.disk.now) tells image (g.met.D.Disk.only_now c.args.disk.now image left)) in
+    let told_room = c.reserve.ensures.contents ∙ tells in
+    let reserved = goes_on g.D.Disk.moment g.D.Disk.left_since c.args.disk.now c.args.disk.now c.reserve.new.self P (g.D.Disk.contents c.reserve.new.self) begun c.reserve.ensures.time (settled_leaves bytes lines stores (g.D.Disk.contents c.reserve.new.self) told_room) in
+    let told_sync = c.in_ok-sync.ensures.synced (settled bytes) told_room in
+    let synced = goes_on g.D.Disk.moment g.D.Disk.left_since c.args.disk.now c.reserve.new.self c.sync.new.self P (g.D.Disk.contents c.sync.new.self) reserved c.sync.ensures.time (settled_leaves bytes lines stores (g.D.Disk.contents c.sync.new.self) told_sync) in
+    let told_read = c.read_image.ensures.contents ∙ told_sync in
+    let read = goes_on g.D.Disk.moment g.D.Disk.left_since c.args.disk.now c.sync.new.self c.read_image.new.disk P (g.D.Disk.contents c.read_image.new.disk) synced c.read_image.ensures.time (settled_leaves bytes lines stores (g.D.Disk.contents c.read_image.new.disk) told_read) in
+    read
+
+pub returns-then-len-gt1-clause-any_moment : goal.returns-then-len-gt1-clause-any_moment
+returns-then-len-gt1-clause-any_moment g c = λ bytes lines tells stores.
+    let P : List ℕ → Type 0 = λ image. StoresLines image lines in
+    let begun = started g.D.Disk.moment g.D.Disk.left_since c.args.disk.now P (λ image left. settled_leaves bytes lines stores (g.D.Disk.contents c.args.disk.now) tells image (g.met.D.Disk.only_now c.args.disk.now image left)) in
+    let told_room = c.reserve.ensures.contents ∙ tells in
+    let reserved = goes_on g.D.Disk.moment g.D.Disk.left_since c.args.disk.now c.args.disk.now c.reserve.new.self P (g.D.Disk.contents c.reserve.new.self) begun c.reserve.ensures.time (settled_leaves bytes lines stores (g.D.Disk.contents c.reserve.new.self) told_room) in
+    let told_sync = c.in_ok-sync.ensures.synced (settled bytes) told_room in
+    let synced = goes_on g.D.Disk.moment g.D.Disk.left_since c.args.disk.now c.reserve.new.self c.sync.new.self P (g.D.Disk.contents c.sync.new.self) reserved c.sync.ensures.time (settled_leaves bytes lines stores (g.D.Disk.contents c.sync.new.self) told_sync) in
+    let told_read = c.read_image.ensures.contents ∙ told_sync in
+    let read = goes_on g.D.Disk.moment g.D.Disk.left_since c.args.disk.now c.sync.new.self c.read_image.new.disk P (g.D.Disk.contents c.read_image.new.disk) synced c.read_image.ensures.time (settled_leaves bytes lines stores (g.D.Disk.contents c.read_image.new.disk) told_read) in
+    read
+
+pub returns-in_err-write_gate-clause-any_moment : goal.returns-in_err-write_gate-clause-any_moment
+returns-in_err-write_gate-clause-any_moment g c = λ bytes lines tells stores.
+    let P : List ℕ → Type 0 = λ image. StoresLines image lines in
+    let begun = started g.D.Disk.moment g.D.Disk.left_since c.args.disk.now P (λ image left. settled_leaves bytes lines stores (g.D.Disk.contents c.args.disk.now) tells image (g.met.D.Disk.only_now c.args.disk.now image left)) in
+    let told_room = c.reserve.ensures.contents ∙ tells in
+    let reserved = goes_on g.D.Disk.moment g.D.Disk.left_since c.args.disk.now c.args.disk.now c.reserve.new.self P (g.D.Disk.contents c.reserve.new.self) begun c.reserve.ensures.time (settled_leaves bytes lines stores (g.D.Disk.contents c.reserve.new.self) told_room) in
+    let told_sync = c.in_ok-sync.ensures.synced (settled bytes) told_room in
+    let synced = goes_on g.D.Disk.moment g.D.Disk.left_since c.args.disk.now c.reserve.new.self c.sync.new.self P (g.D.Disk.contents c.sync.new.self) reserved c.sync.ensures.time (settled_leaves bytes lines stores (g.D.Disk.contents c.sync.new.self) told_sync) in
+    let told_read = c.read_image.ensures.contents ∙ told_sync in
+    let read = goes_on g.D.Disk.moment g.D.Disk.left_since c.args.disk.now c.sync.new.self c.read_image.new.disk P (g.D.Disk.contents c.read_image.new.disk) synced c.read_image.ensures.time (settled_leaves bytes lines stores (g.D.Disk.contents c.read_image.new.disk) told_read) in
+    let same = c.in_ok-image.ensures.told (settled bytes) told_sync in
+    let short : length bytes ≤ 1 = omega (arith, ap length same, c.len.ensures, c.in_ok-image.image.ok.0, c.if-len-gt1.false) in
+    let none : lines ≡ [] = short_stores_none bytes lines short stores in
+    let gated = c.write_gate.ensures.any_moment (settled bytes) told_read in
+    let more : (image : List ℕ) → StoresLines image [] → StoresLines image lines = λ image is. subst (λ (l : List (List ℕ)). StoresLines image l) (sym none) is in
+    runs_on g.D.Disk.moment g.D.Disk.left_since c.args.disk.now c.read_image.new.disk c.write_gate.new.disk P read (leaves_more g.D.Disk.moment g.D.Disk.left_since c.read_image.new.disk c.write_gate.new.disk (λ image. StoresLines image []) P more gated)
+
+pub returns-clause-any_moment : goal.returns-clause-any_moment
+returns-clause-any_moment g c = λ bytes lines tells stores.
+    let P : List ℕ → Type 0 = λ image. StoresLines image lines in
+    let begun = started g.D.Disk.moment g.D.Disk.left_since c.args.disk.now P (λ image left. settled_leaves bytes lines stores (g.D.Disk.contents c.args.disk.now) tells image (g.met.D.Disk.only_now c.args.disk.now image left)) in
+    let told_room = c.reserve.ensures.contents ∙ tells in
+    let reserved = goes_on g.D.Disk.moment g.D.Disk.left_since c.args.disk.now c.args.disk.now c.reserve.new.self P (g.D.Disk.contents c.reserve.new.self) begun c.reserve.ensures.time (settled_leaves bytes lines stores (g.D.Disk.contents c.reserve.new.self) told_room) in
+    let told_sync = c.in_ok-sync.ensures.synced (settled bytes) told_room in
+    let synced = goes_on g.D.Disk.moment g.D.Disk.left_since c.args.disk.now c.reserve.new.self c.sync.new.self P (g.D.Disk.contents c.sync.new.self) reserved c.sync.ensures.time (settled_leaves bytes lines stores (g.D.Disk.contents c.sync.new.self) told_sync) in
+    let told_read = c.read_image.ensures.contents ∙ told_sync in
+    let read = goes_on g.D.Disk.moment g.D.Disk.left_since c.args.disk.now c.sync.new.self c.read_image.new.disk P (g.D.Disk.contents c.read_image.new.disk) synced c.read_image.ensures.time (settled_leaves bytes lines stores (g.D.Disk.contents c.read_image.new.disk) told_read) in
+    let same = c.in_ok-image.ensures.told (settled bytes) told_sync in
+    let short : length bytes ≤ 1 = omega (arith, ap length same, c.len.ensures, c.in_ok-image.image.ok.0, c.if-len-gt1.false) in
+    let none : lines ≡ [] = short_stores_none bytes lines short stores in
+    let gated = c.write_gate.ensures.any_moment (settled bytes) told_read in
+    let more : (image : List ℕ) → StoresLines image [] → StoresLines image lines = λ image is. subst (λ (l : List (List ℕ)). StoresLines image l) (sym none) is in
+    runs_on g.D.Disk.moment g.D.Disk.left_since c.args.disk.now c.read_image.new.disk c.write_gate.new.disk P read (leaves_more g.D.Disk.moment g.D.Disk.left_since c.read_image.new.disk c.write_gate.new.disk (λ image. StoresLines image []) P more gated)
