@@ -1,5 +1,5 @@
 -- Lines with their gates open.
-use Rattle.std.proofs.Common.{◌≡◌, ℕ, ◌+◌, ◌<◌, ◌≤◌, List, [], ◌∷◌, ◌++◌, length, refl, sym, ◌∙◌, ap, arith, append_assoc, length-append}
+use Rattle.std.proofs.Common.{◌≡◌, ℕ, ◌+◌, List, [], ◌∷◌, ◌++◌, length, refl, sym, ◌∙◌, ap, arith, append_assoc, length-append}
 use Rattle.durable_journal.specs.Stored.{IsLine, AreLines, number_bytes, behind_gate, block, blocks}
 use Rattle.durable_journal.proofs.Numbers.{length-number_bytes, same_number}
 

@@ -1,11 +1,11 @@
 -- What a crash leaves while a line is written behind a closed gate, and while the gate is opened.
-use Rattle.std.proofs.Common.{◌≡◌, ◌≢◌, ◌⊎◌, inl, inr, ℕ, ◌+◌, ◌<◌, ◌≤◌, max, List, [], ◌∷◌, ◌++◌, length, take, drop, get_or, refl, sym, ◌∙◌, ap, subst, arith, append_assoc, length-append, take-append-drop}
+use Rattle.std.proofs.Common.{◌≡◌, inl, inr, ℕ, ◌+◌, ◌<◌, ◌≤◌, List, [], ◌∷◌, ◌++◌, length, take, drop, get_or, sym, ◌∙◌, ap, arith, append_assoc, length-append, take-append-drop}
 use Rattle.std.proofs.lemmas.Bool.{cases_eq}
 use Rattle.std.proofs.lemmas.List.{take_at, drop_at, drop_more}
 use Rattle.disk_model.specs.Contents.{Torn, overwritten}
-use Rattle.durable_journal.specs.Stored.{IsLine, behind_gate, block, blocks, EndsAt}
+use Rattle.durable_journal.specs.Stored.{IsLine, behind_gate, blocks, EndsAt}
 use Rattle.durable_journal.specs.Appending.{end_behind, StoresOldOrNew}
-use Rattle.durable_journal.proofs.Blocks.{length-behind_gate, are_more, blocks_more, length-blocks_more}
+use Rattle.durable_journal.proofs.Blocks.{are_more, blocks_more, length-blocks_more}
 
 module _ (bytes : List ℕ) (lines : List (List ℕ)) (place : ℕ) (ends : EndsAt bytes lines place) where
   -- up to and with the gate, and behind it

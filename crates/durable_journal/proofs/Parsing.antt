@@ -1,5 +1,5 @@
 -- What an image stores is unique, and so is the place where it is damaged.
-use Rattle.std.proofs.Common.{◌≡◌, ◌≢◌, ◌⊎◌, inl, inr, ℕ, ◌+◌, ◌<◌, ◌≤◌, List, [], ◌∷◌, ◌++◌, length, refl, sym, ◌∙◌, ap, subst, arith, append_assoc, length-append}
+use Rattle.std.proofs.Common.{◌≡◌, ◌≢◌, inl, inr, ℕ, ◌≤◌, List, [], ◌∷◌, ◌++◌, length, refl, sym, ◌∙◌, ap, arith, append_assoc, length-append}
 use Rattle.durable_journal.specs.Stored.{IsLine, AreLines, behind_gate, block, blocks, EndsAt, IsShort, Stores, StoresLines, IsDamaged}
 use Rattle.durable_journal.proofs.Blocks.{length-behind_gate, same_line}
 

@@ -1,6 +1,6 @@
 -- What a crash leaves in each step of an append.
-use Rattle.std.proofs.Common.{◌≡◌, ◌⊎◌, inl, inr, ℕ, ◌+◌, ◌≤◌, List, [], ◌∷◌, ◌++◌, length, drop, Option, Some, None, refl, sym, ◌∙◌, subst, arith}
-use Rattle.disk_model.specs.Contents.{Contents, IsImage, FailedWrite, settled, written, overwritten}
+use Rattle.std.proofs.Common.{◌≡◌, ◌⊎◌, inl, inr, ℕ, ◌+◌, ◌≤◌, List, [], ◌∷◌, ◌++◌, length, drop, Option, Some, None, refl, sym, subst, arith}
+use Rattle.disk_model.specs.Contents.{Contents, FailedWrite, settled, written, overwritten}
 use Rattle.disk_model.specs.Moments.{MayLeave}
 use Rattle.disk_model.proofs.Images.{IsOnePending, settled_image, pending_image, written_pending, failed_pending}
 use Rattle.disk_model.proofs.Moments.{told_image}

@@ -14,14 +14,15 @@ const CALLS: u64 = 83;
 
 // Appends the lines until one fails, and answers how many were acknowledged.
 fn acknowledged(alloc: Global, disk: &mut RamDisk) -> usize {
-    let Ok((mut at, _)) = open_image(alloc, disk) else {
-        return 0;
+    let (mut at, _lines) = match open_image(alloc, disk) {
+        Ok(opened) => opened,
+        Err(_fault) => return 0,
     };
     for count in 0..20 {
-        let Ok(next) = append(alloc, disk, at, &TEXT[..count + 1]) else {
-            return count;
+        at = match append(alloc, disk, at, &TEXT[..count + 1]) {
+            Ok(next) => next,
+            Err(_fault) => return count,
         };
-        at = next;
     }
     20
 }
@@ -29,7 +30,7 @@ fn acknowledged(alloc: Global, disk: &mut RamDisk) -> usize {
 // Whether these are the lines that a crash may leave where so many were acknowledged: these, and
 // at most one more.
 fn may_be_left(alloc: Global, disk: &mut RamDisk, count: usize) -> Result<bool, Fail> {
-    let (_, lines) = open_image(alloc, disk)?;
+    let (_at, lines) = open_image(alloc, disk)?;
     let whole = lines
         .as_slice()
         .iter()

@@ -1,7 +1,6 @@
 -- A crash leaves the lines from before the call, or these and the new one, at each of its moments.
-use Rattle.std.proofs.Common.{ℕ, List, Option, inl, sym, subst}
+use Rattle.std.proofs.Common.{ℕ, Option, inl, sym, subst}
 use Rattle.disk_model.specs.Contents.{Contents}
-use Rattle.disk_model.specs.Moments.{MayLeave}
 use Rattle.disk_model.proofs.Moments.{started, goes_on, runs_on}
 use Rattle.durable_journal.specs.Resting.{HoldsLines}
 use Rattle.durable_journal.specs.Appending.{StoresOldOrNew}

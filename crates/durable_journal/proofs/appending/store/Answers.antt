@@ -1,5 +1,5 @@
 -- A crash leaves the lines from before the call, or these and the new one, at each of its moments.
-use Rattle.std.proofs.Common.{◌≡◌, inl, inr, None, ℕ, ◌+◌, List, [], ◌∷◌, ◌++◌, length, sym, ◌∙◌, ap, arith, length-append}
+use Rattle.std.proofs.Common.{◌≡◌, inl, inr, None, ◌+◌, [], ◌∷◌, ◌++◌, length, ◌∙◌, ap, arith, length-append}
 use Rattle.disk_model.specs.Contents.{settled, written}
 use Rattle.disk_model.proofs.Moments.{started, goes_on}
 use Rattle.durable_journal.specs.Stored.{behind_gate}

@@ -1,4 +1,4 @@
-use Rattle.std.proofs.Common.{[], ◌∷◌, ◌++◌, rules}
+use Rattle.std.proofs.Common.{rules}
 use Rattle.durable_journal.specs.Stored.{number_bytes}
 use Rattle.durable_journal.proofs.appending.with_closed_gate.Goals as goal
 

@@ -1,4 +1,4 @@
-use Rattle.std.proofs.Common.{inl, inr, ⊎_elim, sym, ◌∙◌, arith, rules}
+use Rattle.std.proofs.Common.{inl, inr, ⊎_elim, arith, rules}
 use Rattle.durable_journal.proofs.Counting.{none_in_few, none_counted, line_counted}
 use Rattle.durable_journal.proofs.opening.next_line.Goals as goal
 

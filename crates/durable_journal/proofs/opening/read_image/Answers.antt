@@ -1,5 +1,5 @@
 -- What was read is all that the disk reads as.
-use Rattle.std.proofs.Common.{◌≡◌, ℕ, ◌≤◌, Vec, Global, length, take, sym, ◌∙◌, ap, arith, rules}
+use Rattle.std.proofs.Common.{◌≡◌, ℕ, ◌≤◌, Vec, Global, length, sym, ◌∙◌, ap, arith}
 use Rattle.std.proofs.lemmas.Bool.Decides.{nat_tests}
 use Rattle.std.proofs.lemmas.List.{take_all, nil_from_length, with_items_is}
 use Rattle.durable_journal.proofs.opening.read_image.Goals as goal

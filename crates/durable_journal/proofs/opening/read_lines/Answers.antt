@@ -1,4 +1,4 @@
-use Rattle.std.proofs.Common.{◌≡◌, ◌∷◌, get_or, refl, ◌∙◌, arith, rules}
+use Rattle.std.proofs.Common.{◌≡◌, get_or, refl, rules}
 use Rattle.durable_journal.proofs.Counting.{line_read}
 use Rattle.durable_journal.proofs.opening.read_lines.Goals as goal
 
