@@ -185,7 +185,7 @@ module _ (session : Session) (journal : List ℕ) where
 
   -- behind the last line
   module _ (entries : List Entry) (so_far : IsAudited session journal [] entries) (made : IsJournal session entries) where
-    lines-are : journal_lines journal ≡ so_far.lines
+    pub lines-are : journal_lines journal ≡ so_far.lines
     unfolding journal_lines
     lines-are = so_far.whole ∙ append-nil so_far.lines
 

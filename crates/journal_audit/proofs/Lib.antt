@@ -1,5 +1,6 @@
 pub mod Audits
 pub mod Courses
+pub mod Journals
 pub mod LineTexts
 pub mod NamedLines
 pub mod NextEntries

@@ -18,11 +18,11 @@ use Rattle.market_text.specs.Text.{lines_of}
 use Rattle.market_text.specs.declared.session.Session.{Session}
 use Rattle.session_io.specs.JournalText.{lines_from}
 use Rattle.session_journal.proofs.Journals.{count-callers}
-use Rattle.journal_audit.specs.Audit.{AreRight, IsComplete}
+use Rattle.journal_audit.specs.Audit.{AreRight, IsComplete, IsJournalWith}
 use Rattle.journal_audit.specs.Course.{IsNextLine, callers_of, entries_of}
 use Rattle.journal_audit.specs.Laws.{AreNamedApart, CompleteJournalsAreInOrder, FirstFaultIsOne, IsJournalInOrder, LinesMakeTheText}
 use Rattle.journal_audit.specs.Lines.{callers_named, journal_lines, with_line_feeds}
-use Rattle.journal_audit.proofs.Audits.{IsAudited, IsJournal, complete-audited, more-audited, nothing-audited, nothing-made}
+use Rattle.journal_audit.proofs.Audits.{IsAudited, IsJournal, complete-audited, lines-are, more-audited, nothing-audited, nothing-made}
 use Rattle.journal_audit.proofs.LineTexts.{ended}
 use Rattle.journal_audit.proofs.NamedLines.{caller-is, line-begins}
 use Rattle.journal_audit.proofs.NextEntries.{entry_with, journal-more, next-some, there, turn-some}
@@ -108,11 +108,11 @@ owner commands caller some = elim (cases_lt caller (length commands)) [
 -- ---- the journal of an order
 
 -- an audit that came to the end of the lines of some callers
-record IsEnded (session : Session) (journal : List ℕ) (callers : List ℕ) : Type 0 where
-  entries : List Entry
-  audited : IsAudited session journal [] entries
-  made : IsJournal session entries
-  named : callers_of entries ≡ callers
+pub record IsEnded (session : Session) (journal : List ℕ) (callers : List ℕ) : Type 0 where
+  pub entries : List Entry
+  pub audited : IsAudited session journal [] entries
+  pub made : IsJournal session entries
+  pub named : callers_of entries ≡ callers
 
 module _ (session : Session) (is : IsSession session) (apart : AreNamedApart session.setup) (journal : List ℕ) where
   -- each caller has commands enough
@@ -190,19 +190,33 @@ module _ (session : Session) (is : IsSession session) (apart : AreNamedApart ses
             omega (arith, its, enough-more other);
       }
 
+-- the journal of an order of a session's commands
+module _ (session : Session) (journal : List ℕ) (is : IsSession session) (apart : AreNamedApart session.setup) (ordered : IsJournalInOrder session journal) where
+  pub ended-in-order : IsEnded session journal ordered.callers
+  ended-in-order =
+      let start : IsAudited session journal (lines_from session.setup 1 (run_of session.setup (in_turn session.commands ordered.callers))) [] =
+      subst (λ rest. IsAudited session journal rest []) ordered.text (nothing-audited session journal) in
+      audit-on session is apart journal ordered.callers [] [] refl (nothing-made session journal) (λ caller. omega (arith, ordered.order caller)) start
+
+  -- is complete, with what the market makes of that order
+  pub with-entries : IsJournalWith session journal (run_of session.setup (in_turn session.commands ordered.callers))
+  with-entries =
+      let end = ended-in-order in
+      subst (IsJournalWith session journal) (end.made.journal ∙ ap (λ callers. run_of session.setup (in_turn session.commands callers)) end.named)
+      (complete-audited session journal end.entries end.audited end.made
+      (λ caller. count-callers end.entries caller ∙ ap (λ callers. times callers caller) end.named ∙ ordered.order caller))
+
+  -- and its lines name the callers in that order
+  pub named-in-order : callers_named session.setup (journal_lines journal) ≡ ordered.callers
+  named-in-order =
+      let end = ended-in-order in
+      ap (callers_named session.setup) (lines-are session journal end.entries end.audited end.made) ∙ end.audited.are.callers ∙ end.named
+
 pub complete-in-order : CompleteJournalsAreInOrder
-complete-in-order session journal is apart = (whole, back)
+complete-in-order session journal is apart = (whole, λ ordered. (with-entries session journal is apart ordered).complete)
   where
     whole : IsComplete session journal → IsJournalInOrder session journal
     whole complete =
         let lines : List (List ℕ) = journal_lines journal in
         let right : AreRight session lines = subst (AreRight session) (take_all (length lines) lines (omega arith)) (complete.right (length lines) (omega arith)) in
         record { callers = callers_named session.setup lines; order = complete.done; text = sym (lines-make journal) ∙ right.text }
-
-    back : IsJournalInOrder session journal → IsComplete session journal
-    back ordered =
-        let start : IsAudited session journal (lines_from session.setup 1 (run_of session.setup (in_turn session.commands ordered.callers))) [] =
-        subst (λ rest. IsAudited session journal rest []) ordered.text (nothing-audited session journal) in
-        let end = audit-on session is apart journal ordered.callers [] [] refl (nothing-made session journal) (λ caller. omega (arith, ordered.order caller)) start in
-        (complete-audited session journal end.entries end.audited end.made
-        (λ caller. count-callers end.entries caller ∙ ap (λ callers. times callers caller) end.named ∙ ordered.order caller)).complete

@@ -1,6 +1,7 @@
 -- What the contracts of this crate cite.
 pub mod Audit
 pub mod Course
+pub mod Journal
 pub mod Laws
 pub mod Lines
 pub mod Verdict

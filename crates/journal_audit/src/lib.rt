@@ -9,5 +9,8 @@ mod laws;
 mod lines;
 
 pub use auditing::{Verdict, audit};
-pub use laws::{complete_journals_are_in_order, first_fault_is_one, lines_make_the_text};
+pub use laws::{
+    complete_journals_are_in_order, first_fault_is_one, journals_are_complete, journals_are_one,
+    lines_make_the_text, lines_name_the_turns, sessions_are_named_apart,
+};
 pub use zone_graph::NoMemory;

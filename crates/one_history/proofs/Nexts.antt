@@ -37,8 +37,9 @@ use Rattle.text_grammar.proofs.Sessions.{texts-are-sessions}
 use Rattle.session_journal.specs.Journal.{journal_of_session}
 use Rattle.session_journal.proofs.Graphs.{makes-graph}
 use Rattle.session_journal.proofs.Once.{each-command-once}
-use Rattle.session_run.specs.Trading.{taking_turns}
-use Rattle.session_run.proofs.Rooms.{taking-turns}
+use Rattle.session_journal.specs.Turns.{taking_turns}
+use Rattle.session_journal.proofs.TakingTurns.{taking-turns}
+use Rattle.journal_audit.proofs.Journals.{lines-name}
 use Rattle.one_history.specs.OneHistory.{IsNext, IsOneHistory, IsViewed, PrintedJournalsAreOneHistory, TradedJournalsAreOneHistory}
 
 -- ---- views
@@ -159,6 +160,7 @@ printed-journals bytes written is =
       entries = journal_of_session session;
       history = session-history session (texts-are-sessions bytes session is.read) (market-setup bytes session is.read);
       text = is.text;
+      named = sym ((lines-name bytes written).0 is);
     }
 
 -- and with its callers in another order
@@ -174,4 +176,5 @@ traded-journals bytes written is =
       history = session-history (taking_turns session is.turns) (taking-turns session (texts-are-sessions bytes session is.read) is.turns is.are)
           (market-setup bytes session is.read);
       text = is.text;
+      named = sym ((lines-name bytes written).1 is);
     }

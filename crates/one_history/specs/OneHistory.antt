@@ -23,8 +23,9 @@ use Rattle.market_text.specs.Commands.{commands_of}
 use Rattle.market_text.specs.Text.{session_of_text}
 use Rattle.session_io.specs.JournalText.{journal_text}
 use Rattle.session_journal.specs.Laws.{commands_in}
-use Rattle.session_run.specs.Journal.{IsJournalOf, IsTradedJournalOf}
-use Rattle.session_run.specs.Trading.{AreTurnsOf, taking_turns}
+use Rattle.session_journal.specs.Turns.{AreTurnsOf, taking_turns}
+use Rattle.journal_audit.specs.Journal.{IsJournalOf, IsTradedJournalOf}
+use Rattle.journal_audit.specs.Lines.{callers_named, journal_lines}
 
 -- the command asks for a view, and these are the market's rows of it after some events
 pub record IsViewed (setup : Setup) (events : List Event) (given : Command) (rows : List ViewRow) : Type 0 where
@@ -52,16 +53,17 @@ pub record IsOneHistory (session : Session) (entries : List Entry) : Type 0 wher
   pub once : (caller : ℕ) → commands_in caller entries ≡ commands_of session.commands caller
   pub next : (before after : List Entry) (entry : Entry) → entries ≡ before ++ entry ∷ after → IsNext session.setup before entry
 
--- bytes are a session, and a text is that of one history of it
+-- bytes are a session, and a text is that of one history of it, whose lines name the session's turns
 pub record IsTextOfOneHistory (bytes written : List ℕ) : Type 0 where
   pub session : Session
   pub read : session_of_text bytes ≡ Ok session
   pub entries : List Entry
   pub history : IsOneHistory session entries
   pub text : written ≡ journal_text session.setup entries
+  pub named : session.turns ≡ callers_named session.setup (journal_lines written)
 
 -- bytes are a session, and a text is that of one history of it with its callers in the order of some turns, which name
--- each caller as often as it has commands
+-- each caller as often as it has commands, and are the callers that the lines of the text name
 pub record IsTextOfOneTradedHistory (bytes written : List ℕ) : Type 0 where
   pub session : Session
   pub read : session_of_text bytes ≡ Ok session
@@ -70,6 +72,7 @@ pub record IsTextOfOneTradedHistory (bytes written : List ℕ) : Type 0 where
   pub entries : List Entry
   pub history : IsOneHistory (taking_turns session turns) entries
   pub text : written ≡ journal_text session.setup entries
+  pub named : turns ≡ callers_named session.setup (journal_lines written)
 
 -- where bytes are a session and a text is that of its journal, the text is that of one history of it
 abbrev pub PrintedJournalsAreOneHistory : Type 0

@@ -3,3 +3,4 @@ pub mod Once
 pub mod Turns
 pub mod Named
 pub mod Graphs
+pub mod TakingTurns

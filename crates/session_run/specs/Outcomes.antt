@@ -4,7 +4,8 @@ use Rattle.market_text.specs.declared.session.Session.{Session}
 use Rattle.market_text.specs.Text.{session_of_text}
 use Rattle.session_io.specs.Reading.{longest_session}
 use Rattle.run_status.specs.Outcomes.{Answers, EndsWell, IsWritten, IsWrittenInPart}
-use Rattle.session_run.specs.Journal.{IsJournalOf, IsSummaryOf, IsTradedJournalOf}
+use Rattle.journal_audit.specs.Journal.{IsJournalOf, IsTradedJournalOf}
+use Rattle.session_run.specs.Journal.{IsSummaryOf}
 use Rattle.session_run.specs.Reading.{HasNoEntry, IsBadText}
 use Rattle.run_status.specs.declared.status.Status.{Status}
 use Rattle.run_status.specs.declared.status.Status.TheVariants as status

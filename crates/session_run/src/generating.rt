@@ -5,12 +5,12 @@ ghost use Rattle.outside.specs.Faults.{Rose};
 ghost use Rattle.session_run.specs.Journal.{IsSummaryOf};
 ghost use Rattle.session_run.specs.Outcomes.{Generated};
 
+use desk_market::journal_of;
 use load_maker::{session_text, summary};
 use market_text::{TextFault, read_session};
 use outside::Sink;
 use run_status::Status;
 use session_io::write_lines;
-use desk_market::journal_of;
 use std::alloc::Global;
 use zone_graph::{NoMemory, Text};
 

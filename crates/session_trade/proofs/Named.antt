@@ -9,8 +9,8 @@ use Rattle.market_text.specs.declared.session.Session.{Session}
 use Rattle.market_text.specs.Session.{IsSession}
 use Rattle.session_journal.proofs.Graphs.{makes-graph}
 use Rattle.session_journal.proofs.Named.{entries-name-the-setup}
-use Rattle.session_trade.specs.Trading.{IsTraded, taking_turns}
-use Rattle.session_trade.proofs.Rooms.{taking-turns}
+use Rattle.session_journal.specs.Turns.{IsTraded, taking_turns}
+use Rattle.session_journal.proofs.TakingTurns.{taking-turns}
 
 pub traded-names : (session : Session) → IsSession session → JoinsZones (graph_of session.setup) → grid_fault (graph_of session.setup) ≡ None
     → (entries : List Entry) → IsTraded session entries → All (IsEntryIn session.setup) entries

@@ -18,7 +18,7 @@ use Rattle.trade_journal.specs.Journals.{IsJournal}
 use Rattle.session_journal.specs.Laws.{commands_in}
 use Rattle.session_journal.proofs.Journals.{count-callers}
 use Rattle.session_journal.proofs.Turns.{turn_count}
-use Rattle.session_trade.specs.Trading.{IsTraded}
+use Rattle.session_journal.specs.Turns.{IsTraded}
 
 -- what is left of a list that begins with an item
 drop-suc : {X : Type 0} (xs : List X) (k : ℕ) (x : X) (rest : List X) → drop k xs ≡ x ∷ rest → (drop (suc k) xs ≡ rest) × (slice_get xs k ≡ Some x)

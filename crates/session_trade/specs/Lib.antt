@@ -1,4 +1,3 @@
 -- What the contracts of this crate cite.
 pub mod Working
 pub mod Callers
-pub mod Trading

@@ -6,7 +6,7 @@ ghost use Rattle.zone_graph.specs.GridFault.{grid_fault};
 ghost use Rattle.market_model.specs.Grid.{graph_of};
 ghost use Rattle.market_model.specs.Naming.{IsEntryIn};
 ghost use Rattle.market_text.specs.Session.{IsSession};
-ghost use Rattle.session_trade.specs.Trading.{IsTraded};
+ghost use Rattle.session_journal.specs.Turns.{IsTraded};
 ghost use Rattle.venue_core.specs.Setups.{IsVenueSetup};
 ghost use Rattle.venue_core.specs.Venues.{IsOpenedFor};
 

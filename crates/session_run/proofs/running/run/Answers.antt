@@ -1,4 +1,4 @@
-use Rattle.session_run.specs.Journal.{IsTradedJournalOf}
+use Rattle.journal_audit.specs.Journal.{IsTradedJournalOf}
 use Rattle.session_run.proofs.Completion.{plays}
 use Rattle.session_run.proofs.running.run.Goals as goal
 

@@ -2,7 +2,7 @@ use Rattle.std.proofs.Common.{subst}
 use Rattle.command_words.specs.Words.{IsInRange}
 use Rattle.command_words.proofs.Asking.{asked_in_range}
 use Rattle.session_run.proofs.Generated.{nothing_of_summary}
-use Rattle.session_run.specs.Journal.{IsJournalOf}
+use Rattle.journal_audit.specs.Journal.{IsJournalOf}
 use Rattle.session_run.proofs.Completion.{plays}
 use Rattle.session_run.proofs.running.run_alone.Goals as goal
 

@@ -4,7 +4,7 @@ use Rattle.market_model.specs.declared.setup.Setup.{Setup}
 use Rattle.trade_journal.specs.Journals.{IsJournal}
 use Rattle.trader_pass.specs.Passes.{PassState}
 use Rattle.venue_core.specs.Venues.{AreAllOf, EndsWith}
-use Rattle.session_trade.specs.Trading.{IsTraded}
+use Rattle.session_journal.specs.Turns.{IsTraded}
 use Rattle.session_trade.proofs.Named.{traded-names}
 use Rattle.session_trade.proofs.Passes.{all-may, come-back, gave-many, has-commands, lent-back}
 use Rattle.session_trade.proofs.Rooms.{rooms-few}

@@ -1,4 +1,4 @@
--- The journal of a session that was traded.
+-- The turns of a session's callers in another order than that of its lines, and the journal of a session that was traded.
 use Rattle.std.specs.Prelude.{◌≡◌, ℕ, ◌<◌, ◌==◌, All, List, count_by, length}
 use Rattle.market_model.specs.declared.entry.Entry.{Entry}
 use Rattle.market_text.specs.declared.session.Session.{Session}
