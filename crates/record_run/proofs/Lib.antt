@@ -1,3 +1,4 @@
+pub mod Dividing
 pub mod EarlyStops
 mod Markets
 pub mod Recorded

@@ -5,9 +5,11 @@
 
 mod auditing;
 mod inputs;
+mod laws;
 mod recording;
 mod writing;
 
 pub use inputs::input_from;
+pub use laws::{printed_journals_make_records, traded_journals_make_records};
 pub use recording::{audit_record, ship_record};
 pub use writing::write_text;
