@@ -4,7 +4,7 @@ ghost use Rattle.std.specs.Prelude.{◌≡◌, ◌≤◌, IfErr, IfOk, length};
 ghost use Rattle.outside.specs.Faults.{Rose};
 ghost use Rattle.market_model.specs.Market as market;
 ghost use Rattle.market_model.specs.WellFormed.{IsMarketSetup};
-ghost use Rattle.session_io.specs.Reading.{longest_record};
+ghost use Rattle.session_io.specs.Reading.{ReadsWithin, longest_record};
 ghost use Rattle.run_status.specs.Reading.{Stops, WasRead};
 ghost use Rattle.record_run.specs.Auditing.{EndsAudit, IsOf};
 ghost use Rattle.record_run.specs.Records.{IsBadRecord, IsIllegalRecord};
@@ -41,6 +41,7 @@ pub(crate) fn audited_from<S: Source>(alloc: Global, source: &mut S) -> Result<A
     ensures stops { IfErr result (Stops longest_record IsBadRecord IsIllegalRecord (S.left source.old) (S.left source.new)) }
     ensures count { S.faults source.old ≤ S.faults source.new }
     ensures fault { result ≡ Err Status.ReadFault → Rose (S.faults source.old) (S.faults source.new) }
+    ensures read_bound { ReadsWithin longest_record (S.reads source.old) (S.reads source.new) }
 {
     match input_from(alloc, source, LONGEST_RECORD) {
         Ok(bytes) => audited_of(alloc, bytes.as_slice()),

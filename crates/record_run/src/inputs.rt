@@ -4,6 +4,7 @@ ghost use Rattle.std.specs.Prelude.{◌≡◌, ◌≤◌, IfErr, IfOk};
 ghost use Rattle.outside.specs.Faults.{Rose};
 ghost use Rattle.record_run.specs.Inputs.{Is, ReadsNone};
 ghost use Rattle.run_status.specs.Reading.{WasRead};
+ghost use Rattle.session_io.specs.Reading.{ReadsWithin};
 
 use outside::Source;
 use run_status::Status;
@@ -20,6 +21,7 @@ pub fn input_from<S: Source>(alloc: Global, source: &mut S, most: usize) -> Resu
     ensures stops { IfErr result (ReadsNone most (S.left source.old) (S.left source.new)) }
     ensures count { S.faults source.old ≤ S.faults source.new }
     ensures fault { result ≡ Err Status.ReadFault → Rose (S.faults source.old) (S.faults source.new) }
+    ensures read_bound { ReadsWithin most (S.reads source.old) (S.reads source.new) }
 {
     match read_all(alloc, source, most) {
         Ok(bytes) => Ok(bytes),

@@ -2,7 +2,7 @@
 
 ghost use Rattle.std.specs.Prelude.{◌≡◌, ◌≢◌, ◌≤◌, ℕ, List, IsTrue, Some, IfOk};
 ghost use Rattle.outside.specs.Faults.{Rose};
-ghost use Rattle.session_io.specs.Reading.{longest_record};
+ghost use Rattle.session_io.specs.Reading.{ReadsWithin, longest_record};
 ghost use Rattle.run_status.specs.Reading.{ReadsUpTo};
 ghost use Rattle.run_status.specs.Status.{writes_nothing};
 ghost use Rattle.record_run.specs.Outcomes.{Audited as AuditedSo, CompletesRecords, Shipped as ShippedSo};
@@ -26,6 +26,7 @@ pub fn audit_record<S: Source, K: Sink>(alloc: Global, source: &mut S, sink: &mu
     ensures reads { result ≢ Status.NoMemory → ReadsUpTo longest_record (S.left source.old) (S.left source.new) result }
     ensures read_count { S.faults source.old ≤ S.faults source.new }
     ensures read_fault { result ≡ Status.ReadFault → Rose (S.faults source.old) (S.faults source.new) }
+    ensures read_bound { ReadsWithin longest_record (S.reads source.old) (S.reads source.new) }
     ensures write_count { K.faults sink.old ≤ K.faults sink.new }
     ensures write_fault { result ≡ Status.WriteFault → Rose (K.faults sink.old) (K.faults sink.new) }
 {
@@ -45,6 +46,7 @@ pub fn ship_record<S: Source, K: Sink>(alloc: Global, source: &mut S, sink: &mut
     ensures reads { result ≢ Status.NoMemory → ReadsUpTo longest_record (S.left source.old) (S.left source.new) result }
     ensures read_count { S.faults source.old ≤ S.faults source.new }
     ensures read_fault { result ≡ Status.ReadFault → Rose (S.faults source.old) (S.faults source.new) }
+    ensures read_bound { ReadsWithin longest_record (S.reads source.old) (S.reads source.new) }
     ensures write_count { K.faults sink.old ≤ K.faults sink.new }
     ensures write_fault { result ≡ Status.WriteFault → Rose (K.faults sink.old) (K.faults sink.new) }
 {

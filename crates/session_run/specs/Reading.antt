@@ -1,10 +1,18 @@
 -- What a run that reads a session does to its source.
-use Rattle.std.specs.Prelude.{◌≡◌, ℕ, List, Option, Ok, Err}
+use Rattle.std.specs.Prelude.{◌≡◌, ℕ, List, Option, Some, Ok, Err}
 use Rattle.market_text.specs.declared.session.Session.{Session}
 use Rattle.market_text.specs.Text.{session_of_text}
-use Rattle.session_io.specs.Reading.{longest_session}
+use Rattle.command_words.specs.declared.words.Task.{Task}
+use Rattle.command_words.specs.declared.words.Task.TheVariants as task
+use Rattle.session_io.specs.Reading.{longest_record, longest_session}
 use Rattle.run_status.specs.declared.status.Status.{Status}
 use Rattle.run_status.specs.Reading.{ReadsUpTo, Stops, WasRead}
+
+-- the most bytes that the input of a run may have, by what its words ask for: a record's, or a session's
+abbrev pub longest_input : Option Task → ℕ
+longest_input (Some task.Audit) = longest_record
+longest_input (Some task.Ship) = longest_record
+longest_input _ = longest_session
 
 -- these bytes came from the source; they are too many exactly where the run says so, and the
 -- source is at its end unless a fault or too many bytes stopped the reading

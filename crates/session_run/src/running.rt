@@ -6,8 +6,8 @@ ghost use Rattle.record_run.specs.Outcomes.{Audited, CompletesRecords, Shipped};
 ghost use Rattle.run_status.specs.Reading.{ReadsUpTo};
 ghost use Rattle.run_status.specs.Outcomes.{EndsWell};
 ghost use Rattle.session_run.specs.Outcomes.{CompletesSessions, Generated, Replayed, Traded};
-ghost use Rattle.session_io.specs.Reading.{longest_record};
-ghost use Rattle.session_run.specs.Reading.{Reads};
+ghost use Rattle.session_io.specs.Reading.{ReadsWithin, longest_record, longest_session};
+ghost use Rattle.session_run.specs.Reading.{Reads, longest_input};
 ghost use Rattle.run_status.specs.Status.{writes_nothing};
 ghost use Rattle.command_words.specs.Words.{ReadsRecord, task_of as task_named, is_trade as trades};
 ghost use Rattle.command_words.specs.declared.words.Task.TheVariants as task;
@@ -62,6 +62,7 @@ pub fn run<R: Threads + Wait + Sync, S: Source, K: Sink, G: Gate>(
     ensures illegal { (entry : ℕ) → result ≡ Status.Illegal entry → ReadsRecord (task_named words.now) × (trades words.now ≡ false) }
     ensures read_count { S.faults source.old ≤ S.faults source.new }
     ensures read_fault { result ≡ Status.ReadFault → Rose (S.faults source.old) (S.faults source.new) }
+    ensures read_bound { ReadsWithin (longest_input (task_named words.now)) (S.reads source.old) (S.reads source.new) }
     ensures write_count { K.faults sink.old ≤ K.faults sink.new }
     ensures write_fault { result ≡ Status.WriteFault → Rose (K.faults sink.old) (K.faults sink.new) }
 {
@@ -94,6 +95,7 @@ pub fn run_alone<S: Source, K: Sink>(
     ensures illegal { (entry : ℕ) → result ≡ Status.Illegal entry → ReadsRecord (task_named words.now) }
     ensures read_count { S.faults source.old ≤ S.faults source.new }
     ensures read_fault { result ≡ Status.ReadFault → Rose (S.faults source.old) (S.faults source.new) }
+    ensures read_bound { ReadsWithin (longest_input (task_named words.now)) (S.reads source.old) (S.reads source.new) }
     ensures write_count { K.faults sink.old ≤ K.faults sink.new }
     ensures write_fault { result ≡ Status.WriteFault → Rose (K.faults sink.old) (K.faults sink.new) }
 {
@@ -116,6 +118,7 @@ fn replay<S: Source, K: Sink>(alloc: Global, source: &mut S, sink: &mut K) -> St
     ensures legal { (entry : ℕ) → result ≢ Status.Illegal entry }
     ensures read_count { S.faults source.old ≤ S.faults source.new }
     ensures read_fault { result ≡ Status.ReadFault → Rose (S.faults source.old) (S.faults source.new) }
+    ensures read_bound { ReadsWithin longest_session (S.reads source.old) (S.reads source.new) }
     ensures write_count { K.faults sink.old ≤ K.faults sink.new }
     ensures write_fault { result ≡ Status.WriteFault → Rose (K.faults sink.old) (K.faults sink.new) }
 {
@@ -144,6 +147,7 @@ fn trade<R: Threads + Wait + Sync, S: Source, K: Sink, G: Gate>(
     ensures legal { (entry : ℕ) → result ≢ Status.Illegal entry }
     ensures read_count { S.faults source.old ≤ S.faults source.new }
     ensures read_fault { result ≡ Status.ReadFault → Rose (S.faults source.old) (S.faults source.new) }
+    ensures read_bound { ReadsWithin longest_session (S.reads source.old) (S.reads source.new) }
     ensures write_count { K.faults sink.old ≤ K.faults sink.new }
     ensures write_fault { result ≡ Status.WriteFault → Rose (K.faults sink.old) (K.faults sink.new) }
 {

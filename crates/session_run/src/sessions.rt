@@ -8,6 +8,7 @@ ghost use Rattle.market_model.specs.Grid.{graph_of};
 ghost use Rattle.market_model.specs.Naming.{IsEntryIn, IsNamed};
 ghost use Rattle.market_text.specs.Session.{IsSession};
 ghost use Rattle.session_io.specs.JournalText.{journal_text};
+ghost use Rattle.session_io.specs.Reading.{ReadsWithin, longest_session};
 ghost use Rattle.record_run.specs.Writing.{Writes};
 ghost use Rattle.session_run.specs.Reading.{ReadsNoSession, ReadsSession};
 
@@ -33,6 +34,7 @@ pub fn session_from<S: Source>(alloc: Global, source: &mut S) -> Result<Session,
     ensures legal { (entry : ℕ) → result ≢ Err (Status.Illegal entry) }
     ensures count { S.faults source.old ≤ S.faults source.new }
     ensures fault { result ≡ Err Status.ReadFault → Rose (S.faults source.old) (S.faults source.new) }
+    ensures read_bound { ReadsWithin longest_session (S.reads source.old) (S.reads source.new) }
 {
     let bytes = match input_from(alloc, source, LONGEST_SESSION) {
         Ok(bytes) => bytes,

@@ -59,7 +59,7 @@ pub(crate) fn words_of(alloc: Global, texts: &[&str]) -> Result<Sequence<Word>, 
 pub(crate) fn replay_steadily(alloc: Global, words: &[Word], source: &mut SteadySource) -> Status
     requires alone { is_trade words.now ≡ false }
     requires task { task_of words.now ≡ Some task.Replay }
-    ensures { (session : Session) → session_of_text source.old ≡ Ok session → length source.old ≤ longest_session → (result ≡ ended.Done) ⊎ (result ≡ ended.NoMemory) }
+    ensures { (session : Session) → session_of_text source.old.left ≡ Ok session → length source.old.left ≤ longest_session → (result ≡ ended.Done) ⊎ (result ≡ ended.NoMemory) }
 {
     run_alone(alloc, words, source, &mut NullSink::new())
 }

@@ -36,6 +36,8 @@ impl Source for Counting {
 
     ghost faults = { λ _. 0 };
 
+    ghost reads = { λ source. source.reads };
+
     fn read(&mut self, into: &mut [u8]) -> Result<usize, Failed> {
         self.reads = self.reads.saturating_add(1);
         let count = into.len().min(self.left).min(self.most);
