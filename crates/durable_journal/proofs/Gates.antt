@@ -1,9 +1,9 @@
 -- What a crash leaves while a line is written behind a closed gate, and while the gate is opened.
 use Rattle.std.proofs.Common.{◌≡◌, inl, inr, ℕ, ◌+◌, ◌<◌, ◌≤◌, List, [], ◌∷◌, ◌++◌, length, take, drop, get_or, sym, ◌∙◌, ap, arith, append_assoc, length-append, take-append-drop}
 use Rattle.std.proofs.lemmas.Bool.{cases_eq}
-use Rattle.std.proofs.lemmas.List.{take_at, drop_at, drop_more}
+use Rattle.std.proofs.lemmas.List.{take_at, drop_at, drop_more, drop_all}
 use Rattle.disk_model.specs.Contents.{Torn, overwritten}
-use Rattle.durable_journal.specs.Stored.{IsLine, behind_gate, blocks, EndsAt}
+use Rattle.durable_journal.specs.Stored.{IsLine, behind_gate, blocks, image_of, EndsAt}
 use Rattle.durable_journal.specs.Appending.{end_behind, StoresOldOrNew}
 use Rattle.durable_journal.proofs.Blocks.{are_more, blocks_more, length-blocks_more}
 
@@ -92,3 +92,10 @@ module _ (bytes : List ℕ) (lines : List (List ℕ)) (place : ℕ) (ends : Ends
     opened_ends =
         open_ends (overwritten staged place (1 ∷ []))
         ((λ i. (staged_front i ++ 1 ∷ []) ++ staged_back i) ∙ append_assoc (blocks lines) (1 ∷ []) (behind_gate line ++ 0 ∷ rest))
+
+    -- where nothing stood behind the closed gate, the image is that of the lines, and nothing more
+    pub opened_image : length bytes ≤ place + 1 → overwritten staged place (1 ∷ []) ≡ image_of (lines ++ line ∷ [])
+    opened_image last =
+        let none : rest ≡ [] = drop_all (place + 1 + length piece) bytes (omega arith) in
+        (λ i. (staged_front i ++ 1 ∷ []) ++ staged_back i) ∙ append_assoc (blocks lines) (1 ∷ []) (behind_gate line ++ 0 ∷ rest)
+        ∙ ap (λ (l : List ℕ). blocks lines ++ 1 ∷ (behind_gate line ++ 0 ∷ l)) none ∙ sym (blocks_more lines line (0 ∷ []))

@@ -1,6 +1,6 @@
-mod Blocks
+pub mod Blocks
 mod Counting
 mod Gates
 mod Numbers
-mod Parsing
-mod Steps
+pub mod Parsing
+pub mod Steps

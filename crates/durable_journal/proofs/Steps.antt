@@ -1,5 +1,5 @@
 -- What a crash leaves in each step of an append.
-use Rattle.std.proofs.Common.{◌≡◌, ◌⊎◌, inl, inr, ℕ, ◌+◌, ◌≤◌, List, [], ◌∷◌, ◌++◌, length, drop, Option, Some, None, refl, sym, subst, arith}
+use Rattle.std.proofs.Common.{◌≡◌, ◌⊎◌, inl, inr, ℕ, ◌+◌, ◌≤◌, List, [], ◌∷◌, ◌++◌, length, drop, Option, Some, None, Result, Ok, Err, OnOk, refl, sym, subst, arith}
 use Rattle.disk_model.specs.Contents.{Contents, FailedWrite, settled, written, overwritten}
 use Rattle.disk_model.specs.Moments.{MayLeave}
 use Rattle.disk_model.proofs.Images.{IsOnePending, settled_image, pending_image, written_pending, failed_pending}
@@ -117,3 +117,8 @@ pub settled_leaves : (bytes : List ℕ) (lines : List (List ℕ)) → StoresLine
     → (image : List ℕ) → MayLeave contents image → StoresLines image lines
 settled_leaves bytes lines stores contents tells image leaves =
     subst (λ (l : List ℕ). StoresLines l lines) (sym (settled_image bytes image (told_image contents (settled bytes) tells image leaves))) stores
+
+-- a fact that holds whatever the result is
+pub always_ok : {T E : Type 0} (result : Result T E) (P : Type 0) → P → OnOk result P
+always_ok (Ok value) P fact = fact
+always_ok (Err error) P fact = tt

@@ -4,8 +4,8 @@ ghost use Rattle.std.specs.Prelude.{◌≡◌, ℕ, ◌+◌, ◌^◌, ◌<◌, �
 ghost use Rattle.outside.specs.Faults.{Rose};
 ghost use Rattle.disk_model.specs.Contents.{most_bytes};
 ghost use Rattle.disk_model.specs.Moments.{LeavesOnly};
-ghost use Rattle.durable_journal.specs.Stored.{IsLine, behind_gate};
-ghost use Rattle.durable_journal.specs.Resting.{HoldsLines, IsAtRest};
+ghost use Rattle.durable_journal.specs.Stored.{IsLine, AreLines, behind_gate, blocks};
+ghost use Rattle.durable_journal.specs.Resting.{HoldsLines, IsAtRest, IsImageOf};
 ghost use Rattle.durable_journal.specs.Appending.{most_stored, end_behind, size_behind, StoresOldOrNew, GivesBack, WroteNothing};
 
 use crate::at::At;
@@ -40,6 +40,8 @@ pub fn append<D: Disk>(alloc: Global, disk: &mut D, at: At, line: &[u8]) -> Resu
     ensures rest { IfOk result (λ next. IsAtRest (D.size disk.new) (D.contents disk.new) next) }
     ensures added { IfOk result (λ next. (lines : List (List ℕ)) → HoldsLines (D.contents disk.old) lines at
         → HoldsLines (D.contents disk.new) (lines ++ line.now ∷ []) next) }
+    ensures image { OnOk result ((lines : List (List ℕ)) → IsImageOf (D.contents disk.old) lines → AreLines lines
+        → at ≡ length (blocks lines) → IsImageOf (D.contents disk.new) (lines ++ line.now ∷ [])) }
 
     // A crash at any moment of the call leaves the lines from before it, or these and the new one.
     ensures any_moment { (lines : List (List ℕ)) → HoldsLines (D.contents disk.old) lines at
@@ -92,6 +94,8 @@ fn store<D: Disk>(disk: &mut D, place: u64, line: &[u8], piece: &[u8]) -> Result
     ensures rest { OnOk result (IsAtRest (D.size disk.new) (D.contents disk.new) (end_behind place line.now)) }
     ensures added { OnOk result ((lines : List (List ℕ)) → HoldsLines (D.contents disk.old) lines place
         → HoldsLines (D.contents disk.new) (lines ++ line.now ∷ []) (end_behind place line.now)) }
+    ensures image { OnOk result ((lines : List (List ℕ)) → IsImageOf (D.contents disk.old) lines → AreLines lines
+        → place ≡ length (blocks lines) → IsImageOf (D.contents disk.new) (lines ++ line.now ∷ [])) }
     ensures any_moment { (lines : List (List ℕ)) → HoldsLines (D.contents disk.old) lines place
         → LeavesOnly D.moment D.left_since disk.old disk.new (StoresOldOrNew lines line.now) }
     ensures count { D.faults disk.old ≤ D.faults disk.new }

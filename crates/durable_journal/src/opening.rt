@@ -5,7 +5,7 @@ ghost use Rattle.outside.specs.Faults.{Rose};
 ghost use Rattle.disk_model.specs.Contents.{Contents, settled, most_bytes};
 ghost use Rattle.disk_model.specs.Moments.{Elapses, LeavesOnly};
 ghost use Rattle.durable_journal.specs.Stored.{IsLine, behind_gate, EndsAt, Stores, StoresLines, IsDamaged};
-ghost use Rattle.durable_journal.specs.Resting.{HoldsLines, IsAtRest};
+ghost use Rattle.durable_journal.specs.Resting.{HoldsLines, IsAtRest, IsImageOf};
 
 use crate::at::At;
 use crate::faults::ImageFault;
@@ -29,6 +29,8 @@ pub fn open_image<D: Disk>(alloc: Global, disk: &mut D) -> Result<(At, Lines), I
     ensures rest { IfOk result (λ opened. IsAtRest (D.size disk.new) (D.contents disk.new) opened.0) }
     ensures holds { IfOk result (λ opened. (told : Contents) → D.contents disk.old ≡ Some told
         → HoldsLines (D.contents disk.new) opened.1 opened.0) }
+
+    ensures empty { OnOk result (D.contents disk.old ≡ Some (settled []) → IsImageOf (D.contents disk.new) []) }
 
     // A crash at any moment of the call leaves the lines that the one image stored.
     ensures any_moment { (bytes : List ℕ) (lines : List (List ℕ)) → D.contents disk.old ≡ Some (settled bytes)
@@ -82,6 +84,7 @@ fn write_gate<D: Disk>(disk: &mut D) -> Result<(), Failed>
         → (told ≡ settled told.bytes) × (length told.bytes ≤ 1) }
     ensures rest { OnOk result (IsAtRest (D.size disk.new) (D.contents disk.new) 0) }
     ensures holds { OnOk result ((told : Contents) → D.contents disk.old ≡ Some told → HoldsLines (D.contents disk.new) [] 0) }
+    ensures empty { OnOk result (D.contents disk.old ≡ Some (settled []) → IsImageOf (D.contents disk.new) []) }
     ensures any_moment { (told : Contents) → D.contents disk.old ≡ Some told
         → LeavesOnly D.moment D.left_since disk.old disk.new (λ image. StoresLines image []) }
     ensures count { D.faults disk.old ≤ D.faults disk.new }

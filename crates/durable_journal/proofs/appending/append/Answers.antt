@@ -1,5 +1,5 @@
 -- A crash leaves the lines from before the call, or these and the new one, at each of its moments.
-use Rattle.std.proofs.Common.{ℕ, Option, inl, sym, subst}
+use Rattle.std.proofs.Common.{◌∙◌, ℕ, Option, inl, sym, subst}
 use Rattle.disk_model.specs.Contents.{Contents}
 use Rattle.disk_model.proofs.Moments.{started, goes_on, runs_on}
 use Rattle.durable_journal.specs.Resting.{HoldsLines}
@@ -53,3 +53,7 @@ returns-clause-any_moment g c = λ lines holds.
     (λ image leaves. inl (held_image (g.D.Disk.contents c.reserve.new.self) lines c.args.at same image leaves)) in
     runs_on g.D.Disk.moment g.D.Disk.left_since c.args.disk.now c.reserve.new.self c.store.new.disk P reserved
     (c.store.ensures.any_moment lines (subst (λ (p : ℕ). HoldsLines (g.D.Disk.contents c.reserve.new.self) lines p) (sym c.place-2.ensures.place) same))
+
+pub returns-in-Ok-store-clause-image : goal.returns-in-Ok-store-clause-image
+returns-in-Ok-store-clause-image g c = λ lines is each end.
+    c.in-Ok-store.ensures.image lines (c.reserve.ensures.contents ∙ is) each (c.place-2.ensures.place ∙ end)

@@ -1,10 +1,12 @@
 -- A crash leaves the lines from before the call, or these and the new one, at each of its moments.
-use Rattle.std.proofs.Common.{◌≡◌, inl, inr, None, ◌+◌, [], ◌∷◌, ◌++◌, length, ◌∙◌, ap, arith, length-append}
-use Rattle.disk_model.specs.Contents.{settled, written}
+use Rattle.std.proofs.Common.{◌≡◌, inl, inr, None, Some, ℕ, ◌+◌, ◌≤◌, List, refl, [], ◌∷◌, ◌++◌, length, ◌∙◌, ap, arith, length-append}
+use Rattle.disk_model.specs.Contents.{settled, written, overwritten}
 use Rattle.disk_model.proofs.Moments.{started, goes_on}
-use Rattle.durable_journal.specs.Stored.{behind_gate}
+use Rattle.durable_journal.specs.Stored.{EndsAt, behind_gate, blocks, image_of}
+use Rattle.durable_journal.specs.Resting.{HoldsLines}
 use Rattle.durable_journal.specs.Appending.{StoresOldOrNew}
 use Rattle.durable_journal.proofs.Blocks.{length-behind_gate}
+use Rattle.durable_journal.proofs.Gates.{opened_image}
 use Rattle.durable_journal.proofs.Steps.{told_or_not, before_leaves, line_written, line_failed, line_synced, with_line, gate_written, gate_failed, gate_synced, gate_holds}
 use Rattle.durable_journal.proofs.appending.store.Goals as goal
 
@@ -78,6 +80,18 @@ returns-clause-added g c = λ lines holds.
     let told_gate = c.in_ok-write_at-2.ensures.written (settled (with_line (g.D.Disk.contents c.args.disk.now) lines c.args.line.now c.args.piece.now c.args.place c.requires.line c.requires.piece holds)) told_synced in
     let told_open = c.in_ok-sync-2.ensures.synced (written (settled (with_line (g.D.Disk.contents c.args.disk.now) lines c.args.line.now c.args.piece.now c.args.place c.requires.line c.requires.piece holds)) c.args.place (1 ∷ [])) told_gate in
     gate_holds (g.D.Disk.contents c.args.disk.now) lines c.args.line.now c.args.piece.now c.args.place c.requires.line c.requires.piece holds (g.D.Disk.contents c.sync-2.new.self) told_open
+
+-- where the disk held the image of the lines alone, it holds that of these and the new one
+pub returns-clause-image : goal.returns-clause-image
+returns-clause-image g c = λ lines is each end.
+    let ends : EndsAt (image_of lines) lines c.args.place = record { each = each; gate = 0; behind = []; whole = refl; shut = omega arith; end = end } in
+    let holds : HoldsLines (g.D.Disk.contents c.args.disk.now) lines c.args.place = record { bytes = image_of lines; told = is; ends = ends } in
+    let last : length (image_of lines) ≤ c.args.place + 1 = omega (arith, end, length-append (blocks lines) (0 ∷ [])) in
+    let told_line = c.in_ok-write_at.ensures.written (settled (image_of lines)) is in
+    let told_synced = c.in_ok-sync.ensures.synced (written (settled (image_of lines)) (c.args.place + 1) c.args.piece.now) told_line in
+    let told_gate = c.in_ok-write_at-2.ensures.written (settled (overwritten (image_of lines) (c.args.place + 1) c.args.piece.now)) told_synced in
+    let told_open = c.in_ok-sync-2.ensures.synced (written (settled (overwritten (image_of lines) (c.args.place + 1) c.args.piece.now)) c.args.place (1 ∷ [])) told_gate in
+    told_open ∙ ap (λ (l : List ℕ). Some (settled l)) (opened_image (image_of lines) lines c.args.place ends c.args.line.now c.args.piece.now c.requires.line c.requires.piece last)
 
 pub returns-clause-rest : goal.returns-clause-rest
 returns-clause-rest g c = record {

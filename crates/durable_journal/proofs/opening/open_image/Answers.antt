@@ -4,7 +4,7 @@ use Rattle.disk_model.specs.Contents.{settled}
 use Rattle.disk_model.proofs.Moments.{started, goes_on, runs_on, leaves_more}
 use Rattle.durable_journal.specs.Stored.{StoresLines}
 use Rattle.durable_journal.proofs.Parsing.{short_stores_none}
-use Rattle.durable_journal.proofs.Steps.{settled_leaves}
+use Rattle.durable_journal.proofs.Steps.{always_ok, settled_leaves}
 use Rattle.durable_journal.proofs.opening.open_image.Goals as goal
 
 pub returns-in_err-sync-clause-any_moment : goal.returns-in_err-sync-clause-any_moment
@@ -72,3 +72,13 @@ returns-clause-any_moment g c = λ bytes lines tells stores.
     let gated = c.write_gate.ensures.any_moment (settled bytes) told_read in
     let more : (image : List ℕ) → StoresLines image [] → StoresLines image lines = λ image is. subst (λ (l : List (List ℕ)). StoresLines image l) (sym none) is in
     runs_on g.D.Disk.moment g.D.Disk.left_since c.args.disk.now c.read_image.new.disk c.write_gate.new.disk P read (leaves_more g.D.Disk.moment g.D.Disk.left_since c.read_image.new.disk c.write_gate.new.disk (λ image. StoresLines image []) P more gated)
+
+pub returns-then-len-gt1-clause-empty : goal.returns-then-len-gt1-clause-empty
+returns-then-len-gt1-clause-empty g c =
+    always_ok c.read_lines.result _ (λ is.
+    let same = c.in_ok-image.ensures.told (settled []) (c.in_ok-sync.ensures.synced (settled []) (c.reserve.ensures.contents ∙ is)) in
+    absurd (omega (arith, ap length same, c.len.ensures, c.in_ok-image.image.ok.0, c.if-len-gt1.true)))
+
+pub returns-clause-empty : goal.returns-clause-empty
+returns-clause-empty g c = λ is.
+    c.in_ok-write_gate.ensures.empty (c.read_image.ensures.contents ∙ c.in_ok-sync.ensures.synced (settled []) (c.reserve.ensures.contents ∙ is))

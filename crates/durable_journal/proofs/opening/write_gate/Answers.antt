@@ -54,3 +54,6 @@ returns-clause-rest g c = record {
     | inr old ↦ ([], returns-clause-holds g c old.0 old.1)
   ];
 }
+
+pub returns-clause-empty : goal.returns-clause-empty
+returns-clause-empty g c = λ is. c.in_ok-sync.ensures.synced (written (settled []) 0 (0 ∷ [])) (c.in_ok-write_at.ensures.written (settled []) is)
