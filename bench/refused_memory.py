@@ -12,6 +12,7 @@ of memory. The calls are those to malloc and realloc (bench/refuse.c, made with 
 import argparse
 import mmap
 import os
+import re
 import subprocess
 import sys
 import tempfile
@@ -101,7 +102,7 @@ def look_at_sessions(refuser):
 
 
 def fault_of_test(_, ended):
-    is_told = ended.status != 0 and b"NoMemory" in ended.output + ended.said
+    is_told = ended.status != 0 and re.search(rb"^memory: (NoMemory|AllocError)$", ended.output + ended.said, re.M)
     return None if ended.status == 0 or is_told else f"status {ended.status} and {(ended.output + ended.said)[-200:]!r}"
 
 
