@@ -71,7 +71,7 @@ def fault_of(word, given, whole, ended):
         is_whole = sorted(ended.output.split(b"\n")) == sorted(whole.output.split(b"\n")) if word == "trade" else ended.output == whole.output
         return None if is_whole or word == "trade" and is_right_so_far(given, ended.output) else "status 0 without the whole output"
     if (ended.status, ended.said) != (6, WANTING):
-        return f"status {ended.status} and {ended.said[-200:]!r}"
+        return f"status {ended.status} and {(ended.output + ended.said)[-200:]!r}"
     is_first_part = is_right_so_far(given, ended.output) if word == "trade" else whole.output.startswith(ended.output)
     return None if is_first_part else "what was written is no first part of the output"
 
@@ -103,8 +103,8 @@ def look_at_sessions(refuser):
 
 def fault_of_test(_, ended):
     """A test that wants memory stops at an assertion of its own; a fault of the memory itself would end it by another signal."""
-    is_stopped = ended.status == -signal.SIGABRT and b"\ntest stopped at src/" in ended.said
-    return None if ended.status == 0 or is_stopped else f"status {ended.status} and {ended.said[-200:]!r}"
+    is_stopped = ended.status == -signal.SIGABRT and b"\ntest stopped at src/" in ended.output
+    return None if ended.status == 0 or is_stopped else f"status {ended.status} and {(ended.output + ended.said)[-200:]!r}"
 
 
 def look_at_tests(refuser, crate):
