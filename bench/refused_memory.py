@@ -57,21 +57,32 @@ class Refuser:
             yield self.run(words, given, refused)
 
 
+def audit_of(session, output):
+    """The audit of the whole lines of an output, and how many these are."""
+    lines = output[: output.rfind(b"\n") + 1]
+    record = session + b"journal\n" + lines
+    return subprocess.run([PROGRAM, "audit"], input=record, capture_output=True, timeout=120), lines.count(b"\n")
+
+
+def is_journal(session, output):
+    """Whether an output is a complete journal of a session."""
+    found, _ = audit_of(session, output)
+    return found.returncode == 0 and output.endswith(b"\n")
+
+
 def is_right_so_far(session, output):
     """Whether the lines of a journal are right as far as they go: the audit wants the line behind them, or none."""
-    lines = output[: output.rfind(b"\n") + 1]
-    found = subprocess.run([PROGRAM, "audit"], input=session + b"journal\n" + lines, capture_output=True, timeout=120)
-    wanting = b"sidc: illegal entry %d\n" % (lines.count(b"\n") + 1)
-    return found.returncode == 0 or found.stderr.endswith(wanting)
+    found, count = audit_of(session, output)
+    return found.returncode == 0 or found.stderr.endswith(b"sidc: illegal entry %d\n" % (count + 1))
 
 
 def fault_of(word, given, whole, ended):
     """What is wrong with a run of a word, if anything is."""
     if ended.status == 0:
-        is_whole = sorted(ended.output.split(b"\n")) == sorted(whole.output.split(b"\n")) if word == "trade" else ended.output == whole.output
-        return None if is_whole or word == "trade" and is_right_so_far(given, ended.output) else "status 0 without the whole output"
+        is_whole = is_journal(given, ended.output) if word == "trade" else ended.output == whole.output
+        return None if is_whole else "status 0 without the whole output"
     if (ended.status, ended.said) != (6, WANTING):
-        return f"status {ended.status} and {(ended.output + ended.said)[-200:]!r}"
+        return f"status {ended.status} and {ended.said[-200:]!r}"
     is_first_part = is_right_so_far(given, ended.output) if word == "trade" else whole.output.startswith(ended.output)
     return None if is_first_part else "what was written is no first part of the output"
 
