@@ -114,6 +114,11 @@ module _ (next previous : List ℕ) where
   chain_end_apart n from to [] from_no misses c = λ e. from_no (sym c.1 ∙ e)
   chain_end_apart n from to (x ∷ xs) from_no misses c = chain_end_apart n x to xs misses.0 misses.1 c.3
 
+  -- the link from the start of a chain leads to none but its places and its end
+  pub chain_start_apart : (n from to : ℕ) (xs : List ℕ) → to ≢ n → Misses n xs → IsChain next previous from xs to → get_or next from 0 ≢ n
+  chain_start_apart n from to [] to_no misses c = λ e. to_no (sym c.0 ∙ e)
+  chain_start_apart n from to (x ∷ xs) to_no misses c = λ e. misses.0 (sym c.1 ∙ e)
+
   -- the link from the start of a chain shows its first place
   pub chain_first : (from to : ℕ) (xs : List ℕ) → 4096 ≤ to → IsChain next previous from xs to → place_at (get_or next from 0) ≡ first_in xs
   chain_first from to [] high c = rw c.0 (place_at_mark to high)

@@ -1,5 +1,5 @@
 -- What the calls of the rings read of the links and write to them.
-use Rattle.std.proofs.Common.{◌≡◌, ℕ, ◌+◌, ◌*◌, ◌^◌, ◌<◌, List, [], ◌∷◌, ◌++◌, length, get_or, set, replicate, sum_by, Option, Some, None, unwrap_or, refl, sym, ap, ◌∙◌, subst, arith}
+use Rattle.std.proofs.Common.{◌≡◌, ◌≢◌, ℕ, ◌+◌, ◌*◌, ◌^◌, ◌<◌, List, [], ◌∷◌, ◌++◌, length, get_or, set, replicate, sum_by, Option, Some, None, unwrap_or, refl, sym, ap, ◌∙◌, subst, arith}
 use Rattle.std.proofs.lemmas.List.{get_or-replicate, length-replicate}
 use Rattle.std.proofs.lemmas.List.Folds.{sum_by-replicate}
 use Rattle.order_pool.specs.Lines.{line_at, first_in, last_in, StandsIn, StandsBetween, IsRemoved, IsInserted, IsNext, IsPrevious}
@@ -7,7 +7,7 @@ use Rattle.order_pool.specs.Links.{rings_linked, IsChain, AreLinked}
 use Rattle.order_pool.specs.Rings.{AreRings}
 use Rattle.order_pool.proofs.Chains.{Misses, misses_absent, split_at, place_at, chain_first, chain_last, chain_end_bound}
 use Rattle.order_pool.proofs.Edits.{IsLinkedBetween}
-use Rattle.order_pool.proofs.RingLemmas.{ring_split, rings_linked_is, neighbours, rings_are, AreLinked-removed, AreLinked-inserted_before, AreLinked-inserted_last}
+use Rattle.order_pool.proofs.RingLemmas.{ring_split, rings_linked_is, neighbours, links_apart, rings_are, AreLinked-removed, AreLinked-inserted_before, AreLinked-inserted_last}
 
 -- links that lead from each number to itself make empty rings
 pub AreLinked-fresh : (next previous : List ℕ) (count : ℕ) → length next ≡ 4096 + count → length previous ≡ 4096 + count → 4096 + count < 2 ^ 32
@@ -55,6 +55,11 @@ module _ (next previous : List ℕ) (rings : List (List ℕ)) (linked : AreLinke
   neighbours_in k place stands =
       let parts = split_at place (line_at rings k) stands.1 in
       neighbours next previous rings linked k place parts.0 parts.1 (stands.0, parts.2)
+
+  pub apart_in : (k place : ℕ) → StandsIn rings k place → (get_or next place 0 ≢ place) × (get_or previous place 0 ≢ place)
+  apart_in k place stands =
+      let parts = split_at place (line_at rings k) stands.1 in
+      links_apart next previous rings linked k place parts.0 parts.1 (stands.0, parts.2)
 
   -- the links after a removal
   pub removed_links : (k place before after : ℕ) → StandsIn rings k place → before ≡ get_or previous place 0 → after ≡ get_or next place 0
@@ -107,6 +112,12 @@ module _ (next previous : List ℕ) (rings : List (List ℕ)) (linked : AreLinke
   behind_within k (Some after) behind within stands behind_is =
       let same : behind ≡ after = behind_is in
       omega (arith, (rings_are next previous rings linked).low k after (stands after refl))
+
+  pub behind_apart : (k : ℕ) (before : Option ℕ) (behind : ℕ) → ((after : ℕ) → before ≡ Some after → StandsIn rings k after) → behind ≡ unwrap_or before (4096 + k) → behind < 4096 → get_or previous behind 0 ≢ behind
+  behind_apart k None behind stands behind_is low = absurd (omega (arith, behind_is, low))
+  behind_apart k (Some after) behind stands behind_is low =
+      let same : behind ≡ after = behind_is in
+      rw same (apart_in k after (stands after refl)).1
 
   pub ahead_within : (k : ℕ) (before : Option ℕ) (behind ahead : ℕ) → k < length rings → ((after : ℕ) → before ≡ Some after → StandsIn rings k after) → behind ≡ unwrap_or before (4096 + k) → ahead ≡ get_or previous behind 0 → ahead < length next
   ahead_within k None behind ahead within stands behind_is ahead_is =

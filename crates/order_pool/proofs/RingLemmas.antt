@@ -7,7 +7,7 @@ use Rattle.std.proofs.lemmas.List.FromFn.{fill_by_all}
 use Rattle.order_pool.specs.Lines.{line_at, StandsBetween}
 use Rattle.order_pool.specs.Rings.{AreRings}
 use Rattle.order_pool.specs.Links.{ring_linked, rings_linked, IsChain, AreLinked}
-use Rattle.order_pool.proofs.Chains.{Misses, misses_parts, split_at, chain_split, chain_join, chain_end, chain_end_bound, chain_end_apart, chain_start, chain_start_bound, chain_misses_mark, chain_unique, walked_chain}
+use Rattle.order_pool.proofs.Chains.{Misses, misses_parts, split_at, chain_split, chain_join, chain_end, chain_end_bound, chain_end_apart, chain_start, chain_start_bound, chain_start_apart, chain_misses_mark, chain_unique, walked_chain}
 use Rattle.order_pool.proofs.OnceLemmas.{once_other, once_front, once_back}
 use Rattle.order_pool.proofs.Edits.{IsLinkedBetween, unlinked_aside, unlinked_within, IsGap, linked_aside, linked_at_end}
 
@@ -57,6 +57,15 @@ module _ (next previous : List ℕ) (rings : List (List ℕ)) (linked : AreLinke
         before_within = chain_end_bound next previous (4096 + k) place (length next) front (omega (arith, linked.length_next, stands.0)) (omega (arith, linked.length_next)) parts.0;
         after_within = chain_start_bound next previous place (4096 + k) (length previous) back (omega (arith, linked.length_previous, stands.0)) (omega (arith, linked.length_previous)) parts.2;
       }
+
+  -- the links of a place that stands in a ring lead elsewhere
+  pub links_apart : (k place : ℕ) (front back : List ℕ) → StandsBetween rings k front place back → (get_or next place 0 ≢ place) × (get_or previous place 0 ≢ place)
+  links_apart k place front back stands =
+      let parts = ring_split k place front back stands in
+      let mark : 4096 + k ≢ place = λ e. omega (arith, parts.1) in (
+        chain_start_apart next previous place place (4096 + k) back mark (misses_back k place front back stands) parts.2,
+        chain_end_apart next previous place (4096 + k) place front mark (misses_front k place front back stands) parts.0,
+      )
 
   -- new links make the rings with one of them changed, where they make that one and keep the others
   AreLinked-set : (next' previous' : List ℕ) (k : ℕ) (ring : List ℕ) → k < length rings → length next' ≡ length next → length previous' ≡ length previous → sum_by length rings + length ring ≤ 4096 + length (line_at rings k)

@@ -1,6 +1,6 @@
 //! The links of places and of marks, stored from the first on as far as they were ever set.
 
-ghost use Rattle.std.specs.Prelude.{◌≡◌, ℕ, ◌+◌, ◌<◌, ◌≤◌, ◌^◌, length, slice_index, slice_set, IfOk};
+ghost use Rattle.std.specs.Prelude.{◌≡◌, ◌≢◌, ℕ, ◌+◌, ◌<◌, ◌≤◌, ◌^◌, length, slice_index, slice_set, IfOk};
 ghost use Rattle.order_pool.specs.Rows.{padded};
 
 use crate::faults::NoMemory;
@@ -9,108 +9,41 @@ use crate::rings::PLACES;
 use std::alloc::Global;
 use std::marker::Model;
 
-/// A row of numbers, each of which is the number that its index stands for until it is set.
+/// Where the links of all places and marks lead, in one direction.
 ///
-/// Index 0 stands for the number `first`. The numbers up to the last that was ever set are stored.
+/// Each leads to its own number until it is set. Those of places, and those of marks, are stored up
+/// to the last that was ever set, so that a link that leads elsewhere is read without a test.
 #[derive(Drop)]
-pub struct Row {
-    stored: Region<u32>,
-    first: u32,
+pub struct Ends {
+    places: Region<u32>,
+    marks: Region<u32>,
 }
 
-impl Model for Row {
-    ghost use Rattle.std.specs.Prelude.{List, ℕ, ◌+◌, ◌≤◌, ◌<◌, ◌^◌, length};
+impl Model for Ends {
+    ghost use Rattle.std.specs.Prelude.{List, ℕ, ◌≡◌, ◌+◌, ◌<◌, ◌≤◌, ◌^◌, ◌++◌, length};
     ghost use Rattle.order_pool.specs.Rows.{padded};
 
     ghost Value = { List ℕ };
 
-    ghost view = { λ row. padded row.stored.items row.first row.stored.room };
+    ghost view = { λ ends. padded ends.places.items 0 ends.places.room ++ padded ends.marks.items 4096 ends.marks.room };
 
-    ghost invariant = { λ row. (length row.stored.items ≤ row.stored.room) × (row.first + row.stored.room < 2 ^ 32) };
+    ghost invariant = { λ ends. (ends.places.room ≡ 4096) × (length ends.places.items ≤ 4096) × (length ends.marks.items ≤ ends.marks.room) × (4096 + ends.marks.room < 2 ^ 32) };
 }
 
-// Stores the numbers of a row up to an index.
-fn reach(stored: &mut Region<u32>, first: u32, index: u32)
+// Puts a number at an index of a row, each of whose numbers is the one that its index stands for
+// until it is set: index 0 stands for the number `first`. The numbers up to the index are stored.
+fn store(stored: &mut Region<u32>, first: u32, index: u32, number: u32)
     requires within { index < stored.old.room }
     requires stored { length stored.old.items ≤ stored.old.room }
     requires fits { first + stored.old.room < 2 ^ 32 }
-    ensures same { padded stored.new.items first stored.new.room ≡ padded stored.old.items first stored.old.room }
-    ensures reached { index < length stored.new.items }
+    ensures set { padded stored.new.items first stored.new.room ≡ slice_set (padded stored.old.items first stored.old.room) index number }
     ensures within { length stored.new.items ≤ stored.new.room }
     ensures room { stored.new.room ≡ stored.old.room }
 {
     for made in stored.len()..index + 1 {
         stored.push(first + made);
     }
-}
-
-impl Row {
-    /// A row of so many numbers, none of which was set.
-    ///
-    /// # Errors
-    ///
-    /// [`NoMemory`] where memory runs out.
-    pub fn new(alloc: Global, first: u32, count: u32) -> Result<Row, NoMemory>
-        requires { first + count < 2 ^ 32 }
-        ensures len { IfOk result (λ row. length row ≡ count) }
-        ensures each { IfOk result (λ row. (k : ℕ) → k < count → slice_index row k ≡ first + k) }
-    {
-        let stored = Region::new(alloc, count)?;
-        Ok(Row { stored, first })
-    }
-
-    /// The same numbers again.
-    ///
-    /// # Errors
-    ///
-    /// [`NoMemory`] where memory runs out.
-    pub fn copy(&self) -> Result<Row, NoMemory>
-        ensures { IfOk result (λ row. row ≡ self.now) }
-    {
-        let stored = self.stored.copy()?;
-        Ok(Row {
-            stored,
-            first: self.first,
-        })
-    }
-
-    /// The number at an index.
-    pub fn at(&self, index: u32) -> u32
-        requires { index < length self.now }
-        ensures { result ≡ slice_index self.now index }
-    {
-        if index < self.stored.len() {
-            *self.stored.get(index)
-        } else {
-            self.first + index
-        }
-    }
-
-    /// Puts another number at an index.
-    pub fn set(&mut self, index: u32, number: u32)
-        requires { index < length self.old }
-        ensures { self.new ≡ slice_set self.old index number }
-    {
-        reach(&mut self.stored, self.first, index);
-        self.stored.set(index, number);
-    }
-}
-
-/// Where the links of all places and marks lead, in one direction.
-#[derive(Drop)]
-pub struct Ends {
-    places: Row,
-    marks: Row,
-}
-
-impl Model for Ends {
-    ghost use Rattle.std.specs.Prelude.{List, ℕ, ◌≡◌, ◌+◌, ◌<◌, ◌^◌, ◌++◌, length};
-
-    ghost Value = { List ℕ };
-
-    ghost view = { λ ends. ends.places ++ ends.marks };
-
-    ghost invariant = { λ ends. (length ends.places ≡ 4096) × (4096 + length ends.marks < 2 ^ 32) };
+    stored.set(index, number);
 }
 
 impl Ends {
@@ -124,8 +57,8 @@ impl Ends {
         ensures len { IfOk result (λ ends. length ends ≡ 4096 + marks) }
         ensures each { IfOk result (λ ends. (k : ℕ) → k < 4096 + marks → slice_index ends k ≡ k) }
     {
-        let places = Row::new(alloc, 0, PLACES)?;
-        let marks = Row::new(alloc, PLACES, marks)?;
+        let places = Region::new(alloc, PLACES)?;
+        let marks = Region::new(alloc, marks)?;
         Ok(Ends { places, marks })
     }
 
@@ -143,15 +76,37 @@ impl Ends {
         })
     }
 
-    /// Where the link of a place or of a mark leads.
+    /// Where the link of a place leads that does not lead to itself.
+    pub fn of_place(&self, place: u32) -> u32
+        requires within { place < 4096 }
+        requires apart { slice_index self.now place ≢ place }
+        ensures { result ≡ slice_index self.now place }
+    {
+        *self.places.get(place)
+    }
+
+    /// Where the link of a mark leads.
+    pub fn of_mark(&self, mark: u32) -> u32
+        requires { 4096 + mark < length self.now }
+        ensures { result ≡ slice_index self.now (4096 + mark) }
+    {
+        if mark < self.marks.len() {
+            *self.marks.get(mark)
+        } else {
+            PLACES + mark
+        }
+    }
+
+    /// Where the link of a mark leads, or that of a place which does not lead to itself.
     pub fn at(&self, number: u32) -> u32
-        requires { number < length self.now }
+        requires within { number < length self.now }
+        requires apart { number < 4096 → slice_index self.now number ≢ number }
         ensures { result ≡ slice_index self.now number }
     {
         if number < PLACES {
-            self.places.at(number)
+            self.of_place(number)
         } else {
-            self.marks.at(number - PLACES)
+            self.of_mark(number - PLACES)
         }
     }
 
@@ -161,9 +116,9 @@ impl Ends {
         ensures { self.new ≡ slice_set self.old number end }
     {
         if number < PLACES {
-            self.places.set(number, end);
+            store(&mut self.places, 0, number, end);
         } else {
-            self.marks.set(number - PLACES, end);
+            store(&mut self.marks, PLACES, number - PLACES, end);
         }
     }
 }

@@ -21,6 +21,7 @@ pub const FREE: u32 = 0;
 /// Two links lead from each place, to the place behind it and to the place ahead of it, and as many
 /// from each ring's mark, which closes it: the mark of ring `k` has the number `PLACES + k`.
 /// A link is stored when it, or one behind it, is first set; until then it leads to its own number.
+/// The links of a place that stands in a ring lead elsewhere, so that they are stored.
 #[derive(Drop)]
 pub struct Rings {
     next: Ends,
@@ -80,7 +81,7 @@ impl Rings {
         requires { ring < length self.now }
         ensures { result ≡ first_in (line_at self.now ring) }
     {
-        place_of(self.next.at(PLACES + ring))
+        place_of(self.next.of_mark(ring))
     }
 
     /// The last place of a ring, or `None` where it has none.
@@ -88,7 +89,7 @@ impl Rings {
         requires { ring < length self.now }
         ensures { result ≡ last_in (line_at self.now ring) }
     {
-        place_of(self.previous.at(PLACES + ring))
+        place_of(self.previous.of_mark(ring))
     }
 
     /// The place behind a place that stands in a ring, or `None` at the ring's end.
@@ -96,7 +97,7 @@ impl Rings {
         requires { (ring : ℕ) × StandsIn self.now ring place }
         ensures { IsNext self.now place result }
     {
-        place_of(self.next.at(place))
+        place_of(self.next.of_place(place))
     }
 
     /// The place ahead of a place that stands in a ring, or `None` at the ring's start.
@@ -104,7 +105,7 @@ impl Rings {
         requires { (ring : ℕ) × StandsIn self.now ring place }
         ensures { IsPrevious self.now place result }
     {
-        place_of(self.previous.at(place))
+        place_of(self.previous.of_place(place))
     }
 
     /// Takes a place out of its ring.
@@ -113,8 +114,8 @@ impl Rings {
         ensures removed { IsRemoved self.old self.new place }
         ensures sound { AreRings self.new }
     {
-        let before = self.previous.at(place);
-        let after = self.next.at(place);
+        let before = self.previous.of_place(place);
+        let after = self.next.of_place(place);
         self.next.set(before, after);
         self.previous.set(after, before);
     }

@@ -1,16 +1,21 @@
 use Rattle.std.proofs.Common.{◌≡◌, ◌+◌, ◌<◌, length, get_or, arith}
 use Rattle.order_pool.proofs.RingLemmas.{rings_are}
-use Rattle.order_pool.proofs.RingCalls.{linked_as, behind_within, ahead_within, inserted_links}
+use Rattle.order_pool.proofs.RingCalls.{linked_as, behind_within, behind_apart, ahead_within, inserted_links}
 use Rattle.order_pool.proofs.rings.Rings.insert.Goals as goal
 
 pub overflow_add-ring : goal.overflow_add-ring
 overflow_add-ring c = omega (arith, c.requires.sound.fits, c.requires.within)
 
-pub at-before-requires : goal.at-before-requires
-at-before-requires c =
+pub at-before-requires-clause-within : goal.at-before-requires-clause-within
+at-before-requires-clause-within c =
     let linked = linked_as c.self.inside.next c.self.inside.previous c.args.self.now c.self.view_is c.self.invariant in
     let within : c.unwrap_or-after.result < 4096 + length c.args.self.now = behind_within c.self.inside.next c.self.inside.previous c.args.self.now linked c.args.ring c.args.before c.unwrap_or-after.result c.requires.within c.requires.before c.unwrap_or-after.ensures in
     omega (arith, within, linked.length_previous)
+
+pub at-before-requires-clause-apart : goal.at-before-requires-clause-apart
+at-before-requires-clause-apart c =
+    let linked = linked_as c.self.inside.next c.self.inside.previous c.args.self.now c.self.view_is c.self.invariant in
+    behind_apart c.self.inside.next c.self.inside.previous c.args.self.now linked c.args.ring c.args.before c.unwrap_or-after.result c.requires.before c.unwrap_or-after.ensures
 
 pub set-requires : goal.set-requires
 set-requires c =

@@ -3,14 +3,14 @@ use Rattle.order_pool.proofs.Chains.{place_at}
 use Rattle.order_pool.proofs.RingCalls.{linked_as, last_shown}
 use Rattle.order_pool.proofs.rings.Rings.last.Goals as goal
 
-pub at-requires : goal.at-requires
-at-requires c =
+pub of_mark-requires : goal.of_mark-requires
+of_mark-requires c =
     let linked = linked_as c.self.inside.next c.self.inside.previous c.args.self.now c.self.view_is c.self.invariant in
     omega (arith, linked.length_previous, c.requires)
 
 pub returns : goal.returns
 returns c =
     let linked = linked_as c.self.inside.next c.self.inside.previous c.args.self.now c.self.view_is c.self.invariant in
-    let read : c.at.result ≡ get_or c.self.inside.previous (4096 + c.args.ring) 0 =
-    c.at.ensures in
+    let read : c.of_mark.result ≡ get_or c.self.inside.previous (4096 + c.args.ring) 0 =
+    c.of_mark.ensures in
     c.place_of.ensures ∙ ap place_at read ∙ last_shown c.self.inside.next c.self.inside.previous c.args.self.now linked c.args.ring c.requires

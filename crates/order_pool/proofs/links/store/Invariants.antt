@@ -1,6 +1,6 @@
 use Rattle.std.proofs.Common.{◌≡◌, ◌≤◌, length}
 use Rattle.order_pool.specs.Rows.{padded}
-use Rattle.order_pool.proofs.links.reach.Given as goal
+use Rattle.order_pool.proofs.links.store.Given as goal
 
 -- what is stored so far shows the same row
 abbrev pub invariant-loop-made : goal.invariant-loop-made
