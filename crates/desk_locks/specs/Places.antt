@@ -1,11 +1,11 @@
 -- The places of a row of desks, and when a desk and its seat are in their place.
-use Rattle.std.specs.Prelude.{◌≡◌, ℕ, ◌≤◌, List, [], length, map, None}
+use Rattle.std.specs.Prelude.{◌≡◌, ℕ, List, [], map, None}
 use Rattle.order_kinds.specs.Period.{hours_from}
 use Rattle.zone_graph.specs.Graph.{Graph}
 use Rattle.market_model.specs.Concerned.{left_for}
 use Rattle.market_model.specs.Grid.{graph_of}
-use Rattle.market_model.specs.History.{entered_count}
 use Rattle.basket_match.specs.Desk.{DeskState}
+use Rattle.trade_journal.specs.Journals.{IsJournal}
 use Rattle.journal_front.specs.Fronts.{DeskSeatState, FrontState, IsDeskOf, desk_of}
 
 -- a place of a row: the front whose seats the row has, and the hour
@@ -34,13 +34,13 @@ abbrev pub IsGridOf : FrontState → Graph → Type 0
 IsGridOf front graph = graph ≡ graph_of front.setup
 
 -- a desk and a seat are in their place: nothing is planned, both are of its hour, the seat is of its front and
--- the desk over the front's grid, what is settled is what the entries of the seat's list leave for the hour, and
--- no more orders and blocks entered by it than the list has entries
+-- the desk over the front's grid, the seat's list is a legal journal of the front's setup, and what is settled is
+-- what this journal leaves for the hour
 pub record AreInPlace (place : Place) (desk : DeskState) (seat : DeskSeatState) : Type 0 where
   pub unplanned : desk.planned ≡ None
   pub desk_hour : desk.hour ≡ place.hour
   pub seat_hour : seat.hour ≡ place.hour
   pub own : IsDeskOf place.front seat
   pub over : IsGridOf place.front desk.grid
+  pub journal : IsJournal (record { setup = place.front.setup; entries = seat.entries })
   pub left : desk.settled ≡ left_for place.hour seat.entries
-  pub few : entered_count desk.settled ≤ length seat.entries

@@ -1,5 +1,5 @@
 -- Commands are given one after the other.
-use Rattle.std.proofs.Common.{◌≡◌, ◌∙◌, ℕ, ◌+◌, ◌<◌, List, [], ◌∷◌, ◌++◌, append_assoc, drop, get_or, length, take, take-append-drop, refl, sym, ap, ap₂, subst, arith}
+use Rattle.std.proofs.Common.{◌≡◌, ◌≢◌, ◌∙◌, ℕ, ◌+◌, ◌<◌, List, [], ◌∷◌, ◌++◌, append_assoc, drop, get_or, length, take, take-append-drop, refl, sym, ap, ap₂, subst, arith}
 use Rattle.std.proofs.lemmas.List.{append-nil, length-append, length-map, length-take-le, map-append, take_more}
 use Rattle.market_model.specs.declared.command.Command.{Command}
 use Rattle.market_model.specs.declared.entry.Entry.{Entry}
@@ -21,8 +21,21 @@ gave-none pass = record {
   gave = refl;
   later = [];
   seen = sym (append-nil pass.seen);
-  legal = λ before. before;
+  legal = λ some. absurd (some refl);
+  none = λ same. refl;
 }
+
+-- what there is where some commands, or others behind them, were given
+gave-legal : (first next : List Command) (old between new : PassState) → GaveAll first old between → GaveAll next between new → first ++ next ≢ []
+    → IsJournal (record { setup = new.setup; entries = new.seen })
+gave-legal first [] old between new one two some =
+    subst (λ (p : PassState). IsJournal (record { setup = p.setup; entries = p.seen })) (sym (two.none refl))
+    (one.legal (λ none. some (append-nil first ∙ none)))
+gave-legal first (given ∷ next) old between new one two some = two.legal (λ none. cc)
+
+gave-nothing : (first next : List Command) (old between new : PassState) → GaveAll first old between → GaveAll next between new → first ++ next ≡ [] → new ≡ old
+gave-nothing [] next old between new one two none = two.none none ∙ one.none refl
+gave-nothing (given ∷ first) next old between new one two none = cc
 
 -- some commands, and then others
 pub gave-more : (first next : List Command) (old between new : PassState) → GaveAll first old between → GaveAll next between new → GaveAll (first ++ next) old new
@@ -36,7 +49,8 @@ gave-more first next old between new one two = record {
   gave = map-append (λ (e : Entry). e.command) one.made two.made ∙ ap₂ ◌++◌ one.gave two.gave;
   later = one.later ++ two.later;
   seen = two.seen ∙ ap (λ es. es ++ two.later) one.seen ∙ append_assoc old.seen one.later two.later;
-  legal = λ before. two.legal (one.legal before);
+  legal = gave-legal first next old between new one two;
+  none = gave-nothing first next old between new one two;
 }
 
 -- a command that was submitted was given
@@ -54,7 +68,8 @@ gave-submitted given receipt old new is =
       gave = refl;
       later = is.others ++ entry ∷ [];
       seen = ap (λ (p : PassState). p.seen) is.pass ∙ append_assoc old.seen is.others (entry ∷ []);
-      legal = λ before. subst (λ (s : Setup). IsJournal (record { setup = s; entries = new.seen })) (sym same_setup) is.legal;
+      legal = λ some. subst (λ (s : Setup). IsJournal (record { setup = s; entries = new.seen })) (sym same_setup) is.legal;
+      none = λ none. cc;
     }
 
 module _ (commands : List Command) (count : ℕ) (old now : PassState) (so_far : GaveAll (take count commands) old now) (within : count < length commands) where

@@ -1,5 +1,5 @@
 -- What a caller's pass is once commands were given with it.
-use Rattle.std.specs.Prelude.{◌≡◌, ℕ, ◌+◌, ◌≤◌, List, ◌++◌, length, map}
+use Rattle.std.specs.Prelude.{◌≡◌, ◌≢◌, ℕ, ◌+◌, ◌≤◌, List, [], ◌++◌, length, map}
 use Rattle.market_model.specs.declared.command.Command.{Command}
 use Rattle.market_model.specs.declared.entry.Entry.{Entry}
 use Rattle.trade_journal.specs.Journals.{IsJournal, room_of_caller}
@@ -10,8 +10,8 @@ abbrev pub HasRoomFor : PassState → ℕ → Type 0
 HasRoomFor pass count = length pass.mine + count ≤ room_of_caller pass.setup pass.caller
 
 -- commands were given with a pass: its caller's entries grew by those of these commands, in their order; it is the
--- same caller's pass, which has seen more, and was told no more; what it has seen is a legal journal, where what it had
--- seen was one
+-- same caller's pass, which has seen more, and was told no more; what it has seen is a legal journal; where there were
+-- no commands it is as it was
 pub record GaveAll (commands : List Command) (old new : PassState) : Type 0 where
   pub same_front : new.front ≡ old.front
   pub same_setup : new.setup ≡ old.setup
@@ -22,7 +22,8 @@ pub record GaveAll (commands : List Command) (old new : PassState) : Type 0 wher
   pub gave : map (λ entry. entry.command) made ≡ commands
   pub later : List Entry
   pub seen : new.seen ≡ old.seen ++ later
-  pub legal : IsJournal (record { setup = old.setup; entries = old.seen }) → IsJournal (record { setup = new.setup; entries = new.seen })
+  pub legal : commands ≢ [] → IsJournal (record { setup = new.setup; entries = new.seen })
+  pub none : commands ≡ [] → new ≡ old
 
 -- a first part of some commands was given
 pub record GaveSome (commands : List Command) (old new : PassState) : Type 0 where

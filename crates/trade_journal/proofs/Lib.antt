@@ -1,2 +1,2 @@
 pub mod Rooms
-mod Pushed
+pub mod Pushed

@@ -2,6 +2,7 @@
 
 ghost use Rattle.std.specs.Prelude.{◌≡◌, ◌<◌, ◌≤◌, ◌^◌, length};
 ghost use Rattle.std.specs.Borrow.{Lends, sem};
+ghost use Rattle.market_model.specs.Concerned.{entries_by};
 ghost use Rattle.journal_front.specs.contracts.seats.PassSeat as seat;
 ghost use Rattle.trader_pass.specs.contracts.pass.Pass.{the_row};
 ghost use Rattle.trader_pass.specs.Passes.{pass_of_seat};
@@ -54,6 +55,7 @@ impl Pass {
     /// How many of the entries that the pass has seen are the caller's own.
     pub fn made(&self) -> u32
         ensures made { result ≡ length self.now.mine }
+        ensures own { self.now.mine ≡ entries_by self.now.caller self.now.seen }
         ensures short { length self.now.seen ≤ 2 ^ 31 }
     {
         self.seat.made()

@@ -122,7 +122,7 @@ module _ (front : FrontState) (is_open : IsOpenSetup front.setup) (seat : Journa
         let now : AllInPlace (map (place_at front) hours) (map carried (planning_all planned.before (events_of entry.reply))) (map (with_entries longer) held.seats) =
         subst (λ (es : List Entry). AllInPlace (map (place_at front) hours) (map carried (planning_all planned.before (events_of entry.reply))) (map (with_entries (es ++ entry ∷ [])) held.seats))
         (sym shared.same_entries)
-        (settled-in-place front journal.entries entry is_open.is_setup legal longer-legal hours planned.before held.seats were desks-now) in
+        (settled-in-place front journal.entries entry is_open.is_setup legal longer-journal hours planned.before held.seats were desks-now) in
         let places : new.places ≡ map (place_at front) hours =
         ap (λ (h : HeldState). h.places) others ∙ ap (λ (h : HeldState). h.places) rest ∙ places-are in
         let desks : new.desks ≡ map carried (planning_all planned.before (events_of entry.reply)) =
@@ -132,10 +132,11 @@ module _ (front : FrontState) (is_open : IsOpenSetup front.setup) (seat : Journa
         (subst (λ (ds : List DeskState). AllInPlace (map (place_at front) hours) ds new.seats) (sym desks)
         (subst (AllInPlace (map (place_at front) hours) (map carried (planning_all planned.before (events_of entry.reply)))) (sym own_seats) now))
       where
-        longer-legal : IsLegal front.setup (journal.entries ++ entry ∷ [])
-        longer-legal =
-            subst (λ (s : Setup). IsLegal s (journal.entries ++ entry ∷ [])) setup-is
-            (subst (IsLegal after.setup) (ap (λ (j : JournalState). j.entries) grown) still.legal)
+        after-is : after ≡ record { setup = front.setup; entries = journal.entries ++ entry ∷ [] }
+        after-is = λ i. record { setup = setup-is i; entries = (grown i).entries }
+
+        longer-journal : IsJournal (record { setup = front.setup; entries = journal.entries ++ entry ∷ [] })
+        longer-journal = subst IsJournal after-is still
 
     -- and the pass has got its receipt
     pub submitted : (new : PassState) (own_after : PassSeatState) (place : ℕ) → new ≡ pass_of_seat own_after

@@ -1,6 +1,7 @@
 -- Desks that are held in their places, and their seats: what they stand after, what they plan, and what they are once
 -- it is settled.
 use Rattle.std.proofs.Common.{◌≡◌, ◌∙◌, inl, inr, ℕ, ◌≤◌, List, [], ◌∷◌, ◌++◌, filter, length, map, refl, sym, ap, arith, subst}
+use Rattle.std.proofs.lemmas.List.{append-nil}
 use Rattle.std.proofs.lemmas.List.Elements.{filter-append}
 use Rattle.order_kinds.specs.Period.{hours_from}
 use Rattle.zone_graph.specs.Graph.{Graph}
@@ -29,10 +30,11 @@ use Rattle.desk_locks.specs.Rows.{AreReady, IsJournalOf, dropped, planning_all}
 use Rattle.trade_journal.proofs.Rooms.{entries-fit}
 use Rattle.desk_locks.specs.Held.{AllInPlace, AreHeld, HeldState}
 use Rattle.desk_locks.specs.Places.{AreInPlace, Place, place_at, row_of}
-use Rattle.venue_core.specs.Planning.{IsHeldFor}
+use Rattle.venue_core.specs.Planning.{ArePlaced, IsHeldFor}
 use Rattle.venue_core.specs.Setups.{IsOpenSetup}
 use Rattle.venue_core.specs.Shared.{AreOfOneJournal}
 use Rattle.venue_core.proofs.Counted.{left-few}
+use Rattle.trade_journal.specs.Journals.{IsJournal}
 use Rattle.venue_core.proofs.Journals.{current-left, current-length}
 
 -- ---- the places that are held
@@ -104,6 +106,26 @@ module _ (front : FrontState) where
           sym (beside.3.left ∙ current-left front.setup is_setup entries legal desk.hour beside.0.entries now);
     }
 
+  -- a desk alone stands after the journal in its seat's list
+  alone : (hours : List ℕ) (desks : List DeskState) (own : List DeskSeatState) → AllInPlace (places_of hours) desks own → length desks ≡ 1
+      → AreOfOneJournal front own
+  alone (hour ∷ []) (desk ∷ []) (seat ∷ []) all one = record {
+    entries = seat.entries;
+    journal = all.0.journal;
+    current = λ other there. elim there [
+      | inl same ↦ subst (λ (s : DeskSeatState). IsCurrent front.setup (who.Hour s.hour) s.entries seat.entries) (sym same)
+          (record { later = []; whole = sym (append-nil seat.entries); quiet = refl })
+      | inr none ↦ absurd none
+    ];
+  }
+  alone (hour ∷ []) (desk ∷ []) [] all one = absurd all.1
+  alone (hour ∷ []) (desk ∷ []) (seat ∷ other ∷ own) all one = absurd all.1
+  alone (hour ∷ next ∷ hours) (desk ∷ []) [] all one = absurd all
+  alone (hour ∷ next ∷ hours) (desk ∷ []) (seat ∷ own) all one = absurd all.1
+  alone hours [] own all one = absurd (omega (arith, one))
+  alone hours (desk ∷ other ∷ desks) own all one = absurd (omega (arith, one))
+  alone [] (desk ∷ []) own all one = absurd all
+
   -- so a command may be planned on them
   pub are-ready : (hours : List ℕ) (desks : List DeskState) (own : List DeskSeatState) (graph : Graph) → AllInPlace (places_of hours) desks own
       → graph ≡ graph_of front.setup → IsOpenSetup front.setup → AreOfOneJournal front own → AreReady front.setup graph desks
@@ -112,7 +134,8 @@ module _ (front : FrontState) where
     over = λ desk there. (seat-beside hours desks own all desk there).3.over ∙ sym over;
     numbers = λ desk there.
         let beside = seat-beside hours desks own all desk there in
-        let few = beside.3.few in
+        let few = subst (λ (es : List Event). entered_count es ≤ length beside.0.entries) (sym beside.3.left)
+        (left-few desk.hour front.setup beside.0.entries beside.3.journal.legal) in
         let named = entered_in-few desk.settled desk.hour in
         let long = current-length front.setup (who.Hour beside.0.hour) beside.0.entries one.entries (one.current beside.0 beside.1) in
         let most = entries-fit front.setup one.entries one.journal.callers one.journal.within in
@@ -120,6 +143,17 @@ module _ (front : FrontState) where
         omega (arith, few, named, long, most, rooms);
     place = record { entries = one.entries; journal = after-journal hours desks own all one.entries one.journal.legal is_open.is_setup one.current };
   }
+
+  -- ---- what is held, whatever its hours
+
+  placed : (held : HeldState) → (is : ArePlaced front held) → AllInPlace (places_of is.hours) held.desks held.seats
+  placed held is = subst (λ (places : List Place). AllInPlace places held.desks held.seats) is.places is.all_in_place
+
+  pub placed-own : (held : HeldState) → ArePlaced front held → (seat : DeskSeatState) → IsIn seat held.seats → IsDeskOf front seat
+  placed-own held is = seats-own is.hours held.desks held.seats (placed held is)
+
+  pub placed-alone : (held : HeldState) → ArePlaced front held → length held.desks ≡ 1 → AreOfOneJournal front held.seats
+  placed-alone held is = alone is.hours held.desks held.seats (placed held is)
 
   -- ---- what they plan is dropped
 
@@ -134,8 +168,8 @@ module _ (front : FrontState) where
         seat_hour = was.seat_hour;
         own = was.own;
         over = was.over;
+        journal = was.journal;
         left = was.left;
-        few = was.few;
       } in
       (here, dropped-in-place hours desks own all.1)
   dropped-in-place _ _ _ all = absurd all
@@ -157,7 +191,7 @@ module _ (front : FrontState) where
       ap (of_hour hour) (journal_events-more entries entry) ∙ filter-append (touches hour) (journal_events entries) (events_of entry.reply)
 
   module _ (entries : List Entry) (entry : Entry) (is_setup : IsMarketSetup front.setup) (legal : IsLegal front.setup entries)
-      (longer : IsLegal front.setup (entries ++ entry ∷ [])) where
+      (longer : IsJournal (record { setup = front.setup; entries = entries ++ entry ∷ [] })) where
     abbrev whole : List Entry
     whole = entries ++ entry ∷ []
 
@@ -180,8 +214,8 @@ module _ (front : FrontState) where
           seat_hour = was.seat_hour;
           own = record { same_front = was.own.same_front; same_setup = was.own.same_setup; in_place = was.own.in_place };
           over = was.over;
+          journal = longer;
           left = left;
-          few = subst (λ (es : List Event). entered_count es ≤ length whole) (sym left) (left-few hour front.setup whole longer);
         } in
         (here, settled-in-place hours desks own all.1 (λ other there. current other (inr there)))
     settled-in-place _ _ _ all current = absurd all

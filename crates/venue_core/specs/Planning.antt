@@ -24,6 +24,12 @@ pub record IsHeldFor (front : FrontState) (caller : ℕ) (given : Command) (held
   pub places : held.places ≡ map (place_at front) (hours_asked front.setup caller given)
   pub all_in_place : IsAllInPlace held
 
+-- desks of some hours of a front are held, and each is in its place
+pub record ArePlaced (front : FrontState) (held : HeldState) : Type 0 where
+  pub hours : List ℕ
+  pub places : held.places ≡ map (place_at front) hours
+  pub all_in_place : IsAllInPlace held
+
 -- they were in their places, and each plans now what a reply has of its hour: the market's reply after every legal
 -- journal after which they stand
 pub record IsPlannedFor (front : FrontState) (caller : ℕ) (given : Command) (reply : Reply) (held : HeldState) : Type 0 where

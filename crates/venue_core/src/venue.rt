@@ -12,7 +12,7 @@ ghost use Rattle.desk_locks.specs.Held.{IsAllInPlace};
 ghost use Rattle.trade_journal.specs.Journals.{IsJournal, room_of_caller};
 ghost use Rattle.trader_pass.specs.declared.pass.Pass.{Pass};
 ghost use Rattle.trader_pass.specs.Passes.{IsOf};
-ghost use Rattle.venue_core.specs.Planning.{IsHeldFor, IsPlannedFor};
+ghost use Rattle.venue_core.specs.Planning.{ArePlaced, IsHeldFor, IsPlannedFor};
 ghost use Rattle.venue_core.specs.Setups.{IsVenueSetup};
 ghost use Rattle.venue_core.specs.Shared.{AreOfOneJournal};
 ghost use Rattle.venue_core.specs.Submitting.{IsCause, IsSubmitted};
@@ -22,7 +22,7 @@ use crate::faults::{OpenFault, SubmitFault};
 use crate::passes::{Passes, passes_of, seats_of};
 use crate::planning::plan_held;
 use crate::shared::SharedJournal;
-use desk_locks::{DeskRow, Held, refuse, undo_all};
+use desk_locks::{DeskRow, Desks, Held, refuse, undo_all};
 use journal_front::{Front, PassSeat};
 use kept_lock::KeptLock;
 use market_model::{Command, Duplicate, Entry, Reply, Setup, refuse_early, touches};
@@ -107,9 +107,9 @@ impl Venue {
     /// Submits a command with its caller's pass: it gets an entry in the journal, with the market's reply at that place,
     /// and the pass has then seen the journal up to it.
     ///
-    /// It waits until the hours that the command touches are free, and then the journal. The gate is told of the first
-    /// of these hours, or of 0 where there is none: once they are held and the reply is planned, and once they are
-    /// given back.
+    /// It waits until the hours that the command touches are free, and then the journal; for a command of several hours
+    /// once more before its reply is planned. The gate is told of the first of these hours, or of 0 where there is none:
+    /// once they are held and the reply is planned, and once they are given back.
     ///
     /// # Errors
     ///
@@ -130,7 +130,7 @@ impl Venue {
         ensures unchanged { OnErr result (pass.new ≡ pass.old) }
     {
         let caller = pass.caller();
-        let made = made_of(pass);
+        let made = pass.made();
         if made == self.room_of(caller) {
             return Err(SubmitFault::JournalFull { entries: made });
         }
@@ -255,13 +255,16 @@ impl Venue {
         }
     }
 
-    // Tells of the desks that are held that they stand after one legal journal: it waits until the journal is free, and
-    // compares their seats with it.
+    // Tells of the desks that are held that they stand after one legal journal. Of a desk alone its seat promises it;
+    // the seats of several are compared with the journal, for which it waits until the journal is free.
     fn compare<R: Wait>(&self, rt: &R, held: &mut Held)
-        requires { (seat : DeskSeat) → IsIn seat held.old.seats → IsDeskOf self.now seat }
+        requires { ArePlaced self.now held.old }
         ensures held { held.new ≡ held.old }
         ensures journal { AreOfOneJournal self.now held.old.seats }
     {
+        if Desks::len(held) == 1 {
+            return;
+        }
         let (mut shared, duty) = self.lock.take(rt);
         shared.compare(&self.front, held);
         self.lock.give(shared, duty);
@@ -306,13 +309,4 @@ fn room_for_seats(alloc: Global, callers: usize) -> Result<Vec<PassSeat>, NoMemo
     ensures room { IfOk result (λ seats. callers ≤ vec_capacity seats) }
 {
     Ok(Vec::with_capacity(alloc, callers)?)
-}
-
-// How many entries a pass's caller has of those that the pass has seen.
-fn made_of(pass: &mut Pass) -> u32
-    ensures made { result ≡ length pass.old.mine }
-    ensures few { result ≤ 2 ^ 31 }
-    ensures same { pass.new ≡ pass.old }
-{
-    pass.seat_mut().made()
 }

@@ -2,11 +2,16 @@ use Rattle.std.proofs.Common.{◌≡◌, ◌∙◌, ap, sym}
 use Rattle.market_model.specs.declared.setup.Setup.{Setup}
 use Rattle.market_model.specs.Rules.{early_refusal}
 use Rattle.journal_front.specs.Fronts.{FrontState}
-use Rattle.venue_core.proofs.Plans.{held-own, now-refused}
+use Rattle.venue_core.specs.Planning.{hours_asked}
+use Rattle.venue_core.proofs.Plans.{now-refused}
 use Rattle.venue_core.proofs.venue.Venue.plan.Goals as goal
 
 pub compare-requires : goal.compare-requires
-compare-requires g c = held-own c.args.self.now c.args.caller c.args.command.now c.args.held.now c.requires.held
+compare-requires g c = record {
+  hours = hours_asked c.args.self.now.setup c.args.caller c.args.command.now;
+  places = c.requires.held.places;
+  all_in_place = c.requires.held.all_in_place;
+}
 
 -- a command that breaks a rule by itself is refused after every journal
 pub returns-in-Some-clause-planned : goal.returns-in-Some-clause-planned
