@@ -6,8 +6,8 @@ use prog.Atomic.{either}
 use lib.ListN.{get_elem?}
 use Rattle.atomic_table.proofs.Lists.{at_set, at_snoc}
 use Rattle.atomic_table.specs.Table.{Act, Me, Step, takes, gives, keeps, Allows, rest, step, stepped, Valid, carried_after}
-use Rattle.kept_lock.specs.Lock.{IsKept, given, tried}
-use Rattle.kept_lock.specs.Steps.{MakingKeeps, SittingKeeps, TakingKeeps, GivingKeeps}
+use Rattle.kept_lock.specs.Lock.{IsBusy, IsKept, given, tried}
+use Rattle.kept_lock.specs.Steps.{MakingKeeps, SittingKeeps, TakingKeeps, AskingKeeps, GivingKeeps}
 
 -- each view is the key
 abbrev AllKnow : {K : Type 0} → K → List K → Type 0
@@ -31,27 +31,52 @@ module _ {K T : Type 0} (promise : K → T → Type 0) where
   pub sitting : SittingKeeps promise
   sitting key slots state kept length_is bound = (key, record { place = kept.place; views = more_know key state.views kept.views }, refl)
 
-  -- what a try asks of a state, by its parts
-  abbrev Tries : K → ℕ → ℕ → List ℕ → List (mathlib_option.Option (Option T)) → List K → Type 0
-  Tries key slots id words homes views = (view : K) × (act : Act (Option T)) × Valid homes [] act
-      × IsKept promise key (stepped (record { words = words; homes = homes; views = views }) 0 (either (slice_index words 0 == 0) 1 (slice_index words 0)) id [] view act)
-      × tried promise (step slots 0 0 1 none) (key, []) (slice_index words 0) (view, carried_after [] act)
+  -- what a try asks of a state, by its parts: it leaves another word
+  abbrev Tries : (next : ℕ → ℕ) → Step (Option T) → K → ℕ → List ℕ → List (mathlib_option.Option (Option T)) → List K → Type 0
+  Tries next turn key id words homes views = (view : K) × (act : Act (Option T)) × Valid homes [] act
+      × IsKept promise key (stepped (record { words = words; homes = homes; views = views }) 0 (next (slice_index words 0)) id [] view act)
+      × tried promise turn (key, []) (slice_index words 0) (view, carried_after [] act)
 
-  try_free : (key : K) (slots id : ℕ) (views : List K) (value : T) → AllKnow key views → promise key value
-      → Tries key slots id (0 ∷ []) (some (Some value) ∷ []) views
-  try_free key slots id views value known promised =
-      (key, takes 0 (Some value), refl, record { place = inr (refl, refl); views = still_know key views id known }, (value, refl, promised))
+  -- where each word that is left says that the lock is taken
+  module _ (next : ℕ → ℕ) (from_free : IsBusy (next 0)) (from_taken : (word : ℕ) → IsBusy word → IsBusy (next word)) (turn : Step (Option T))
+      (key : K) (slots id : ℕ) where
+    try_free : (views : List K) (value : T) → AllKnow key views → promise key value → Tries next turn key id (0 ∷ []) (some (Some value) ∷ []) views
+    try_free views value known promised = (
+      key,
+      takes 0 (Some value),
+      refl,
+      record { place = inr (next 0, from_free, refl, refl); views = still_know key views id known },
+      (value, refl, promised),
+    )
 
-  try_taken : (key : K) (slots id : ℕ) (views : List K) → AllKnow key views → Tries key slots id (1 ∷ []) (none ∷ []) views
-  try_taken key slots id views known = (key, keeps, tt, record { place = inr (refl, refl); views = still_know key views id known }, refl)
+    not_got : (word : ℕ) → IsBusy word → tried promise turn (key, []) word (key, [])
+    not_got word (inl one) = subst (λ n. tried promise turn (key, []) n (key, [])) (sym one) refl
+    not_got word (inr two) = subst (λ n. tried promise turn (key, []) n (key, [])) (sym two) refl
+
+    try_taken : (views : List K) (word : ℕ) → AllKnow key views → IsBusy word → Tries next turn key id (word ∷ []) (none ∷ []) views
+    try_taken views word known busy =
+        (key, keeps, tt, record { place = inr (next word, from_taken word busy, refl, refl); views = still_know key views id known }, not_got word busy)
+
+    trying : Allows (IsKept promise key) slots id (key, []) 0 next (tried promise turn (key, []))
+    trying state kept length_is at bound = ⊎_elim
+        (λ free. subst (λ words. Tries next turn key id words state.homes state.views) (sym free.1)
+        (subst (λ homes. Tries next turn key id (0 ∷ []) homes state.views) (sym free.2) (try_free state.views free.0 kept.views free.3)))
+        (λ taken. subst (λ words. Tries next turn key id words state.homes state.views) (sym taken.2)
+        (subst (λ homes. Tries next turn key id (taken.0 ∷ []) homes state.views) (sym taken.3) (try_taken state.views taken.0 kept.views taken.1)))
+        kept.place
+
+  abbrev taken_next : ℕ → ℕ
+  taken_next word = either (word == 0) 1 word
+
+  stays_busy : (word : ℕ) → IsBusy word → IsBusy (taken_next word)
+  stays_busy word (inl one) = subst (λ n. IsBusy (taken_next n)) (sym one) (inl refl)
+  stays_busy word (inr two) = subst (λ n. IsBusy (taken_next n)) (sym two) (inr refl)
 
   pub taking : TakingKeeps promise
-  taking key slots id state kept length_is at bound = ⊎_elim
-      (λ free. subst (λ words. Tries key slots id words state.homes state.views) (sym free.1)
-      (subst (λ homes. Tries key slots id (0 ∷ []) homes state.views) (sym free.2) (try_free key slots id state.views free.0 kept.views free.3)))
-      (λ taken. subst (λ words. Tries key slots id words state.homes state.views) (sym taken.0)
-      (subst (λ homes. Tries key slots id (1 ∷ []) homes state.views) (sym taken.1) (try_taken key slots id state.views kept.views)))
-      kept.place
+  taking key slots id = trying taken_next (inl refl) stays_busy (step slots 0 0 1 none) key slots id
+
+  pub asking : AskingKeeps promise
+  asking key slots id = trying (λ word. 2) (inr refl) (λ word busy. inr refl) (step slots 0 2 0 none) key slots id
 
   -- after the lock is given back it is free, whatever it was
   give_back : (key : K) (value : T) (id : ℕ) (words : List ℕ) (homes : List (mathlib_option.Option (Option T))) (views : List K) (word : ℕ) (home : mathlib_option.Option (Option T))
@@ -69,7 +94,7 @@ module _ {K T : Type 0} (promise : K → T → Type 0) where
     tt,
     ⊎_elim
         (λ free. give_back key value id state.words state.homes state.views 0 (some (Some free.0)) free.1 free.2 kept.views promised)
-        (λ taken. give_back key value id state.words state.homes state.views 1 none taken.0 taken.1 kept.views promised)
+        (λ taken. give_back key value id state.words state.homes state.views taken.0 none taken.2 taken.3 kept.views promised)
         kept.place,
     refl,
   )
@@ -86,6 +111,13 @@ module _ {K T : Type 0} (promise : K → T → Type 0) where
       (λ seat. Allows (IsKept promise key) slots id seat 0 (λ word. either (word == 0) 1 word) (tried promise (step slots 0 0 1 none) seat))
       (sym seated)
       (taking key slots id)
+
+  pub asking_by : (key : K) (slots id : ℕ) (me : Me (Option T) K) → me ≡ (key, [])
+      → Allows (IsKept promise key) slots id me 0 (λ word. 2) (tried promise (step slots 0 2 0 none) me)
+  asking_by key slots id me seated = subst
+      (λ seat. Allows (IsKept promise key) slots id seat 0 (λ word. 2) (tried promise (step slots 0 2 0 none) seat))
+      (sym seated)
+      (asking key slots id)
 
   pub giving_by : (key : K) (value : T) (slots id : ℕ) (me : Me (Option T) K) → me ≡ (key, (0, Some value) ∷ []) → promise key value
       → Allows (IsKept promise key) slots id me 0 (λ word. 0) (given (step slots 0 0 0 none) me)

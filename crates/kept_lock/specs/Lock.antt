@@ -14,9 +14,13 @@ pub record Keyed (K : Type 0) : Type 0 where
 abbrev pub IsFree : {K T : Type 0} → (K → T → Type 0) → K → State (Option T) K → Type 0
 IsFree {K} {T} keeps key state = (value : T) × (state.words ≡ 0 ∷ []) × (state.homes ≡ some (Some value) ∷ []) × keeps key value
 
--- the lock is taken: the word is 1, and the value is with who took it
+-- the word of a lock that is taken: 2 where others may sleep until it is free
+abbrev pub IsBusy : ℕ → Type 0
+IsBusy word = (word ≡ 1) ⊎ (word ≡ 2)
+
+-- the lock is taken: the word says so, and the value is with who took it
 abbrev pub IsTaken : {K T : Type 0} → State (Option T) K → Type 0
-IsTaken state = (state.words ≡ 1 ∷ []) × (state.homes ≡ none ∷ [])
+IsTaken state = (word : ℕ) × IsBusy word × (state.words ≡ word ∷ []) × (state.homes ≡ none ∷ [])
 
 -- the rule: the lock is free or taken, and each seat knows the key
 pub record IsKept {K T : Type 0} (keeps : K → T → Type 0) (key : K) (state : State (Option T) K) : Type 0 where

@@ -20,6 +20,11 @@ abbrev pub TakingKeeps : {K T : Type 0} → (K → T → Type 0) → Type 0
 TakingKeeps {K} {T} keeps = (key : K) (slots id : ℕ)
     → Allows (IsKept keeps key) slots id (key, []) 0 (λ word. either (word == 0) 1 word) (tried keeps (step slots 0 0 1 none) (key, []))
 
+-- a swap of the word for 2 takes the slot where it is at home
+abbrev pub AskingKeeps : {K T : Type 0} → (K → T → Type 0) → Type 0
+AskingKeeps {K} {T} keeps = (key : K) (slots id : ℕ)
+    → Allows (IsKept keeps key) slots id (key, []) 0 (λ word. 2) (tried keeps (step slots 0 2 0 none) (key, []))
+
 -- a swap of the word for 0 gives the slot back, with a value that keeps the promise
 abbrev pub GivingKeeps : {K T : Type 0} → (K → T → Type 0) → Type 0
 GivingKeeps {K} {T} keeps = (key : K) (value : T) (slots id : ℕ) → keeps key value

@@ -5,7 +5,7 @@
 //! this key is to be: who takes the lock gets such a value, and gives such a value back.
 //!
 //! It is one word and one slot of an `atomic_table`: the word is 0 where the value is at home in the
-//! slot, and 1 where it is with who took the lock.
+//! slot, and 1 or 2 where it is with who took the lock: 2 where others may sleep until it is back.
 #![tactic(auto)]
 
 mod lock;

@@ -6,9 +6,12 @@ use crate::memory::NoMemory;
 use crate::rule::{Give, Kept, LockRule, Sit, Try};
 use atomic_table::{Seat, Table};
 use std::alloc::Global;
+use std::hint::spin_loop;
 use std::marker::Model;
 use std::sync::Wait;
-use std::thread::yield_now;
+
+// How often a lock that is taken is looked at before who waits for it sleeps.
+const LOOKS: u32 = 200;
 
 /// A lock for one value. Contracts see which lock it is, and its `key`: whenever the lock is taken,
 /// the value is what [`Kept`] says for that key.
@@ -65,17 +68,24 @@ impl<T: Kept<K>, K> KeptLock<T, K> {
     }
 
     /// Takes the lock: waits until it is free, and hands out the value with the duty to give one
-    /// back.
+    /// back. It looks for a while whether the lock is free, and then sleeps until it may be.
     pub fn take<R: Wait>(&self, rt: &R) -> (T, Duty<T, K>)
         ensures value { T.keeps self.now.key result.0 }
         ensures duty { result.1 ≡ self.now }
     {
-        let mut seat = self.table.shared.load_new_seat::<Sit>(0).1;
-        for _ in rt.forever() {
-            if let Some(value) = self.try_take(&mut seat) {
+        let shared = &self.table.shared;
+        let mut seat = shared.load_new_seat::<Sit>(0).1;
+        for _ in 0..LOOKS {
+            if shared.peek(0) == 0 && let Some(value) = self.try_take(&mut seat) {
                 return (value, Duty { seat });
             }
-            yield_now();
+            spin_loop();
+        }
+        for _ in rt.forever() {
+            if let Some(value) = self.take_or_ask(&mut seat) {
+                return (value, Duty { seat });
+            }
+            shared.park(rt, 0, 2);
         }
         unreachable!()
     }
@@ -96,7 +106,23 @@ impl<T: Kept<K>, K> KeptLock<T, K> {
         }
     }
 
-    /// Gives the lock back, with a value that keeps the promise. It waits for nobody.
+    // Takes the lock where it is free, and else asks who has it to wake who sleeps for it.
+    fn take_or_ask(&self, seat: &mut Seat<Option<T>, K>) -> Option<T>
+        requires table { seat.old.table_id ≡ self.now.table }
+        requires seat { seat.old.me ≡ (self.now.key, []) }
+        ensures table { seat.new.table_id ≡ self.now.table }
+        ensures some { IfSome result (λ value. (seat.new.me ≡ (self.now.key, (0, None) ∷ [])) × T.keeps self.now.key value) }
+        ensures none { IfNone result (seat.new.me ≡ (self.now.key, [])) }
+    {
+        let shared = &self.table.shared;
+        if shared.swap::<Try>(seat, 0, 2) == 0 {
+            shared.exchange(seat, 0, None)
+        } else {
+            None
+        }
+    }
+
+    /// Gives the lock back, with a value that keeps the promise, and wakes one who sleeps for it. It waits for nobody.
     pub fn give(&self, value: T, duty: Duty<T, K>)
         requires value { T.keeps self.now.key value }
         requires duty { duty ≡ self.now }
@@ -107,8 +133,11 @@ impl<T: Kept<K>, K> KeptLock<T, K> {
             None => {}
             Some(_) => unreachable!(),
         }
-        shared.swap::<Give>(&mut seat, 0, 0);
+        if shared.swap::<Give>(&mut seat, 0, 0) == 2 {
+            shared.wake_one(0);
+        }
     }
+
     /// Ends the lock: waits until it is free, and hands out the value. Who ends it owns it, so nobody
     /// takes it any more.
     pub fn into_inner<R: Wait>(self, rt: &R) -> T

@@ -1,7 +1,7 @@
 //! What a lock promises, the rule of its table, and its steps.
 
 ghost use Rattle.kept_lock.specs.Lock.{IsKept, sat, tried, given};
-ghost use Rattle.kept_lock.specs.Steps.{MakingKeeps, SittingKeeps, TakingKeeps, GivingKeeps};
+ghost use Rattle.kept_lock.specs.Steps.{MakingKeeps, SittingKeeps, TakingKeeps, AskingKeeps, GivingKeeps};
 
 use atomic_table::{Play, TableRule};
 
@@ -46,5 +46,6 @@ pub fn each_step_keeps_the_rule<T: Kept<K>, K>()
     ensures making { MakingKeeps T.keeps }
     ensures sitting { SittingKeeps T.keeps }
     ensures taking { TakingKeeps T.keeps }
+    ensures asking { AskingKeeps T.keeps }
     ensures giving { GivingKeeps T.keeps }
 {}
