@@ -20,7 +20,7 @@ pub(crate) fn no_rooms(alloc: Global, grid: &Grid) -> Result<Vec<Rooms>, NoMemor
     ensures parts { IfOk result (λ made. length made.items ≡ 7) }
     ensures each { IfOk result (λ made. (part : ℕ) → part < 7 → HasNoRoom grid.now (get_or made.items part [])) }
 {
-    let mut made = Vec::new(alloc);
+    let mut made = Vec::with_capacity(alloc, PARTS)?;
     for _ in 0..PARTS {
         let rooms = Rooms::new(grid)?;
         made.push(rooms)?;
