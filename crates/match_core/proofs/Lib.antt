@@ -6,3 +6,4 @@ pub mod Partners
 pub mod Trading
 pub mod Walking
 pub mod Takings
+pub mod Obtaining

@@ -1,33 +1,28 @@
 -- Legs that were made one after the other are the first of a taking, and all of it where there is no next.
-use Rattle.std.proofs.Common.{◌≡◌, ◌∙◌, inl, ℕ, ◌<◌, List, [], ◌∷◌, ◌++◌, append_assoc, append-nil, length, Some, None, Result, Ok, Err, OnErr, eqb-true, refl, sym, ap, subst, arith}
+use Rattle.std.proofs.Common.{◌≡◌, ◌∙◌, ℕ, ◌<◌, List, [], ◌∷◌, ◌++◌, append_assoc, append-nil, length, Some, None, Result, Ok, Err, OnErr, sym, ap, subst, arith}
 use Rattle.std.proofs.Math.Seq.{take-append_seam}
 use Rattle.std.specs.Prelude.{take as first}
 use Rattle.order_kinds.specs.declared.order.OrderName.{OrderName}
 use Rattle.order_kinds.specs.Contract.{contract_at}
 use Rattle.zone_graph.specs.Graph.{Graph}
 use Rattle.zone_graph.specs.Route.{IsIn}
-use Rattle.zone_graph.proofs.Membership.{IsIn-right, from_filter}
 use Rattle.market_model.specs.declared.event.Event.{Event}
 use Rattle.market_model.specs.declared.event.Event.TheVariants as event
 use Rattle.market_model.specs.Board.{BoardState, IsBoard, with_events}
-use Rattle.market_model.specs.History.{and_then, touches}
+use Rattle.market_model.specs.History.{and_then}
 use Rattle.market_model.specs.Orders.{Placed, left, placed, placed_by}
 use Rattle.market_model.specs.Taking.{IsTaking, next_leg, take}
 use Rattle.market_laws.proofs.Placed.{picked-stays}
 use Rattle.market_laws.proofs.Repeats.{run-kept}
-use Rattle.market_laws.proofs.LocalLines.{placed-named}
-use Rattle.board_laws.specs.Takers.{EndsWithEntry, ObtainsTheMost}
-use Rattle.board_laws.proofs.Entries.{obtains}
 use Rattle.board_laws.proofs.Legs.{next_legs}
 use Rattle.board_laws.proofs.Runs.{takings}
-use Rattle.board_laws.proofs.Shared.{board-agrees}
 use Rattle.match_core.specs.declared.taker.Taker.{Taker}
 use Rattle.match_core.specs.declared.walk.Walk.{Walk}
 use Rattle.match_core.specs.Takers.{taker_of}
 use Rattle.match_core.specs.Takings.{HasBegun, HasEntered, after_taking}
 use Rattle.match_core.specs.Walks.{IsNextMade, Stands, TakesOn}
 use Rattle.match_core.proofs.Legs.{leg-some, leg-within, left-then, takes-after}
-use Rattle.match_core.proofs.Orders.{entered-there, its-hour, one-name, takes-start}
+use Rattle.match_core.proofs.Orders.{its-hour, one-name, takes-start}
 
 -- legs were made on a board: what is a taking behind them is one with them
 pub record HasMade (start now : BoardState) (name : OrderName) : Type 0 where
@@ -123,20 +118,6 @@ pub stands-as : (start now : BoardState) (part : ℕ) (own order : Placed) (name
 stands-as start now part own order name takes made there same =
     one-name now part own takes order
     (subst (λ es. IsIn order (placed es)) (sym (ap (λ (b : BoardState). b.events) made.is)) (picked-stays placed_by order start.events made.legs there)) same
-
--- an order with whose entry the events of a board end is of its hour
-pub entry-hour : (board : BoardState) → IsBoard board → (before : List Event) (order : Placed) → EndsWithEntry before board.events order
-    → order.order.contract.hour ≡ board.hour
-entry-hour board is_board before order entry =
-    let entering : Event = event.Entered order.name order.caller order.order in
-    let there : IsIn entering board.events = subst (IsIn entering) (sym entry.is) (IsIn-right entering before (entering ∷ []) (inl refl)) in
-    let touched = (from_filter (touches board.hour) entering is_board.stands.history (subst (IsIn entering) (sym is_board.stands.in_hour) there)).1 in
-    sym (placed-named board.events (board-agrees board is_board).named_a order (entered-there before board.events order entry))
-    ∙ eqb-true order.name.hour board.hour touched
-
-pub obtains-most : (board : BoardState) → IsBoard board → (before : List Event) (order : Placed) → EndsWithEntry before board.events order
-    → ObtainsTheMost board.grid before order
-obtains-most board is_board before order entry = obtains board before order is_board entry (entry-hour board is_board before order entry)
 
 -- ---- what a walk that has made some legs answers
 

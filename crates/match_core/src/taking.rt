@@ -1,12 +1,11 @@
 //! The taking of an order that comes in.
 
-ghost use Rattle.std.specs.Prelude.{◌≡◌, ◌<◌, IfOk, OnErr, OnOk, Some, None, List, false};
+ghost use Rattle.std.specs.Prelude.{◌≡◌, ◌<◌, IfOk, OnErr, OnOk, Some, None, false};
 ghost use Rattle.zone_graph.specs.Route.{IsIn};
-ghost use Rattle.market_model.specs.declared.event.Event.{Event};
 ghost use Rattle.market_model.specs.Board.{IsBoard};
 ghost use Rattle.market_model.specs.Orders.{Placed, placed};
 ghost use Rattle.market_model.specs.Taking.{next_leg};
-ghost use Rattle.board_laws.specs.Takers.{EndsWithEntry, ObtainsTheMost};
+ghost use Rattle.certified_maximum.specs.Takings.{HasNoDelta};
 ghost use Rattle.match_core.specs.Takers.{taker_of};
 ghost use Rattle.match_core.specs.Takings as takings;
 
@@ -19,8 +18,11 @@ use zone_graph::{Grid, NoMemory};
 /// Takes with an order that has just entered, is in hand and does not rest, and answers what stands of
 /// it then. Leg by leg it trades with the first of the opposite line of its part whose price crosses and
 /// to whom a route leads: over the best route, for the least of what both show and what the route can
-/// carry, at the resting order's price; until it is filled or none is left. So it obtains the most that
-/// its price lets it.
+/// carry, at the resting order's price; until it is filled or none is left.
+///
+/// So it obtains the most that its price lets it: it is filled, or what its legs are worth is exactly the
+/// bound of the zones that are still in its reach on the board, and no flow plan is worth more. Of an
+/// iceberg this holds where its peaks are all at one price.
 ///
 /// The line is walked once, and routes are searched anew only where a leg used up an arc of its route.
 /// Rooms and routes are asked for only where the price of the first of the line crosses.
@@ -44,8 +46,8 @@ pub fn take<B: Board>(
     ensures taker { IfOk result (λ rest. (order : Placed) → IsIn order (placed (B.state board.old).events) → order.name ≡ taker.name
         → rest ≡ taker_of (B.state board.new).events order) }
     ensures kept { B.rest board.new ≡ B.rest board.old }
-    ensures certified { (before : List Event) (order : Placed) → EndsWithEntry before (B.state board.old).events order
-        → ObtainsTheMost (B.state board.old).grid before order }
+    ensures certified { IfOk result (λ rest. (order : Placed) → IsIn order (placed (B.state board.old).events) → order.name ≡ taker.name
+        → HasNoDelta order.order.kind → takings.HasObtainedTheMost (B.state board.old) (B.state board.new) order.order taker.left rest.left) }
 {
     if !meets(board, part, &taker) {
         return Ok(taker);

@@ -3,7 +3,8 @@ use Rattle.market_model.specs.Board.{BoardState}
 use Rattle.match_core.specs.declared.taker.Taker.{Taker}
 use Rattle.match_core.specs.Takings.{HasBegun}
 use Rattle.match_core.specs.Walks.{IsNextMade}
-use Rattle.match_core.proofs.Takings.{begun-none, has-begun, has-ended, made-more, obtains-most, on_err, stands-for, stands-unmoved, takes-nothing}
+use Rattle.match_core.proofs.Takings.{begun-none, has-begun, has-ended, made-more, on_err, stands-for, stands-unmoved, takes-nothing}
+use Rattle.match_core.proofs.Obtaining.{obtains-most}
 use Rattle.match_core.proofs.taking.take.Goals as goal
 
 pub returns-then-not-meets-clause-made : goal.returns-then-not-meets-clause-made
@@ -16,21 +17,15 @@ returns-then-not-meets-clause-taker g c =
     stands-unmoved (g.B.Board.state c.args.board.now) c.args.part c.args.taker c.requires.part c.requires.in_hand c.requires.entered c.meets.ensures.board
 
 pub returns-then-not-meets-clause-certified : goal.returns-then-not-meets-clause-certified
-returns-then-not-meets-clause-certified g c = obtains-most (g.B.Board.state c.args.board.now) c.meets.ensures.board
+returns-then-not-meets-clause-certified g c =
+    let start = g.B.Board.state c.args.board.now in
+    obtains-most start start c.args.part c.args.taker c.args.taker c.requires.part c.requires.in_hand c.requires.entered c.meets.ensures.board
+    (returns-then-not-meets-clause-made g c) (returns-then-not-meets-clause-taker g c)
 
 pub returns-in_err-walk-clause-some : goal.returns-in_err-walk-clause-some
 returns-in_err-walk-clause-some g c =
     let start = g.B.Board.state c.args.board.now in
     on_err c.from_residual.result (HasBegun start start c.args.taker.name) (begun-none start c.args.taker.name)
-
-pub returns-in_err-walk-clause-certified : goal.returns-in_err-walk-clause-certified
-returns-in_err-walk-clause-certified g c = obtains-most (g.B.Board.state c.args.board.now) c.meets.ensures.board
-
-pub returns-in_err-partner-clause-certified : goal.returns-in_err-partner-clause-certified
-returns-in_err-partner-clause-certified g c = obtains-most (g.B.Board.state c.args.board.now) c.meets.ensures.board
-
-pub returns-in_err-trade-clause-certified : goal.returns-in_err-trade-clause-certified
-returns-in_err-trade-clause-certified g c = obtains-most (g.B.Board.state c.args.board.now) c.meets.ensures.board
 
 pub returns-in_err-partner-clause-some : goal.returns-in_err-partner-clause-some
 returns-in_err-partner-clause-some g c =
@@ -80,4 +75,6 @@ returns-clause-taker g c = λ order there same.
     order there same
 
 pub returns-clause-certified : goal.returns-clause-certified
-returns-clause-certified g c = obtains-most (g.B.Board.state c.args.board.now) c.meets.ensures.board
+returns-clause-certified g c =
+    obtains-most (g.B.Board.state c.args.board.now) (g.B.Board.state c.loop-walk.board) c.args.part c.args.taker c.partner.new.self.taker
+    c.requires.part c.requires.in_hand c.requires.entered c.meets.ensures.board (returns-clause-made g c) (returns-clause-taker g c)
