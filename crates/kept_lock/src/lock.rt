@@ -76,7 +76,9 @@ impl<T: Kept<K>, K> KeptLock<T, K> {
         let shared = &self.table.shared;
         let mut seat = shared.load_new_seat::<Sit>(0).1;
         for _ in 0..LOOKS {
-            if shared.peek(0) == 0 && let Some(value) = self.try_take(&mut seat) {
+            if shared.peek(0) == 0
+                && let Some(value) = self.try_take(&mut seat)
+            {
                 return (value, Duty { seat });
             }
             spin_loop();

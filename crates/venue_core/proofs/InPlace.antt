@@ -118,7 +118,7 @@ module _ (front : FrontState) where
       | inr none ↦ absurd none
     ];
   }
-  alone (hour ∷ []) (desk ∷ []) [] all one = absurd all.1
+  alone (hour ∷ []) (desk ∷ []) [] all one = absurd all
   alone (hour ∷ []) (desk ∷ []) (seat ∷ other ∷ own) all one = absurd all.1
   alone (hour ∷ next ∷ hours) (desk ∷ []) [] all one = absurd all
   alone (hour ∷ next ∷ hours) (desk ∷ []) (seat ∷ own) all one = absurd all.1
