@@ -8,11 +8,12 @@ use Rattle.order_kinds.specs.declared.side.Side.{Side}
 use Rattle.order_kinds.specs.Contract.{contract_at}
 use Rattle.order_kinds.specs.Period.{contract_quarters}
 use Rattle.zone_graph.specs.declared.route.Arc.{Arc}
-use Rattle.zone_graph.specs.Graph.{Graph, HasArc, IsGraph, border_count}
+use Rattle.zone_graph.specs.Graph.{Graph, HasArc, HasZone, IsGraph, border_count}
 use Rattle.zone_graph.specs.Rooms.{part_of, room_of}
 use Rattle.zone_graph.specs.Route.{IsIn}
 use Rattle.market_model.specs.declared.event.Event.{Event}
 use Rattle.market_model.specs.Board.{IsHourOf}
+use Rattle.market_model.specs.Grid.{graph_of}
 use Rattle.market_model.specs.Lines.{line}
 use Rattle.market_model.specs.Orders.{Standing}
 use Rattle.market_model.specs.Room.{room}
@@ -24,18 +25,18 @@ use Rattle.market_laws.proofs.LocalLines.{contract-hours, line-agree}
 use Rattle.market_laws.proofs.LocalStates.{Agree, room-agree}
 use Rattle.market_laws.proofs.OfHours.{one-agrees}
 use Rattle.plain_capacity.specs.Hour.{IsLegalOver}
-use Rattle.plain_view.specs.Depth.{AreInZones, maker_of}
+use Rattle.plain_view.specs.Depth.{maker_of}
 use Rattle.plain_view.specs.Filled.{rows_with}
 use Rattle.local_view.proofs.LineMakers.{makers-cross, makers-once}
-use Rattle.local_view.proofs.Makers.{AllCross, AreOnce}
-use Rattle.plain_view.proofs.Views.{makers-in_zones, view-is}
+use Rattle.view_near.proofs.FirstMakers.{AllCross, AreOnce}
+use Rattle.plain_view.proofs.Views.{view-is}
 use Rattle.local_view.proofs.Walking.{walked, walked-trades}
 
 -- a room of each arc, as a row of rooms
-rooms_like : (borders : ℕ) → (Arc → ℕ) → List (ℕ × ℕ)
+pub rooms_like : (borders : ℕ) → (Arc → ℕ) → List (ℕ × ℕ)
 rooms_like borders own = map (λ border. (own (record { border = border; forward = true }), own (record { border = border; forward = false }))) (range_with_len 0 borders)
 
-room-like : (borders : ℕ) (own : Arc → ℕ) (arc : Arc) → arc.border < borders → room_of (rooms_like borders own) arc ≡ own arc
+pub room-like : (borders : ℕ) (own : Arc → ℕ) (arc : Arc) → arc.border < borders → room_of (rooms_like borders own) arc ≡ own arc
 unfolding rooms_like
 room-like borders own arc there =
     let pair : ℕ → ℕ × ℕ = λ border. (own (record { border = border; forward = true }), own (record { border = border; forward = false })) in
@@ -86,16 +87,17 @@ module _ (graph : Graph) (hour : ℕ) (events : List Event) (of : IsHourOf graph
         ∙ ((all_are_sound of.setup of.history of.fit).orders found.order found.is_open.is_placed).named
         ∙ ap (λ (c : Contract). c.hour) found.of_contract
 
+    -- and are in zones that there are
+    pub line-zones : (order : Standing) → IsIn order (line events (contract_at hour part) side) → HasZone graph order.order.zone
+    line-zones order i =
+        let found = from_line of.history contract side order (subst (IsIn order) line-of i) in
+        subst (λ g. HasZone g order.order.zone) of.over_grid
+        (subst (λ (x : Standing). HasZone (graph_of of.setup) x.order.zone) (sym found.is) ((all_are_sound of.setup of.history of.fit).orders found.order found.is_open.is_placed).in_zone)
+
     module _ (zone : ℕ) (rooms : List (ℕ × ℕ))
         (are : (arc : Arc) → HasArc graph arc → room_of rooms arc ≡ room events (contract_quarters (contract_at hour part)) arc) where
       are-there : (arc : Arc) → HasArc graph arc → room_of rooms arc ≡ room of.history (contract_quarters contract) arc
       are-there arc known = are arc known ∙ ap (λ f. f arc) rooms-of
-
-      -- and are in zones that there are
-      pub line-known : AreInZones graph (map maker_of (line events (contract_at hour part) side))
-      line-known =
-          subst (λ orders. AreInZones graph (map maker_of orders)) (sym line-of)
-          (makers-in_zones graph hour-graph of.history legal contract side zone rooms are-there)
 
       -- the view is what a walk along the line shows
       pub view-walked : walked graph side zone (room_of rooms) 4294967295 (map maker_of (line events (contract_at hour part) side)) ≡ view graph events (contract_at hour part) side zone

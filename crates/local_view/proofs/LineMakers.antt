@@ -28,7 +28,7 @@ use Rattle.market_laws.proofs.Unique.{entered-order}
 use Rattle.market_laws.proofs.Prices.{prices-in-range}
 use Rattle.plain_view.specs.declared.maker.Maker.{Maker}
 use Rattle.plain_view.specs.Depth.{crosses_any, maker_of}
-use Rattle.local_view.proofs.Makers.{AllCross, AreOnce}
+use Rattle.view_near.proofs.FirstMakers.{AllCross, AreOnce}
 
 -- ---- the names of a line
 

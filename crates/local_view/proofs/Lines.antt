@@ -11,7 +11,7 @@ use Rattle.market_model.specs.Board.{BoardState, IsBoard, first_shown, has_numbe
 use Rattle.market_model.specs.Lines.{line}
 use Rattle.market_model.specs.Orders.{Standing}
 use Rattle.plain_view.specs.Depth.{maker_of}
-use Rattle.local_view.proofs.Makers.{AreOnce}
+use Rattle.view_near.proofs.FirstMakers.{AreOnce}
 use Rattle.local_view.proofs.Hours.{line-hour, line-once}
 
 -- the part of a line from the order of a number on, and from one that is shown

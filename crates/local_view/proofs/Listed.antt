@@ -9,7 +9,6 @@ use Rattle.zone_graph.specs.Graph.{HasZone}
 use Rattle.zone_graph.specs.Pour.{opposite_arc}
 use Rattle.zone_graph.specs.Rooms.{room_of}
 use Rattle.zone_graph.specs.Route.{IsIn}
-use Rattle.zone_graph.proofs.Membership.{IsIn-map}
 use Rattle.market_model.specs.declared.board.Shown.{Shown}
 use Rattle.market_model.specs.declared.reply.ViewRow.{ViewRow}
 use Rattle.market_model.specs.Board.{BoardState, IsBoard, Rests, RestsIn, first_shown, resting_line, shown_behind}
@@ -20,11 +19,11 @@ use Rattle.route_choice.specs.Poured.{AreRoomsAfter, lots_of, rooms_after as all
 use Rattle.plain_view.specs.Depth.{maker_of}
 use Rattle.local_view.specs.Boards.{AreRoomsOf, view_of}
 use Rattle.local_view.specs.Poured.{legs_with, row_if}
-use Rattle.local_view.proofs.Hours.{line-known, view-empty, view-walked}
+use Rattle.local_view.proofs.Hours.{line-zones, view-empty, view-walked}
 use Rattle.local_view.proofs.Lines.{StandsAt, from_shown, resting-differ, rests-all, stands-at, walk-begins}
 use Rattle.local_view.proofs.Walking.{walked}
 
-row-first : (price : Price) (lots : ℕ) (rows : List ViewRow) → row_if price lots rows ≡ row_if price lots [] ++ rows
+pub row-first : (price : Price) (lots : ℕ) (rows : List ViewRow) → row_if price lots rows ≡ row_if price lots [] ++ rows
 row-first price zero rows = refl
 row-first price (suc more) rows = refl
 
@@ -71,11 +70,10 @@ module _ (board : BoardState) (is : IsBoard board) (none : board.hand ≡ None) 
 
   -- the order is in a zone that there is, and rests
   module _ (shown : Shown) (at : StandsAt (resting_line board part side) shown) where
-    pub zone-known : (rooms : List (ℕ × ℕ)) → AreRoomsOf board part rooms → HasZone board.grid shown.zone
-    zone-known rooms of =
+    pub zone-known : HasZone board.grid shown.zone
+    zone-known =
         subst (λ (s : Shown). HasZone board.grid s.zone) (sym at.is)
-        ((line-known board.grid board.hour board.events is.stands part side zone rooms of.are).each (maker_of at.order)
-        (IsIn-map maker_of at.order (line board.events (contract_at board.hour part) side) (subst (IsIn at.order) (rests-all board part side none) at.is_in)))
+        (line-zones board.grid board.hour board.events is.stands part side at.order (subst (IsIn at.order) (rests-all board part side none) at.is_in))
 
     pub rests-in : RestsIn board part side shown.number
     rests-in = (known, at.there)

@@ -28,7 +28,7 @@ use Rattle.plain_view.specs.declared.maker.Maker.{Maker}
 use Rattle.plain_view.specs.declared.rows.MakerRow.{MakerRow}
 use Rattle.plain_view.specs.Depth.{Depth, after_fill, can_fill, crosses_any, fill_over, fill_with, next_fill, route_with, taken_of}
 use Rattle.plain_view.specs.Filled.{is_row_of, row_in, rows_with, with_fill, with_lots}
-use Rattle.local_view.proofs.Makers.{AllCross, AreApart, AreOnce, taken, taken-append, taken-none}
+use Rattle.view_near.proofs.FirstMakers.{AllCross, AreApart, AreOnce, taken, taken-append}
 use Rattle.plain_view.proofs.RowLemmas.{rows-same, same_name-sym}
 use Rattle.local_view.specs.Poured.{legs_with, row_if, sent_from, sent_to}
 
@@ -97,6 +97,12 @@ maker-row maker rows leg legs others =
     ∙ ap (λ n. rows ++ row_at maker n ∷ []) (sym (sum_by-cons (λ (l : RouteLeg). l.lots) leg legs))
 
 -- ---- the run of the trades
+
+taken-none : (name : OrderName) (lots : ℕ) (makers : List Maker) → ((maker : Maker) → IsIn maker makers → same_name maker.name name ≡ false) → taken name lots makers ≡ makers
+taken-none name lots [] none = refl
+taken-none name lots (maker ∷ makers) none =
+    ap (λ b. (if b then record maker { left = maker.left - lots } else maker) ∷ taken name lots makers) (none maker (inl refl))
+    ∙ ap (λ l. maker ∷ l) (taken-none name lots makers (λ x i. none x (inr i)))
 
 -- where nothing is found a list can be left out
 find-behind : {X : Type 0} (p : X → Bool) (front back : List X) → ((x : X) → IsIn x front → p x ≡ false) → find p (front ++ back) ≡ find p back

@@ -8,4 +8,6 @@ pub mod Rows
 pub mod Sums
 pub mod Takers
 pub mod Trees
+pub mod Ways
+pub mod Whole
 pub mod Works

@@ -30,6 +30,7 @@ pub record IsWork (graph : Graph) (work : Work) : Type 0 where
 pub record KeepsWork (graph : Graph) (old new : Work) : Type 0 where
   pub work : IsWork graph new
   pub of_part : new.of_part ≡ old.of_part
+  pub whole : new.whole ≡ old.whole
   pub computed : new.computed ≡ old.computed
 
 -- the rows of all of so many zones are computed

@@ -6,11 +6,12 @@ ghost use Rattle.zone_graph.specs.Rooms.{room_of};
 ghost use Rattle.market_model.specs.Board.{IsBoard};
 ghost use Rattle.local_view.specs.Boards.{AreRoomsOf, view_of};
 ghost use Rattle.local_view.specs.Takers.{IsReady};
+ghost use Rattle.local_view.specs.Whole.{IsRead};
 ghost use Rattle.local_view.specs.Works.{AreComputed, IsWork, KeepsWork};
 
 use crate::listing::{Line, list_rows};
 use crate::work::Work;
-use market_model::{Board, NoMemory, Rows};
+use market_model::{Board, NoMemory, Rows, ViewRow};
 use std::alloc::Global;
 use std::mem;
 use zone_graph::Grid;
@@ -46,6 +47,7 @@ pub(crate) fn fill_lists<B: Board>(
     }
     board.rooms(line.part, &mut work.of_part);
     work.walk.trees.forget();
+    work.whole.read(board, grid, line)?;
     list_zones(alloc, board, grid, work, line, lists)
 }
 
@@ -85,6 +87,7 @@ fn list_zones<B: Board>(
     requires work { IsWork grid.now work.old }
     requires rooms { AreRoomsOf (B.state board.now) line.part work.old.of_part }
     requires walk { IsReady grid.now (room_of work.old.of_part) line.side work.old.walk }
+    requires read { IsRead (B.state board.now) line.part line.side work.old.whole }
     requires zones { length lists.old ≡ zone_count grid.now }
     ensures lists { OnOk result (AreComputed work.old.computed (B.state board.now) line.part line.side lists.new) }
     ensures size { length lists.new ≡ length lists.old }
@@ -118,20 +121,45 @@ fn fill_list<B: Board>(
     requires work { IsWork grid.now work.old }
     requires rooms { AreRoomsOf (B.state board.now) line.part work.old.of_part }
     requires walk { IsReady grid.now (room_of work.old.of_part) line.side work.old.walk }
+    requires read { IsRead (B.state board.now) line.part line.side work.old.whole }
     ensures list { OnOk result (list.new ≡ view_of (B.state board.now) line.part line.side zone) }
     ensures work { KeepsWork grid.now work.old work.new }
     ensures walk { IsReady grid.now (room_of work.new.of_part) line.side work.new.walk }
 {
     let mut rows = mem::replace(list, Rows::new(alloc)).into_vec();
-    list_rows(
-        board,
-        grid,
-        &work.of_part,
-        &mut work.walk,
-        line,
-        zone,
-        &mut rows,
-    )?;
+    write_rows(board, grid, work, line, zone, &mut rows)?;
     *list = Rows::from(rows);
     Ok(())
+}
+
+// Writes the rows of a zone, in place of those that were there: those of the whole line, where all of it
+// can come to the zone, and else those that a walk along the line finds.
+fn write_rows<B: Board>(
+    board: &B,
+    grid: &Grid,
+    work: &mut Work,
+    line: Line,
+    zone: u32,
+    rows: &mut Vec<ViewRow>,
+) -> Result<(), NoMemory>
+    requires grid { grid.now ≡ (B.state board.now).grid }
+    requires hand { (B.state board.now).hand ≡ None }
+    requires part { line.part < (B.state board.now).parts }
+    requires zone { HasZone grid.now zone }
+    requires work { IsWork grid.now work.old }
+    requires rooms { AreRoomsOf (B.state board.now) line.part work.old.of_part }
+    requires walk { IsReady grid.now (room_of work.old.of_part) line.side work.old.walk }
+    requires read { IsRead (B.state board.now) line.part line.side work.old.whole }
+    ensures rows { OnOk result (rows.new.items ≡ view_of (B.state board.now) line.part line.side zone) }
+    ensures work { KeepsWork grid.now work.old work.new }
+    ensures walk { IsReady grid.now (room_of work.new.of_part) line.side work.new.walk }
+{
+    let zones = grid.zones();
+    prove!(zone < zones);
+    if work.whole.comes_to(grid, &work.of_part, line.side, zone) {
+        rows.clear();
+        rows.extend_from_slice(work.whole.rows.as_slice())?;
+        return Ok(());
+    }
+    list_rows(board, grid, &work.of_part, &mut work.walk, line, zone, rows)
 }

@@ -3,6 +3,7 @@
 #![tactic(auto)]
 
 mod filling;
+mod laws;
 mod listing;
 mod nearness;
 mod part_views;
@@ -10,6 +11,9 @@ mod taker;
 mod trees;
 mod views;
 mod walk;
+mod ways;
+mod whole;
 mod work;
 
+pub use laws::whole_lines_are_views;
 pub use views::LocalViews;

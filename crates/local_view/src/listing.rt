@@ -63,8 +63,8 @@ pub(crate) fn list_rows<B: Board>(
     Ok(())
 }
 
-// Adds the row of an order of which lots were taken, if any were.
-fn add_row(rows: &mut Vec<ViewRow>, price: Price, lots: u32) -> Result<(), NoMemory>
+/// Adds the row of an order of which lots were taken, if any were.
+pub(crate) fn add_row(rows: &mut Vec<ViewRow>, price: Price, lots: u32) -> Result<(), NoMemory>
     ensures { OnOk result (rows.new.items ≡ rows.old.items ++ row_if price lots []) }
 {
     if lots > 0 {

@@ -147,7 +147,7 @@ fn is_set(flags: &[bool], place: usize) -> bool
 fn empty_lists(alloc: Global, zones: u32) -> Result<Vec<Rows>, NoMemory>
     ensures { IfOk result (λ lists. lists.items ≡ replicate zones []) }
 {
-    let mut lists = Vec::new(alloc);
+    let mut lists = Vec::with_capacity(alloc, zones as usize)?;
     for _ in 0..zones {
         lists.push(Rows::new(alloc))?;
     }

@@ -237,7 +237,7 @@ impl LocalViews {
 fn empty_parts(alloc: Global, zones: u32, parts: u32) -> Result<Vec<PartViews>, NoMemory>
     ensures { IfOk result (λ made. made.items ≡ replicate parts (empty_part zones)) }
 {
-    let mut made = Vec::new(alloc);
+    let mut made = Vec::with_capacity(alloc, parts as usize)?;
     for _ in 0..parts {
         let part = PartViews::new(alloc, zones)?;
         made.push(part)?;

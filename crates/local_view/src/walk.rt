@@ -5,6 +5,7 @@ ghost use Rattle.zone_graph.specs.Graph.{border_count, zone_count};
 ghost use Rattle.local_view.specs.Works.{IsWalk};
 
 use crate::trees::LineTrees;
+use crate::ways::NO_ARC;
 use std::alloc::Global;
 use zone_graph::{Arc, Grid, MOST_ZONES, NoMemory, Rooms};
 
@@ -37,9 +38,3 @@ impl Walk {
         })
     }
 }
-
-// What stands in the places of a route that has fewer arcs.
-const NO_ARC: Arc = Arc {
-    border: 0,
-    forward: true,
-};

@@ -4,6 +4,7 @@ ghost use Rattle.std.specs.Prelude.{IfOk, IfSome};
 ghost use Rattle.local_view.specs.Works.{IsSound, IsWork};
 
 use crate::walk::Walk;
+use crate::whole::WholeLine;
 use std::alloc::Global;
 use zone_graph::{Grid, MOST_ZONES, NoMemory, Rooms};
 
@@ -18,6 +19,8 @@ pub(crate) struct Work {
     pub(crate) of_part: Rooms,
     /// What the lists work with.
     pub(crate) walk: Walk,
+    /// The line whose lists are made.
+    pub(crate) whole: WholeLine,
     /// Whether the rows of a zone are computed, by zone; the others stay as they are kept.
     pub(crate) computed: [bool; MOST_ZONES],
 }
@@ -43,6 +46,7 @@ impl Work {
             zones: grid.zones(),
             of_part: Rooms::new(grid)?,
             walk: Walk::over(alloc, grid)?,
+            whole: WholeLine::new(alloc),
             computed: [true; MOST_ZONES],
         })
     }

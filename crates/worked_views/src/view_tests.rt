@@ -67,6 +67,48 @@ fn a_maker_that_two_routes_reach_has_one_row(rt: HostRuntime) -> Result<(), Fail
 }
 
 #[test]
+fn a_line_that_comes_over_one_way_is_shown_whole(rt: HostRuntime) -> Result<(), Fail> {
+    let steps = [
+        Step::Offer(0, 1, 60),
+        Step::Offer(1, 3, 90),
+        sell(0, 4000, 50),
+        sell(1, 4100, 40),
+        sell(3, 4200, 10),
+        buy(3, 3000, 30),
+    ];
+    let rows = [
+        (Side::Buy, 0, 3000, 30),
+        (Side::Buy, 1, 3000, 30),
+        (Side::Buy, 3, 3000, 30),
+        (Side::Sell, 0, 4000, 50),
+        (Side::Sell, 1, 4000, 50),
+        (Side::Sell, 1, 4100, 40),
+        (Side::Sell, 3, 4000, 50),
+        (Side::Sell, 3, 4100, 40),
+        (Side::Sell, 3, 4200, 10),
+    ];
+    check_shown(&rt, rt.alloc(), 4, &DIAMOND, &steps, &rows)
+}
+
+#[test]
+fn a_line_that_one_arc_is_too_narrow_for_is_walked(rt: HostRuntime) -> Result<(), Fail> {
+    let steps = [
+        Step::Offer(0, 1, 60),
+        Step::Offer(1, 3, 89),
+        sell(0, 4000, 50),
+        sell(1, 4100, 40),
+    ];
+    let rows = [
+        (Side::Sell, 0, 4000, 50),
+        (Side::Sell, 1, 4000, 50),
+        (Side::Sell, 1, 4100, 40),
+        (Side::Sell, 3, 4000, 50),
+        (Side::Sell, 3, 4100, 39),
+    ];
+    check_shown(&rt, rt.alloc(), 4, &DIAMOND, &steps, &rows)
+}
+
+#[test]
 fn rows_stay_until_next_ones_are_taken_over(rt: HostRuntime) -> Result<(), Fail> {
     let steps = [sell(0, 4000, 30), buy(1, 3000, 70)];
     let rows = [(Side::Buy, 1, 3000, 70), (Side::Sell, 0, 4000, 30)];

@@ -27,7 +27,7 @@ loop-next-init g c = record {
 pub take-lots-requires-clause-other : goal.take-lots-requires-clause-other
 take-lots-requires-clause-other g c =
     subst (λ (graph : Graph). HasZone graph c.in-Some.order.zone) (sym c.requires.grid)
-    (zone-known (g.B.Board.state c.args.board.now) c.first-next.ensures.board c.requires.hand c.args.line.part c.requires.part c.args.line.side c.args.zone c.in-Some.order (at-order (g.B.Board.state c.args.board.now) c.first-next.ensures.board c.requires.hand c.args.line.part c.requires.part c.args.line.side c.args.zone c.loop-next.next c.in-Some.order c.loop-next.invariant.listed.stands c.in-Some.is) c.args.of_part.now c.requires.of_part)
+    (zone-known (g.B.Board.state c.args.board.now) c.first-next.ensures.board c.requires.hand c.args.line.part c.requires.part c.args.line.side c.args.zone c.in-Some.order (at-order (g.B.Board.state c.args.board.now) c.first-next.ensures.board c.requires.hand c.args.line.part c.requires.part c.args.line.side c.args.zone c.loop-next.next c.in-Some.order c.loop-next.invariant.listed.stands c.in-Some.is))
 
 pub after-next-requires : goal.after-next-requires
 after-next-requires g c = record {

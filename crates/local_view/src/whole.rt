@@ -1,0 +1,81 @@
+//! A line as the views show it to which all of it can come.
+
+ghost use Rattle.std.specs.Prelude.{◌≡◌, ◌<◌, None, IsTrue, OnOk, length, true};
+ghost use Rattle.zone_graph.specs.Graph.{HasZone, border_count};
+ghost use Rattle.zone_graph.specs.Rooms.{room_of};
+ghost use Rattle.local_view.specs.Ways.{ComeTogether};
+ghost use Rattle.local_view.specs.Whole.{IsRead};
+
+use crate::listing::{Line, add_row};
+use crate::ways::Ways;
+use market_model::{Board, NoMemory, Side, ViewRow};
+use std::alloc::Global;
+use zone_graph::{Grid, MOST_ZONES, Rooms};
+
+/// The rows in which each order of a line has all that it shows, and what the orders of each zone show.
+#[derive(Drop)]
+pub(crate) struct WholeLine {
+    /// The rows.
+    pub(crate) rows: Vec<ViewRow>,
+    /// The lots that the orders of each zone show together.
+    pub(crate) shown: [u32; MOST_ZONES],
+    /// Whether all these lots are no more than a view asks for. Where they are, the others are told.
+    pub(crate) fits: bool,
+}
+
+impl WholeLine {
+    /// A line that is not read yet.
+    pub(crate) fn new(alloc: Global) -> WholeLine {
+        WholeLine {
+            rows: Vec::new(alloc),
+            shown: [0; MOST_ZONES],
+            fits: false,
+        }
+    }
+
+    /// Reads a line of a board, in place of what was read before.
+    ///
+    /// # Errors
+    ///
+    /// [`NoMemory`], where there is no memory for a row.
+    pub(crate) fn read<B: Board>(
+        &mut self,
+        board: &B,
+        grid: &Grid,
+        line: Line,
+    ) -> Result<(), NoMemory>
+        requires grid { grid.now ≡ (B.state board.now).grid }
+        requires hand { (B.state board.now).hand ≡ None }
+        requires part { line.part < (B.state board.now).parts }
+        ensures { OnOk result (IsRead (B.state board.now) line.part line.side self.new) }
+    {
+        self.rows.clear();
+        self.shown = [0; MOST_ZONES];
+        let zones = grid.zones();
+        let mut all: u32 = 0;
+        let mut next = board.first(line.part, line.side);
+        while let Some(order) = next {
+            prove!(order.zone < zones);
+            let Some(more) = all.checked_add(order.lots) else {
+                self.fits = false;
+                return Ok(());
+            };
+            all = more;
+            self.shown[order.zone as usize] += order.lots;
+            add_row(&mut self.rows, order.price, order.lots)?;
+            next = board.after(order.number);
+        }
+        self.fits = true;
+        Ok(())
+    }
+
+    /// Whether all that the line shows comes to a zone together, over ways that the rooms are wide enough for.
+    pub(crate) fn comes_to(&self, grid: &Grid, rooms: &Rooms, side: Side, zone: u32) -> bool
+        requires zone { HasZone grid.now zone }
+        requires size { length rooms.now ≡ border_count grid.now }
+        ensures fits { IsTrue result → self.now.fits ≡ true }
+        ensures together { IsTrue result → ComeTogether grid.now (room_of rooms.now) side zone self.now.shown }
+    {
+        self.fits && Ways::from_zone(grid, zone).bring_all(grid, rooms, side, zone, &self.shown)
+    }
+}
