@@ -1,24 +1,62 @@
 //! Deals of blocks on a diamond of four zones: each of two zones in the middle is joined with the first
 //! and the last.
 
-ghost use Rattle.std.specs.Prelude.{◌<◌, IfOk};
+ghost use Rattle.std.specs.Prelude.{◌≡◌, ◌<◌, ◌+◌, ◌^◌, length, Ok};
+ghost use Rattle.zone_graph.specs.declared.route.Arc.{Arc};
+ghost use Rattle.zone_graph.specs.Graph.{border_count, zone_count};
+ghost use Rattle.zone_graph.specs.Pour.{opposite_arc};
+ghost use Rattle.zone_graph.specs.Rooms.{room_of};
 ghost use Rattle.zone_graph.specs.Route.{IsIn};
 ghost use Rattle.block_book.specs.declared.block.RestingBlock.{RestingBlock as Block};
 
 use block_book::{BlockBook, RestingBlock};
 use block_match::{BlockDeal, match_block, match_resting};
 use order_kinds::{Price, Side};
-use std::alloc::Global;
 use std::process::Abort;
 use std::test::Fail;
 use worked_grids::{diamond, legs_over, rooms_of_diamond};
-use zone_graph::{Arc, Legs};
+use zone_graph::{Arc, Grid, Legs, Rooms};
 
 // The last hour of the blocks.
 const LAST: u32 = 14;
 
-// A block of a number, which is its moment too.
-fn block(number: u32, zone: u32, side: Side, cents: i32, quantity: u32) -> RestingBlock {
+// A block: its number, which is its moment too, its zone and side, its price in cents and its lots.
+type Row = (u32, u32, Side, i32, u32);
+
+// The blocks of a book, the block that enters beside them, or none where those that rest are matched, and
+// the taker, the maker and the price of the deal, or none.
+type Case<'a> = (&'a [Row], Option<Row>, Option<(u32, u32, i32)>);
+
+// Blocks of ten and of eleven lots at one price.
+const BOTH: [Row; 2] = [(1, 0, Side::Sell, 4000, 10), (2, 0, Side::Sell, 4000, 11)];
+
+// From the zone of the first there is no room for all of it.
+const NEAR_AND_FAR: [Row; 2] = [(1, 1, Side::Sell, 3000, 10), (2, 0, Side::Sell, 4000, 10)];
+
+const ENTERING: [Case; 5] = [
+    (&BOTH, Some((3, 3, Side::Buy, 5000, 10)), Some((3, 1, 4000))),
+    (&BOTH, Some((3, 3, Side::Buy, 4000, 10)), Some((3, 1, 4000))),
+    (&BOTH, Some((3, 3, Side::Buy, 3999, 10)), None),
+    (&BOTH, Some((3, 3, Side::Buy, 5000, 11)), None),
+    (
+        &NEAR_AND_FAR,
+        Some((3, 3, Side::Buy, 5000, 10)),
+        Some((3, 2, 4000)),
+    ),
+];
+
+// The first has no partner, the second and the third are each other's.
+const THREE: [Row; 3] = [
+    (1, 3, Side::Buy, 6000, 7),
+    (2, 3, Side::Buy, 5000, 10),
+    (3, 0, Side::Sell, 4000, 10),
+];
+
+const TWO: [Row; 2] = [(1, 3, Side::Buy, 6000, 7), (3, 0, Side::Sell, 4000, 10)];
+
+const RESTING: [Case; 2] = [(&THREE, None, Some((3, 2, 5000))), (&TWO, None, None)];
+
+fn block((number, zone, side, cents, quantity): Row) -> RestingBlock {
     RestingBlock {
         number,
         caller: 0,
@@ -31,43 +69,65 @@ fn block(number: u32, zone: u32, side: Side, cents: i32, quantity: u32) -> Resti
     }
 }
 
-// A book of blocks of different numbers in the zones of the diamond.
-fn book_of(alloc: Global, blocks: &[RestingBlock]) -> Result<BlockBook, Fail>
-    ensures { IfOk result (λ book. (block : Block) → IsIn block book → block.zone < 4) }
+// What was made.
+fn made<T>(rt: &impl Abort, what: Result<T, Fail>) -> T
+    ensures { what ≡ Ok result }
 {
-    let mut book = BlockBook::new(alloc)?;
-    for block in blocks {
+    match what {
+        Ok(value) => value,
+        Err(_) => rt.panic("it was not made"),
+    }
+}
+
+// A book of blocks of different numbers in the zones of the diamond.
+fn book_of(rt: &(impl Abort + AllocGlobal), rows: &[Row]) -> BlockBook
+    ensures { (block : Block) → IsIn block result → block.zone < 4 }
+{
+    let mut book = BlockBook::new(rt.alloc()).expect(rt, "memory");
+    for row in rows {
+        let block = block(*row);
         if block.zone >= 4 || book.get(block.number).is_some() {
-            return Err(Fail::from("no such block"));
+            rt.panic("no such block");
         }
-        let Ok(()) = book.rest(*block) else {
-            return Err(Fail::from("no place"));
+        let Ok(()) = book.rest(block) else {
+            rt.panic("no place");
         };
     }
-    Ok(book)
+    book
 }
 
-// The deal of a block with those of a book.
-fn deal_of_block(
-    alloc: Global,
-    blocks: &[RestingBlock],
-    own: &RestingBlock,
-) -> Result<Option<BlockDeal>, Fail> {
-    let grid = diamond(alloc)?;
-    let rooms = rooms_of_diamond(&grid)?;
-    let book = book_of(alloc, blocks)?;
-    if own.zone >= 4 {
-        return Err(Fail::from("no such zone"));
-    }
-    Ok(match_block(alloc, &grid, &book, &rooms, own)?)
+// The deal of a block with those of a book, or the next one of the period of the book where there is no
+// such block.
+fn deal_in(
+    rt: &(impl Abort + AllocGlobal),
+    grid: &Grid,
+    rooms: &Rooms,
+    book: &BlockBook,
+    own: Option<Row>,
+) -> Option<BlockDeal>
+    requires zones { zone_count grid.now ≡ 4 }
+    requires borders { border_count grid.now ≡ 4 }
+    requires blocks { (block : Block) → IsIn block book.now → block.zone < 4 }
+    requires size { length rooms.now ≡ 4 }
+    requires fit { (arc : Arc) → room_of rooms.now arc + room_of rooms.now (opposite_arc arc) < 2 ^ 32 }
+{
+    let found = match own {
+        Some(row) => {
+            let own = block(row);
+            assert!(rt; own.zone < 4);
+            match_block(rt.alloc(), grid, book, rooms, &own)
+        }
+        None => match_resting(rt.alloc(), grid, book, rooms, LAST),
+    };
+    found.expect(rt, "memory")
 }
 
-// The next deal of the period of a book.
-fn deal_of_period(alloc: Global, blocks: &[RestingBlock]) -> Result<Option<BlockDeal>, Fail> {
-    let grid = diamond(alloc)?;
-    let rooms = rooms_of_diamond(&grid)?;
-    let book = book_of(alloc, blocks)?;
-    Ok(match_resting(alloc, &grid, &book, &rooms, LAST)?)
+// The same, over the rooms of the diamond.
+fn deal_of(rt: &(impl Abort + AllocGlobal), rows: &[Row], own: Option<Row>) -> Option<BlockDeal> {
+    let grid = made(rt, diamond(rt.alloc()));
+    let rooms = made(rt, rooms_of_diamond(&grid));
+    let book = book_of(rt, rows);
+    deal_in(rt, &grid, &rooms, &book, own)
 }
 
 // Six lots over one side of the diamond, and four over the other.
@@ -78,76 +138,26 @@ fn both_sides(rt: &(impl Abort + AllocGlobal)) -> Legs {
     legs_over(rt.alloc(), &sides).expect(rt, "memory")
 }
 
-// What was found is a deal over both sides of the diamond that has the taker, the maker and the price
-// that are wanted, or there is none where none is wanted.
-fn expect_deal(
-    rt: &(impl Abort + AllocGlobal),
-    found: &Option<BlockDeal>,
-    want: Option<(u32, u32, i32)>,
-    case: &str,
-) {
-    let terms = found
-        .as_ref()
-        .map(|deal| (deal.taker, deal.maker, deal.price.0));
-    assert_eq!(rt; terms, want, "{case}");
-    if let Some(deal) = found {
-        expect_legs(rt, &deal.legs, &both_sides(rt), case);
-    }
-}
-
-// The legs of a deal are those that are wanted.
-fn expect_legs(rt: &impl Abort, legs: &Legs, wanted: &Legs, case: &str) {
-    assert_eq!(rt; legs, wanted, "{case}");
-}
-
-// The deal of a block of so many lots at a price, with those of a book, is the one that is wanted.
-fn expect_deal_of_block(
-    rt: &(impl Abort + AllocGlobal),
-    case: &str,
-    blocks: &[RestingBlock],
-    (quantity, cents): (u32, i32),
-    want: Option<(u32, u32, i32)>,
-) {
-    let own = block(3, 3, Side::Buy, cents, quantity);
-    match deal_of_block(rt.alloc(), blocks, &own) {
-        Ok(found) => expect_deal(rt, &found, want, case),
-        Err(_) => rt.panic("no book was made"),
+// The deals of some cases are those that are wanted, over both sides of the diamond.
+fn expect_deals(rt: &(impl Abort + AllocGlobal), cases: &[Case]) {
+    for (rows, own, want) in cases {
+        let found = deal_of(rt, rows, *own);
+        let terms = found
+            .as_ref()
+            .map(|deal| (deal.taker, deal.maker, deal.price.0));
+        assert_eq!(rt; terms, *want, "{own:?}");
+        if let Some(deal) = found {
+            assert_eq!(rt; deal.legs, both_sides(rt), "{own:?}");
+        }
     }
 }
 
 #[test]
 fn a_block_trades_wholly_over_two_routes_or_not_at_all(rt: HostRuntime) {
-    let ten = block(1, 0, Side::Sell, 4000, 10);
-    let eleven = block(2, 0, Side::Sell, 4000, 11);
-    let both = [ten, eleven];
-    expect_deal_of_block(&rt, "higher", &both, (10, 5000), Some((3, 1, 4000)));
-    expect_deal_of_block(&rt, "equal", &both, (10, 4000), Some((3, 1, 4000)));
-    expect_deal_of_block(&rt, "lower", &both, (10, 3999), None);
-    expect_deal_of_block(&rt, "too many", &both, (11, 5000), None);
-    // There is no room for all of it from its zone.
-    let near = block(1, 1, Side::Sell, 3000, 10);
-    let far = block(2, 0, Side::Sell, 4000, 10);
-    expect_deal_of_block(&rt, "near", &[near, far], (10, 5000), Some((3, 2, 4000)));
-}
-
-// The next deal of the period of a book is the one that is wanted.
-fn expect_deal_of_period(
-    rt: &(impl Abort + AllocGlobal),
-    case: &str,
-    blocks: &[RestingBlock],
-    want: Option<(u32, u32, i32)>,
-) {
-    match deal_of_period(rt.alloc(), blocks) {
-        Ok(found) => expect_deal(rt, &found, want, case),
-        Err(_) => rt.panic("no book was made"),
-    }
+    expect_deals(&rt, ENTERING.as_slice());
 }
 
 #[test]
 fn of_two_resting_blocks_the_earlier_is_the_maker(rt: HostRuntime) {
-    let alone = block(1, 3, Side::Buy, 6000, 7);
-    let buy = block(2, 3, Side::Buy, 5000, 10);
-    let sell = block(3, 0, Side::Sell, 4000, 10);
-    expect_deal_of_period(&rt, "three", &[alone, buy, sell], Some((3, 2, 5000)));
-    expect_deal_of_period(&rt, "two", &[alone, sell], None);
+    expect_deals(&rt, RESTING.as_slice());
 }

@@ -6,5 +6,3 @@
 
 #[cfg(test)]
 mod deal_tests;
-#[cfg(test)]
-mod drawn_tests;

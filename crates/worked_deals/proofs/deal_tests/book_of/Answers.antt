@@ -5,10 +5,10 @@ use Rattle.block_book.specs.declared.block.RestingBlock.{RestingBlock}
 use Rattle.block_book.specs.Blocks.{number_cmp}
 use Rattle.worked_deals.proofs.deal_tests.book_of.Goals as goal
 
-pub loop-block-preserved : goal.loop-block-preserved
-loop-block-preserved c = λ block i.
+pub loop-row-preserved : goal.loop-row-preserved
+loop-row-preserved g c = λ block i.
     let rests = c.in-Ok.ensures.rests in
-    elim (from_put_in_order number_cmp block c.loop-block.book _ (subst (IsIn block) rests i)) [
+    elim (from_put_in_order number_cmp block c.loop-row.book _ (subst (IsIn block) rests i)) [
       | inl same ↦ let zone = ap (λ (b : RestingBlock). b.zone) same in omega (arith, zone, c.if-block-ge4.false)
-      | inr j ↦ c.loop-block.invariant block j
+      | inr j ↦ c.loop-row.invariant block j
     ]

@@ -4,5 +4,5 @@ use Rattle.block_book.specs.declared.block.RestingBlock.{RestingBlock}
 use Rattle.worked_deals.proofs.deal_tests.book_of.Given as goal
 
 -- the zones of the blocks so far are those of the diamond
-abbrev pub invariant-loop-block : goal.invariant-loop-block
-invariant-loop-block l = (block : RestingBlock) → IsIn block l.book → block.zone < 4
+abbrev pub invariant-loop-row : goal.invariant-loop-row
+invariant-loop-row g l = (block : RestingBlock) → IsIn block l.book → block.zone < 4

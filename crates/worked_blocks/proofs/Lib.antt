@@ -1,2 +1,0 @@
--- Lemmas of the tests of this crate.
-pub mod Markets

@@ -1,2 +1,0 @@
--- What the tests of this crate cite.
-pub mod Market
