@@ -1,262 +1,138 @@
-//! Books of blocks beside a plain list of what has to rest in them: generated calls, and a full book
-//! with holes.
+//! Books of blocks: the lines of a period step by step, and a full book and its copy.
 
-ghost use Rattle.std.specs.Prelude.{◌<◌, length};
-
-use crate::draws::Draws;
 use block_book::{BlockBook, Full, RestingBlock};
 use order_kinds::{Price, Side};
-use std::alloc::{AllocError, Global};
 use std::process::Abort;
 
-// The last hours of the blocks.
-const FIRST_LAST: u32 = 14;
+// The last hour of the lines that are looked at, and the lots of one of them.
+const LAST: u32 = 14;
 
-const END_LAST: u32 = 17;
+const TEN: u32 = 10;
 
-// Below which the lots of the blocks are.
-const QUANTITIES: u32 = 4;
-
-// Below which the numbers of the generated calls are.
-const NUMBERS: u32 = 60;
-
-// A book beside the plain list of what has to rest in it.
-#[derive(Drop)]
-struct Both {
-    book: BlockBook,
-    plain: Vec<RestingBlock>,
+// What is done to a book.
+#[derive(Clone, Copy, Debug)]
+enum Step {
+    // A buy rests: its number, its price in cents, its lots, the last hour of its period, and its moment.
+    Rest(u32, i32, u32, u32, u64),
+    // The block of a number is withdrawn, and whether there is one.
+    Withdraw(u32, bool),
 }
 
-impl Both {
-    fn new(rt: &impl Abort, alloc: Global) -> Both {
-        let book = BlockBook::new(alloc).expect(rt, "memory");
-        Both {
-            book,
-            plain: Vec::new(alloc),
-        }
-    }
-
-    fn copy(&self, rt: &impl Abort) -> Both {
-        let book = self.book.copy().expect(rt, "memory");
-        let plain = self.plain.clone().expect(rt, "memory");
-        Both { book, plain }
-    }
-
-    // What the book answers to a block whose number is free.
-    fn answer(&mut self, rt: &impl Abort, block: RestingBlock) -> Result<(), Full> {
-        assert!(rt; self.book.get(block.number).is_none());
-        self.book.rest(block)
-    }
-
-    // Rests a block whose number is free.
-    fn rest(&mut self, rt: &impl Abort, block: RestingBlock) {
-        assert_eq!(rt; self.answer(rt, block), Ok(()));
-        self.plain.push(block).expect(rt, "memory");
-    }
-
-    // Withdraws a block.
-    fn withdraw(&mut self, rt: &impl Abort, number: u32) {
-        let wanted = listed(self.plain.as_slice(), number);
-        assert_eq!(rt; self.book.withdraw(number), wanted);
-        self.plain.retain(|block| block.number != number);
-    }
-
-    // The first block of a line, of a quantity or of all.
-    fn first(&self, last: u32, quantity: Option<u32>, side: Side) -> Option<RestingBlock> {
-        match quantity {
-            Some(quantity) => self.book.first(last, quantity, side),
-            None => self.book.first_any(last, side),
-        }
-    }
-
-    // The block behind one that rests, of the same quantity or of all.
-    fn behind(&self, rt: &impl Abort, number: u32, quantity: Option<u32>) -> Option<RestingBlock> {
-        assert!(rt; self.book.get(number).is_some());
-        match quantity {
-            Some(_) => self.book.after(number),
-            None => self.book.after_any(number),
-        }
-    }
-
-    // The line of a quantity, or of all, has the blocks of the list from a place on. Gives the
-    // place behind its last one.
-    fn expect_line(
-        &self,
-        rt: &impl Abort,
-        last: u32,
-        quantity: Option<u32>,
-        side: Side,
-        from: usize,
-    ) -> usize {
-        let mut walked = from;
-        let mut at = self.first(last, quantity, side);
-        for _ in 0..4096u32 {
-            let Some(block) = at else {
-                break;
-            };
-            expect_listed(rt, self.plain.as_slice(), walked, block);
-            walked += 1;
-            at = self.behind(rt, block.number, quantity);
-        }
-        walked
-    }
-
-    // The lines of all quantities have the blocks of the list, each in priority.
-    fn expect_periods(&mut self, rt: &impl Abort) {
-        sort_by_period(&mut self.plain).expect(rt, "memory");
-        let mut walked = 0;
-        for last in FIRST_LAST..END_LAST {
-            walked = self.expect_line(rt, last, None, Side::Buy, walked);
-            walked = self.expect_line(rt, last, None, Side::Sell, walked);
-        }
-        assert_eq!(rt; walked, self.plain.len());
-        assert_eq!(rt; self.book.len() as usize, self.plain.len());
-    }
-
-    // So have the lines of a quantity, from a place on.
-    fn expect_quantity(&self, rt: &impl Abort, quantity: u32, from: usize) -> usize {
-        let mut walked = from;
-        for last in FIRST_LAST..END_LAST {
-            walked = self.expect_line(rt, last, Some(quantity), Side::Buy, walked);
-            walked = self.expect_line(rt, last, Some(quantity), Side::Sell, walked);
-        }
-        walked
-    }
-
-    // So have the lines of each quantity.
-    fn expect_quantities(&mut self, rt: &impl Abort) {
-        sort_by_quantity(&mut self.plain).expect(rt, "memory");
-        let mut walked = 0;
-        for quantity in 0..QUANTITIES {
-            walked = self.expect_quantity(rt, quantity, walked);
-        }
-        assert_eq!(rt; walked, self.plain.len());
-    }
-
-    // Book and list have the same block of a number.
-    fn expect_number(&self, rt: &impl Abort, number: u32) {
-        let wanted = listed(self.plain.as_slice(), number);
-        assert_eq!(rt; self.book.get(number), wanted, "{number}");
-    }
-
-    // Book and list have the same blocks, in all lines and by these numbers.
-    fn expect_same(&mut self, rt: &impl Abort, numbers: u32) {
-        self.expect_periods(rt);
-        self.expect_quantities(rt);
-        for number in 0..numbers {
-            self.expect_number(rt, number);
-        }
-    }
-}
-
-fn sort_by_period(plain: &mut Vec<RestingBlock>) -> Result<(), AllocError> {
-    plain.sort_by_key(|block| (block.last, place(block)))
-}
-
-fn sort_by_quantity(plain: &mut Vec<RestingBlock>) -> Result<(), AllocError> {
-    plain.sort_by_key(|block| (block.quantity, block.last, place(block)))
-}
-
-// A list has this block at a place.
-fn expect_listed(rt: &impl Abort, plain: &[RestingBlock], at: usize, block: RestingBlock)
-    ensures { at < length plain.now }
-{
-    assert!(rt; at < plain.len(), "no block is wanted behind {block:?}");
-    assert_eq!(rt; block, plain[at], "at {at}");
-}
-
-// The block of a number in a list.
-fn listed(plain: &[RestingBlock], number: u32) -> Option<RestingBlock> {
-    for block in plain {
-        if block.number == number {
-            return Some(*block);
-        }
-    }
-    None
-}
-
-// What a block of a period is sorted by: its side, its price, the better one first, its moment and
-// its number.
-fn place(block: &RestingBlock) -> (bool, i64, u64, u32) {
-    let cents = i64::from(block.price.0);
-    let rank = match block.side {
-        Side::Buy => -cents,
-        Side::Sell => cents,
-    };
-    (block.side == Side::Sell, rank, block.moment, block.number)
-}
-
-// A block of a number, all of whose other values come from another number.
-fn block(number: u32, from: u32) -> RestingBlock {
+fn buy(number: u32, cents: i32, quantity: u32, last: u32, moment: u64) -> RestingBlock {
     RestingBlock {
         number,
-        caller: from % 7,
-        zone: from % 5,
-        side: if from % 2 == 0 { Side::Buy } else { Side::Sell },
-        price: Price((from / 2 % 5) as i32 - 2),
-        quantity: from / 10 % QUANTITIES,
-        last: FIRST_LAST + from / 40 % (END_LAST - FIRST_LAST),
-        moment: u64::from(from / 120 % 6),
+        caller: 1,
+        zone: 2,
+        side: Side::Buy,
+        price: Price(cents),
+        quantity,
+        last,
+        moment,
     }
 }
 
-// Makes a drawn call.
-fn call(rt: &impl Abort, both: &mut Both, draws: &mut Draws) {
-    let number = draws.below(NUMBERS);
-    if both.book.get(number).is_some() || draws.below(8) == 0 {
-        both.withdraw(rt, number);
+// What a book answers to a block whose number is free.
+fn answer(rt: &impl Abort, book: &mut BlockBook, block: RestingBlock) -> Result<(), Full> {
+    assert!(rt; book.get(block.number).is_none());
+    book.rest(block)
+}
+
+fn make(rt: &impl Abort, book: &mut BlockBook, step: Step) {
+    match step {
+        Step::Rest(number, cents, quantity, last, moment) => {
+            let block = buy(number, cents, quantity, last, moment);
+            assert_eq!(rt; answer(rt, book, block), Ok(()));
+        }
+        Step::Withdraw(number, there) => {
+            assert_eq!(rt; book.withdraw(number).is_some(), there);
+        }
+    }
+}
+
+// A block is of the wanted number; the block behind it, of all quantities or of its own.
+fn behind(
+    rt: &impl Abort,
+    book: &BlockBook,
+    at: Option<RestingBlock>,
+    number: u32,
+    any: bool,
+) -> Option<RestingBlock> {
+    assert_eq!(rt; at.map(|block| block.number), Some(number));
+    assert!(rt; book.get(number).is_some());
+    if any {
+        book.after_any(number)
     } else {
-        both.rest(rt, block(number, draws.below(720)));
+        book.after(number)
     }
 }
 
-// Makes drawn calls of an empty book, and looks at it after each.
-fn make_calls(rt: &impl Abort, both: &mut Both, seed: u64, calls: u32) {
-    assert!(rt; both.book.is_empty());
-    let mut draws = Draws::new(seed);
-    for _ in 0..calls {
-        call(rt, both, &mut draws);
-        both.expect_same(rt, NUMBERS);
+// The line of a period, of all quantities or of ten lots, has the blocks of these numbers.
+fn expect_line(rt: &impl Abort, book: &BlockBook, step: Step, any: bool, numbers: &[u32]) {
+    let mut at = if any {
+        book.first_any(LAST, Side::Buy)
+    } else {
+        book.first(LAST, TEN, Side::Buy)
+    };
+    for number in numbers {
+        at = behind(rt, book, at, *number, any);
     }
+    assert_eq!(rt; at, None, "after {step:?}");
 }
 
-// Makes drawn calls of a new book.
-fn draw_calls(rt: &impl Abort, alloc: Global, seed: u64, calls: u32) {
-    let mut both = Both::new(rt, alloc);
-    make_calls(rt, &mut both, seed, calls);
+// A step, and the numbers in the lines of all quantities and of ten lots after it.
+type Row<'a> = (Step, &'a [u32], &'a [u32]);
+
+const STEPS: [Row; 8] = [
+    (Step::Rest(1, 40, 10, 14, 5), &[1], &[1]),
+    // the better price goes first
+    (Step::Rest(2, 42, 9, 14, 6), &[2, 1], &[1]),
+    // at one price the earlier moment, and at one moment the smaller number
+    (Step::Rest(4, 42, 10, 14, 4), &[4, 2, 1], &[4, 1]),
+    (Step::Rest(3, 42, 10, 14, 4), &[3, 4, 2, 1], &[3, 4, 1]),
+    // a block of another period changes nothing
+    (Step::Rest(5, 50, 10, 15, 1), &[3, 4, 2, 1], &[3, 4, 1]),
+    (Step::Withdraw(3, true), &[4, 2, 1], &[4, 1]),
+    (Step::Withdraw(3, false), &[4, 2, 1], &[4, 1]),
+    (Step::Withdraw(5, true), &[4, 2, 1], &[4, 1]),
+];
+
+fn make_all(rt: &impl Abort, book: &mut BlockBook, rows: &[Row]) {
+    for (step, all, ten) in rows {
+        make(rt, book, *step);
+        expect_line(rt, book, *step, true, all);
+        expect_line(rt, book, *step, false, ten);
+    }
 }
 
 #[test]
-fn generated_calls_against_a_plain_list(rt: HostRuntime) {
-    for (seed, calls) in [(1, 400), (20260, 400), (3333333333, 400)] {
-        draw_calls(&rt, rt.alloc(), seed, calls);
-    }
+fn the_lines_of_a_period_step_by_step(rt: HostRuntime) {
+    let mut book = BlockBook::new(rt.alloc()).expect(&rt, "memory");
+    assert!(rt; book.is_empty());
+    make_all(&rt, &mut book, STEPS.as_slice());
+    assert_eq!(rt; book.len(), 3);
 }
 
-// Rests 4096 blocks, some of one price and moment: the book is then full.
-fn fill_up(rt: &impl Abort, both: &mut Both) {
+// Rests 4096 blocks: the book is then full.
+fn fill_up(rt: &impl Abort, book: &mut BlockBook) {
     for number in 0..4096u32 {
-        both.rest(rt, block(number, number / 2));
+        let block = buy(number, 40, number % 4, LAST, u64::from(number / 2));
+        assert_eq!(rt; answer(rt, book, block), Ok(()));
     }
-    assert_eq!(rt; both.answer(rt, block(5000, 0)), Err(Full));
+    assert_eq!(rt; answer(rt, book, buy(5000, 41, 2, LAST, 1)), Err(Full));
 }
 
 // A copy is changed, and the book stays as it was.
-fn expect_copy_apart(rt: &impl Abort, both: &mut Both) {
-    let mut copy = both.copy(rt);
-    copy.rest(rt, block(5000, 0));
-    copy.withdraw(rt, 0);
-    copy.withdraw(rt, 5001);
-    copy.expect_same(rt, 5002);
-    both.expect_same(rt, 5002);
+fn expect_copy_apart(rt: &impl Abort, book: &BlockBook) {
+    let mut copy = book.copy().expect(rt, "memory");
+    make(rt, &mut copy, Step::Withdraw(77, true));
+    make(rt, &mut copy, Step::Rest(5000, 40, 2, 14, 1));
+    assert!(rt; book.get(77).is_some());
+    assert_eq!(rt; book.get(5000), None);
 }
 
 #[test]
-fn a_copy_of_a_full_book_with_holes_shares_nothing(rt: HostRuntime) {
-    let mut both = Both::new(&rt, rt.alloc());
-    fill_up(&rt, &mut both);
-    both.expect_same(&rt, 5002);
-    both.withdraw(&rt, 77);
-    both.withdraw(&rt, 2000);
-    expect_copy_apart(&rt, &mut both);
+fn a_full_book_takes_no_more_and_its_copy_shares_nothing(rt: HostRuntime) {
+    let mut book = BlockBook::new(rt.alloc()).expect(&rt, "memory");
+    fill_up(&rt, &mut book);
+    expect_copy_apart(&rt, &book);
 }

@@ -10,8 +10,6 @@ mod block_tests;
 #[cfg(test)]
 mod book_tests;
 #[cfg(test)]
-mod draws;
-#[cfg(test)]
 mod end_tests;
 #[cfg(test)]
 mod log_tests;

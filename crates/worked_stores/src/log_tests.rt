@@ -41,41 +41,11 @@ fn make_all(rt: &impl Abort, log: &mut UndoLog<u32>, rows: &[(Step, usize)]) {
     }
 }
 
-// An empty log takes two changes where room for them is reserved.
-fn expect_two_noted(rt: &impl Abort, log: &mut UndoLog<u32>) {
-    assert_eq!(rt; log.spare(), 0);
-    make(rt, log, Step::Reserve(2));
-    make(rt, log, Step::Note(7));
-    make(rt, log, Step::Note(8));
-    assert_eq!(rt; log.len(), 2);
-    assert!(rt; !log.is_empty());
-}
-
 // No memory is so large that a log could reserve all: it stays as it was.
 fn expect_no_memory(rt: &impl Abort, log: &mut UndoLog<u32>) {
     let room = log.spare();
     assert_eq!(rt; log.reserve(usize::MAX), Err(NoMemory));
     assert_eq!(rt; log.spare(), room);
-}
-
-// A log of two changes has their room once they are gone.
-fn expect_room_back(rt: &impl Abort, log: &mut UndoLog<u32>) {
-    let room = log.spare();
-    make(rt, log, Step::Back(Some(8)));
-    assert_eq!(rt; log.spare().checked_sub(room), Some(1));
-    log.clear();
-    assert!(rt; log.is_empty());
-    assert_eq!(rt; log.spare().checked_sub(room), Some(2));
-    make(rt, log, Step::Back(None));
-}
-
-#[test]
-fn each_call_answers(rt: HostRuntime) {
-    let mut log = UndoLog::new(rt.alloc()).expect(&rt, "memory");
-    assert!(rt; log.is_empty());
-    expect_two_noted(&rt, &mut log);
-    expect_no_memory(&rt, &mut log);
-    expect_room_back(&rt, &mut log);
 }
 
 fn bytes(rt: &impl Abort, alloc: Global, byte: u8) -> Vec<u8> {
@@ -142,4 +112,6 @@ const ROWS: [(Step, usize); 22] = [
 fn a_row_of_steps(rt: HostRuntime) {
     let mut log = UndoLog::new(rt.alloc()).expect(&rt, "memory");
     make_all(&rt, &mut log, ROWS.as_slice());
+    assert!(rt; log.is_empty());
+    expect_no_memory(&rt, &mut log);
 }

@@ -101,19 +101,6 @@ fn fill_up(rt: &impl Abort, pool: &mut Pool<u32>)
     }
 }
 
-// Takes the item of each place of a full pool.
-fn empty_out(rt: &impl Abort, pool: &mut Pool<u32>)
-    requires lines { 0 < length pool.old.lines }
-    requires sound { IsSound pool.old }
-    ensures lines { 0 < length pool.new.lines }
-    ensures sound { IsSound pool.new }
-{
-    for item in 0..PLACES {
-        assert_eq!(rt; take_nth(rt, pool, 0), item);
-    }
-    assert_eq!(rt; pool.first(0), None);
-}
-
 #[test]
 fn full_at_4096_items(rt: HostRuntime) {
     let mut pool = Pool::new(rt.alloc()).expect(&rt, "memory");
@@ -123,13 +110,4 @@ fn full_at_4096_items(rt: HostRuntime) {
     let _item = take_nth(&rt, &mut pool, 77);
     assert_eq!(rt; pool.put(4097), Ok(place));
     assert_eq!(rt; pool.put(4098), Err(Full));
-}
-
-#[test]
-fn every_place_is_used_again(rt: HostRuntime) {
-    let mut pool = Pool::new(rt.alloc()).expect(&rt, "memory");
-    fill_up(&rt, &mut pool);
-    empty_out(&rt, &mut pool);
-    fill_up(&rt, &mut pool);
-    assert_eq!(rt; pool.put(4096), Err(Full));
 }
