@@ -4,39 +4,11 @@ ghost use Rattle.std.specs.Prelude.{◌≡◌, length};
 ghost use Rattle.zone_graph.specs.Graph.{border_count, zone_count};
 
 use crate::made::{expect_equal, rooms_over};
-use route_choice::{RouteSearch, best_route};
+use route_choice::RouteSearch;
 use std::process::Abort;
 use std::test::Fail;
-use worked_grids::{diamond, ring_of_twelve};
+use worked_grids::diamond;
 use zone_graph::{Arc, Grid, Rooms, Route};
-
-// A search for the routes to a zone, or from it, answers the best route between it and another zone, and
-// tells whether there is one.
-fn expect_route(
-    rt: &(impl Abort + AllocGlobal),
-    grid: &Grid,
-    rooms: &Rooms,
-    ends: (u32, u32),
-    towards: bool,
-)
-    requires { length rooms.now ≡ border_count grid.now }
-{
-    let (from, to) = ends;
-    if from >= grid.zones() || to >= grid.zones() {
-        rt.panic("no such zone");
-    }
-    let best = best_route(rt.alloc(), grid, rooms, from, to).expect(rt, "memory");
-    let (zone, other) = if towards { (to, from) } else { (from, to) };
-    let search = RouteSearch::new(grid, rooms, zone, towards);
-    expect_equal(
-        rt,
-        &search.reaches(other),
-        &best.is_some(),
-        &(ends, towards),
-    );
-    let found = search.route(rt.alloc(), grid, rooms, other);
-    expect_equal(rt, &found.expect(rt, "memory"), &best, &(ends, towards));
-}
 
 // The way over the lesser borders of the diamond, from its first zone to its last.
 fn lesser_way() -> [Arc; 2] {
@@ -95,29 +67,5 @@ fn of_two_equal_ways_a_search_answers_that_of_the_lesser_border(
     expect_equal(&rt, &with_room, &(true, true), &"with room");
     let used_up = is_fresh_after_each(&rt, &grid, &before, &[(1, 6), (7, 0), (0, 7), (7, 0)]);
     expect_equal(&rt, &used_up, &(true, false), &"used up");
-    Ok(())
-}
-
-// The searches from and towards each of so many zones answer the best routes between it and all others.
-fn expect_the_best(rt: &(impl Abort + AllocGlobal), grid: &Grid, rooms: &Rooms, zones: u32)
-    requires { length rooms.now ≡ border_count grid.now }
-{
-    for from in 0..zones {
-        for to in 0..zones {
-            expect_route(rt, grid, rooms, (from, to), true);
-            expect_route(rt, grid, rooms, (from, to), false);
-        }
-    }
-}
-
-#[test]
-fn a_search_answers_the_best_routes_of_a_ring_of_twelve_zones(rt: HostRuntime) -> Result<(), Fail> {
-    let grid = ring_of_twelve(rt.alloc())?;
-    let mut room = [(7, 5); 20];
-    room[3] = (0, 5);
-    room[11] = (7, 0);
-    room[14] = (0, 0);
-    let rooms = rooms_over(&rt, &grid, &room);
-    expect_the_best(&rt, &grid, &rooms, 12);
     Ok(())
 }
