@@ -141,11 +141,6 @@ pub record IsOver (graph : Graph) (board : BoardState) : Type 0 where
   pub over : graph ≡ board.grid
   pub all_parts : board.parts ≡ 7
 
--- so is a board, and another is over the same grid
-pub record AreOver (graph : Graph) (board former : BoardState) : Type 0 where
-  pub of_board : IsOver graph board
-  pub of_former : graph ≡ former.grid
-
 -- a board is over the same grid as another, with as many parts
 pub record SameMarket (old new : BoardState) : Type 0 where
   pub same_grid : new.grid ≡ old.grid

@@ -2,7 +2,6 @@
 //! the list alone. The tests of the matchers and of local views run on it.
 #![tactic(auto)]
 
-mod draws;
 mod kept_part;
 mod parts;
 mod refused;
@@ -12,7 +11,6 @@ mod small_market;
 mod steps;
 mod takers;
 
-pub use draws::Draws;
 pub use kept_part::KeptPart;
 pub use parts::{PARTS, contract_at, number_of};
 pub use refused::Refused;

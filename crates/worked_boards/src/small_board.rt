@@ -139,25 +139,6 @@ impl SmallBoard {
         &self.parts.as_slice()[number as usize]
     }
 
-    /// Becomes as another board is, which is over the same grid.
-    ///
-    /// # Errors
-    ///
-    /// [`NoMemory`], where memory is wanting: the board is as before.
-    pub fn follow(&mut self, other: &SmallBoard) -> Result<(), NoMemory>
-        requires grid { self.old.grid ≡ other.now.grid }
-        ensures same { OnOk result (self.new ≡ other.now) }
-        ensures unchanged { OnErr result (self.new ≡ self.old) }
-    {
-        let events = copy_of(self.alloc, &other.events)?;
-        let parts = parts_of(self.alloc, &self.grid, &events, other.hour)?;
-        self.hour = other.hour;
-        self.hand = other.hand;
-        self.events = events;
-        self.parts = parts;
-        Ok(())
-    }
-
     /// Lets a caller's order enter. It is in hand then, and its number is answered.
     ///
     /// # Errors

@@ -10,7 +10,7 @@ use crate::refused::Refused;
 use crate::small_board::SmallBoard;
 use crate::steps::Step;
 use crate::takers::fresh_taker;
-use market_model::{Event, Names, NoMemory, Order, Pairs, Word};
+use market_model::{Event, Names, Order, Pairs, Word};
 use match_core::take;
 use plain_matching::HourSums;
 use std::alloc::Global;
@@ -20,25 +20,24 @@ use sweep_core::PartSet;
 use zone_graph::Grid;
 
 /// An hour in which orders are matched: a board, and a grid that is the board's once more. Each taking
-/// and each sweep is made on the board, and beside it on a copy of the events by the plain market. A
-/// second board is as the first one once was. Contracts see what the board stands for.
+/// and each sweep is made on the board, and beside it on a copy of the events by the plain market.
+/// Contracts see what the board stands for.
 #[derive(Drop)]
 pub struct SmallMarket {
     alloc: Global,
     grid: Grid,
     board: SmallBoard,
-    former: SmallBoard,
 }
 
 impl Model for SmallMarket {
     ghost use Rattle.market_model.specs.Board.{BoardState};
-    ghost use Rattle.worked_boards.specs.Small.{AreOver};
+    ghost use Rattle.worked_boards.specs.Small.{IsOver};
 
     ghost Value = { BoardState };
 
     ghost view = { λ market. market.board };
 
-    ghost invariant = { λ market. AreOver market.grid market.board market.former };
+    ghost invariant = { λ market. IsOver market.grid market.board };
 }
 
 impl SmallMarket {
@@ -62,12 +61,10 @@ impl SmallMarket {
         let borders = Pairs::from(Vec::from_slice(alloc, pairs)?);
         let grid = Grid::new(alloc, &names, &borders)?;
         let own = Grid::new(alloc, &names, &borders)?;
-        let once = Grid::new(alloc, &names, &borders)?;
         Ok(SmallMarket {
             alloc,
             grid,
             board: SmallBoard::new(alloc, own, hour)?,
-            former: SmallBoard::new(alloc, once, hour)?,
         })
     }
 
@@ -86,27 +83,11 @@ impl SmallMarket {
         &self.board
     }
 
-    /// The board as it was when it was last kept, over the same grid; without events before.
-    pub fn former(&self) -> &SmallBoard
-        ensures { result.now.grid ≡ self.now.grid }
-    {
-        &self.former
-    }
-
     /// Its events, in order.
     pub fn events(&self) -> &[Event]
         ensures { result.now ≡ self.now.events }
     {
         self.board.events()
-    }
-
-    /// Keeps the board as it is now.
-    ///
-    /// # Errors
-    ///
-    /// [`NoMemory`], where memory is wanting: what was kept before stays.
-    pub fn keep(&mut self) -> Result<(), NoMemory> {
-        self.former.follow(&self.board)
     }
 
     /// Offers so many lots over the arc from a zone to a zone in all quarters of the hour.
@@ -190,20 +171,6 @@ impl SmallMarket {
             }
         }
         Ok(true)
-    }
-
-    /// Makes a step that was drawn, where the board lets it in, and answers whether the plain market makes the
-    /// same of it.
-    ///
-    /// # Errors
-    ///
-    /// [`NoMemory`], where memory is wanting.
-    pub fn play_drawn(&mut self, step: &Step) -> Result<bool, NoMemory> {
-        match self.play(step) {
-            Ok(alike) => Ok(alike),
-            Err(Refused::Unfit) => Ok(true),
-            Err(Refused::NoMemory) => Err(NoMemory),
-        }
     }
 }
 

@@ -1,2 +1,1 @@
 mod Adopting
-mod Differing

@@ -1,4 +1,4 @@
-//! Takings and sweeps on small boards: worked sessions, and drawn boards beside the plain market.
+//! Takings and sweeps on small boards: worked sessions.
 
 ghost use Rattle.std.specs.Prelude.{◌≡◌, ◌<◌, ◌&&◌, true, nat_lt};
 ghost use Rattle.std.specs.List.{list_all};
@@ -7,7 +7,7 @@ use market_model::{Arc, Event, Kind, Leg, Lots, Part, Side};
 use std::alloc::Global;
 use std::process::Abort;
 use std::test::Fail;
-use worked_boards::{Draws, HOUR, SmallMarket, Step, limit, order};
+use worked_boards::{HOUR, SmallMarket, Step, limit, order};
 
 // The borders of a diamond of four zones, and of two zones.
 const DIAMOND: [(u32, u32); 4] = [(0, 1), (0, 2), (1, 3), (2, 3)];
@@ -131,33 +131,4 @@ fn a_sweep_tries_halves_before_quarters(rt: HostRuntime) -> Result<(), Fail> {
         (2, 1, 20, 4000, &there),
     ];
     check_session(&rt, rt.alloc(), 2, &TWO_ZONES, &steps, &legs)
-}
-
-// How many legs there are among some events.
-fn legs_in(events: &[Event]) -> usize {
-    events
-        .iter()
-        .filter(|event| matches!(event, Event::Leg { .. }))
-        .count()
-}
-
-// The plain market makes the same of so many drawn steps, among them more than five legs.
-fn check_drawn<R: Abort>(rt: &R, alloc: Global, seed: u64, steps: u32) -> Result<(), Fail> {
-    let mut draws = Draws::new(seed);
-    let mut market = SmallMarket::new(alloc, 4, &DIAMOND, HOUR)?;
-    for step in 0..steps {
-        let is_alike = market.play_drawn(&draws.step())?;
-        assert!(rt; is_alike, "seed {seed}, step {step}");
-    }
-    let legs = legs_in(market.events());
-    assert!(rt; 5 < legs, "seed {seed} has {legs} legs");
-    Ok(())
-}
-
-#[test]
-fn drawn_boards_are_matched_as_by_the_plain_market(rt: HostRuntime) -> Result<(), Fail> {
-    for seed in 1..4u64 {
-        check_drawn(&rt, rt.alloc(), seed, 50)?;
-    }
-    Ok(())
 }

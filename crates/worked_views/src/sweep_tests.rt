@@ -1,7 +1,6 @@
-//! Sweeps of the parts alone that cross are those of all.
+//! A sweep of the parts alone that cross is that of all.
 
-use crate::few_parts::{Swept, check_drawn, swept_after};
-use crate::grids::{DIAMOND, TWO_ZONES};
+use crate::few_parts::{Swept, swept_after};
 use market_model::{Part, Side};
 use std::test::Fail;
 use worked_boards::{Step, limit};
@@ -20,29 +19,5 @@ fn a_sweep_of_the_opened_quarter_is_that_of_all(rt: HostRuntime) -> Result<(), F
     ];
     let swept = swept_after(rt.alloc(), &steps)?;
     assert_eq!(rt; swept, Swept::OfFew(2));
-    Ok(())
-}
-
-#[test]
-fn sweeps_between_two_zones_of_the_parts_that_cross_are_those_of_all(
-    rt: HostRuntime,
-) -> Result<(), Fail> {
-    let mut few: u32 = 0;
-    for seed in 1..6u64 {
-        few = few.saturating_add(check_drawn(&rt, rt.alloc(), 2, &TWO_ZONES, seed, 100)?);
-    }
-    assert!(rt; 5 < few, "{few} sweeps of few parts have legs");
-    Ok(())
-}
-
-#[test]
-fn sweeps_over_a_diamond_of_the_parts_that_cross_are_those_of_all(
-    rt: HostRuntime,
-) -> Result<(), Fail> {
-    let mut few: u32 = 0;
-    for seed in 1..6u64 {
-        few = few.saturating_add(check_drawn(&rt, rt.alloc(), 4, &DIAMOND, seed, 100)?);
-    }
-    assert!(rt; 5 < few, "{few} sweeps of few parts have legs");
     Ok(())
 }

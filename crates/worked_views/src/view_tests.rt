@@ -1,6 +1,5 @@
-//! Views of worked sessions, and of many orders beside the plain market.
+//! Views of worked sessions.
 
-use crate::drawn_views::{unlike_drawn, unlike_of_many};
 use crate::grids::{DIAMOND, TWO_ZONES};
 use crate::sessions::{buy, check_kept, check_shown, iceberg, sell};
 use market_model::Side;
@@ -113,18 +112,4 @@ fn rows_stay_until_next_ones_are_taken_over(rt: HostRuntime) -> Result<(), Fail>
     let steps = [sell(0, 4000, 30), buy(1, 3000, 70)];
     let rows = [(Side::Buy, 1, 3000, 70), (Side::Sell, 0, 4000, 30)];
     check_kept(&rt, rt.alloc(), &steps, &rows)
-}
-
-#[test]
-fn drawn_boards_are_shown_as_by_the_plain_market(rt: HostRuntime) -> Result<(), Fail> {
-    for seed in 1..4u64 {
-        assert_eq!(rt; unlike_drawn(rt.alloc(), seed, 50)?, None, "seed {seed}");
-    }
-    Ok(())
-}
-
-#[test]
-fn a_thousand_orders_are_shown_as_by_the_plain_market(rt: HostRuntime) -> Result<(), Fail> {
-    assert_eq!(rt; unlike_of_many(rt.alloc(), 7, 1000)?, None, "seed 7");
-    Ok(())
 }

@@ -73,23 +73,6 @@ pub(crate) fn forget(views: &mut LocalViews, grid: &Grid)
     views.forget();
 }
 
-/// Whether two views have the same kept rows.
-pub(crate) fn are_same(grid: &Grid, one: &LocalViews, other: &LocalViews) -> bool
-    requires one { AreViewsOver grid.now one.now }
-    requires other { AreViewsOver grid.now other.now }
-{
-    for part in 0..PARTS {
-        for zone in 0..grid.zones() {
-            let buys = one.rows(part, Side::Buy, zone) == other.rows(part, Side::Buy, zone);
-            let sells = one.rows(part, Side::Sell, zone) == other.rows(part, Side::Sell, zone);
-            if !(buys && sells) {
-                return false;
-            }
-        }
-    }
-    true
-}
-
 /// The kept rows of the whole hour: those of the buys of each zone, then of the sells.
 ///
 /// # Errors
