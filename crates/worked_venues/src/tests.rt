@@ -85,112 +85,155 @@ fn check_answer<R: Abort>(rt: &R, receipt: &Receipt, place: u64, ask: Ask, want:
     );
 }
 
+// Sells and buys in the first zone, which trade at once.
+const ORDERS: [(usize, Ask, Want); 5] = [
+    (2, SELL, Want::WrongRole),
+    (0, SELL_NOTHING, Want::QuantityOutOfRange),
+    (0, SELL, Want::Done { events: 1, lots: 0 }),
+    (
+        1,
+        BUY,
+        Want::Done {
+            events: 2,
+            lots: 20,
+        },
+    ),
+    (
+        1,
+        BUY,
+        Want::Done {
+            events: 2,
+            lots: 10,
+        },
+    ),
+];
+
+const SELL: Ask = Ask::Order {
+    hour: 12,
+    zone: 0,
+    side: Side::Sell,
+    lots: 30,
+    cents: 4000,
+};
+
+const SELL_NOTHING: Ask = Ask::Order {
+    hour: 12,
+    zone: 0,
+    side: Side::Sell,
+    lots: 0,
+    cents: 4000,
+};
+
+const BUY: Ask = Ask::Order {
+    hour: 12,
+    zone: 0,
+    side: Side::Buy,
+    lots: 20,
+    cents: 4500,
+};
+
 #[test]
 fn callers_trade_orders(rt: HostRuntime) -> Result<(), Fail> {
-    let order = |side, lots, cents| Ask::Order {
-        hour: 12,
-        zone: 0,
-        side,
-        lots,
-        cents,
-    };
-    let table = [
-        (2, order(Side::Sell, 30, 4000), Want::WrongRole),
-        (0, order(Side::Sell, 0, 4000), Want::QuantityOutOfRange),
-        (
-            0,
-            order(Side::Sell, 30, 4000),
-            Want::Done { events: 1, lots: 0 },
-        ),
-        (
-            1,
-            order(Side::Buy, 20, 4500),
-            Want::Done {
-                events: 2,
-                lots: 20,
-            },
-        ),
-        (
-            1,
-            order(Side::Buy, 20, 4500),
-            Want::Done {
-                events: 2,
-                lots: 10,
-            },
-        ),
-    ];
-    check_table(&rt, rt.alloc(), &table)
+    check_table(&rt, rt.alloc(), ORDERS.as_slice())
 }
+
+const HOURS: (u32, u32) = (12, 13);
+
+// Blocks of two zones, which trade once an offer joins them.
+const BLOCKS: [(usize, Ask, Want); 5] = [
+    (0, SELL_BLOCK, Want::Done { events: 1, lots: 0 }),
+    (1, BUY_BLOCK, Want::Done { events: 1, lots: 0 }),
+    (0, OFFER, Want::WrongRole),
+    (2, OFFER, Want::Done { events: 1, lots: 0 }),
+    (
+        1,
+        Ask::Blocks { hours: HOURS },
+        Want::Done {
+            events: 1,
+            lots: 50,
+        },
+    ),
+];
+
+const SELL_BLOCK: Ask = Ask::Block {
+    hours: HOURS,
+    zone: 0,
+    side: Side::Sell,
+    lots: 50,
+    cents: 4000,
+};
+
+const BUY_BLOCK: Ask = Ask::Block {
+    hours: HOURS,
+    zone: 1,
+    side: Side::Buy,
+    lots: 50,
+    cents: 4500,
+};
+
+const OFFER: Ask = Ask::Offer {
+    hours: HOURS,
+    lots: 50,
+};
 
 #[test]
 fn callers_trade_blocks(rt: HostRuntime) -> Result<(), Fail> {
-    let hours = (12, 13);
-    let block = |zone, side, cents| Ask::Block {
-        hours,
-        zone,
-        side,
-        lots: 50,
-        cents,
-    };
-    let table = [
-        (
-            0,
-            block(0, Side::Sell, 4000),
-            Want::Done { events: 1, lots: 0 },
-        ),
-        (
-            1,
-            block(1, Side::Buy, 4500),
-            Want::Done { events: 1, lots: 0 },
-        ),
-        (0, Ask::Offer { hours, lots: 50 }, Want::WrongRole),
-        (
-            2,
-            Ask::Offer { hours, lots: 50 },
-            Want::Done { events: 1, lots: 0 },
-        ),
-        (
-            1,
-            Ask::Blocks { hours },
-            Want::Done {
-                events: 1,
-                lots: 50,
-            },
-        ),
-    ];
-    check_table(&rt, rt.alloc(), &table)
+    check_table(&rt, rt.alloc(), BLOCKS.as_slice())
 }
+
+// Two sells, and baskets that buy them or do not.
+const BASKETS: [(usize, Ask, Want); 5] = [
+    (0, SELL_AT_TEN, Want::Done { events: 1, lots: 0 }),
+    (0, SELL_AT_ELEVEN, Want::Done { events: 1, lots: 0 }),
+    (
+        1,
+        Ask::Basket {
+            one: (10, 50),
+            other: (11, 40),
+        },
+        Want::BasketUnfilled {
+            hour: 11,
+            bound: 30,
+        },
+    ),
+    (
+        1,
+        Ask::Basket {
+            one: (11, 30),
+            other: (10, 50),
+        },
+        Want::BadBasket,
+    ),
+    (
+        1,
+        Ask::Basket {
+            one: (10, 50),
+            other: (11, 30),
+        },
+        Want::Done {
+            events: 4,
+            lots: 80,
+        },
+    ),
+];
+
+const SELL_AT_TEN: Ask = Ask::Order {
+    hour: 10,
+    zone: 0,
+    side: Side::Sell,
+    lots: 50,
+    cents: 4000,
+};
+
+const SELL_AT_ELEVEN: Ask = Ask::Order {
+    hour: 11,
+    zone: 0,
+    side: Side::Sell,
+    lots: 30,
+    cents: 4100,
+};
 
 #[test]
 fn callers_trade_baskets(rt: HostRuntime) -> Result<(), Fail> {
-    let sell = |hour, lots, cents| Ask::Order {
-        hour,
-        zone: 0,
-        side: Side::Sell,
-        lots,
-        cents,
-    };
-    let basket = |one, other| Ask::Basket { one, other };
-    let table = [
-        (0, sell(10, 50, 4000), Want::Done { events: 1, lots: 0 }),
-        (0, sell(11, 30, 4100), Want::Done { events: 1, lots: 0 }),
-        (
-            1,
-            basket((10, 50), (11, 40)),
-            Want::BasketUnfilled {
-                hour: 11,
-                bound: 30,
-            },
-        ),
-        (1, basket((11, 30), (10, 50)), Want::BadBasket),
-        (
-            1,
-            basket((10, 50), (11, 30)),
-            Want::Done {
-                events: 4,
-                lots: 80,
-            },
-        ),
-    ];
-    check_table(&rt, rt.alloc(), &table)
+    check_table(&rt, rt.alloc(), BASKETS.as_slice())
 }
