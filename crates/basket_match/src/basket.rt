@@ -1,13 +1,16 @@
 //! Baskets are planned on the desks of their hours.
 
-ghost use Rattle.std.specs.Prelude.{◌≡◌, ◌<◌, None, IfOk, List, OnErr, length};
+ghost use Rattle.std.specs.Prelude.{◌≡◌, ℕ, ◌<◌, None, IfOk, List, OnErr, length};
 ghost use Rattle.market_model.specs.declared.command.Command.TheVariants as commands;
 ghost use Rattle.market_model.specs.declared.entry.Entry.{Entry as AnEntry};
 ghost use Rattle.market_model.specs.declared.event.Event.{Event as AnEvent};
+ghost use Rattle.market_model.specs.declared.refusal.Refusal.TheVariants as refusals;
+ghost use Rattle.market_model.specs.declared.reply.Reply.TheVariants as replies;
 ghost use Rattle.market_model.specs.History.{events_of, journal_events};
 ghost use Rattle.market_model.specs.Market.{reply_to};
 ghost use Rattle.market_model.specs.Rules.{early_refusal, touched_hours};
 ghost use Rattle.joint_plan.specs.Refusing.{closed_refusal};
+ghost use Rattle.certified_maximum.specs.Unfilled.{IsUnfilledBasket};
 ghost use Rattle.joint_plan.specs.Rows.{AreAsked, AreReady, IsHistoryOf, IsJournalOf, dropped, hours_of, planning_all};
 
 use crate::orders::enter_order;
@@ -20,6 +23,10 @@ use zone_graph::{Grid, NoMemory};
 /// Plans a caller's basket, which breaks no rule by itself, on the desks of the hours of its orders, by ascending
 /// hour. Answers the market's reply to it after the journal, and each desk plans, behind its settled events, those of
 /// the reply that are of its hour: none where the basket is refused. What was planned before is dropped first.
+///
+/// It refuses as [`BasketUnfilled`](market_model::Refusal::BasketUnfilled) with the hour of an order of the basket, the
+/// zones that are still in reach where that order's taking would end, and their bound: it is below the order's quantity,
+/// and so is the value of every flow plan for the order.
 ///
 /// The setup's zones and borders are the grid of the desks, and the settled events of each are those that a legal
 /// journal of the setup leaves for its hour.
@@ -41,6 +48,9 @@ pub fn plan_basket<D: Desks>(
     requires hours { hours_of (D.desks row.old) ≡ touched_hours setup.now caller (commands.EnterBasket orders.now) }
     ensures reply { (entries : List AnEntry) → IsJournalOf setup.now (D.desks row.old) entries
         → IfOk result (λ reply. reply ≡ reply_to setup.now (journal_events entries) caller (commands.EnterBasket orders.now)) }
+    ensures certified { (entries : List AnEntry) → IsJournalOf setup.now (D.desks row.old) entries
+        → IfOk result (λ reply. (hour : ℕ) (zones : List ℕ) (bound : ℕ) → reply ≡ replies.Refused (refusals.BasketUnfilled hour zones bound)
+        → IsUnfilledBasket grid.now (journal_events entries) caller (commands.EnterBasket orders.now) hour zones bound) }
     ensures planned { IfOk result (λ reply. D.desks row.new ≡ planning_all (D.desks row.old) (events_of reply)) }
     ensures failed { OnErr result (D.desks row.new ≡ dropped (D.desks row.old)) }
     ensures rest { D.rest row.new ≡ D.rest row.old }

@@ -8,6 +8,7 @@ pub mod Desks
 pub mod Seen
 pub mod Parts
 pub mod Crosses
+pub mod Certified
 -- What stands below and is passed on to the crates above.
 pub use Rattle.desk_blocks.proofs.SameRooms
 pub use Rattle.plain_market.proofs.Admitting

@@ -57,8 +57,8 @@ pub(crate) fn share_and_refresh(
 }
 
 /// Finds and plans the deals of the resting blocks of a period, whose first hour this is, with the sweep of the hour,
-/// makes what comes of it for the hour's views, and answers the deals. Nothing is planned and nothing is
-/// next before.
+/// makes what comes of it for the hour's views, and answers the deals; the rooms are left as these leave
+/// them. Nothing is planned and nothing is next before.
 ///
 /// # Errors
 ///
@@ -80,6 +80,8 @@ pub(crate) fn match_and_refresh(
     requires none_next { forgotten views.old ≡ views.old }
     ensures deals { IfOk result (λ deals. periods.AreDealsOf hour.old.board.grid hour.old.board.hour last hour.old.settled rooms.old deals) }
     ensures planned { IfOk result (λ deals. hour.new ≡ with_planned hour.old (shared.then_swept (desk_of hour.old false) (legs_of hour.old.board.hour last deals))) }
+    ensures rooms { IfOk result (λ deals. periods.AreRoomsAfter hour.old.board.grid hour.old.board.hour last hour.old.settled rooms.old deals rooms.new) }
+    ensures size { length rooms.new ≡ length rooms.old }
     ensures next { OnOk result (IsNext hour.new.board views.new) }
     ensures stands { StandAt (settled_board hour.old) views.new }
     ensures unplanned { OnErr result (hour.new ≡ hour.old) }

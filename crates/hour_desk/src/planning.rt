@@ -1,10 +1,13 @@
 //! Commands are planned, carried and taken back.
 
-ghost use Rattle.std.specs.Prelude.{◌≡◌, ◌∷◌, ◌<◌, ◌-◌, ◌^◌, [], None, IfOk, OnErr, OnOk, count_by, length};
+ghost use Rattle.std.specs.Prelude.{◌≡◌, ℕ, ◌∷◌, ◌<◌, ◌-◌, ◌^◌, List, [], None, IfOk, OnErr, OnOk, count_by, length};
+ghost use Rattle.market_model.specs.declared.refusal.Refusal.TheVariants as refusals;
+ghost use Rattle.market_model.specs.declared.reply.Reply.TheVariants as replies;
 ghost use Rattle.market_model.specs.Grid.{graph_of};
 ghost use Rattle.market_model.specs.History.{enters_in, events_of};
 ghost use Rattle.market_model.specs.Market.{reply_to};
 ghost use Rattle.market_model.specs.Rules.{early_refusal, touched_hours};
+ghost use Rattle.certified_maximum.specs.Unfilled.{IsUnfilledOrder};
 ghost use Rattle.desk_blocks.specs.State.{settled_now, undone};
 ghost use Rattle.desk_views.specs.Desk.{adopted, forgotten};
 ghost use Rattle.hour_desk.specs.Desk as states;
@@ -20,6 +23,10 @@ use zone_graph::{Grid, NoMemory};
 impl HourDesk {
     /// Plans a caller's command that touches this hour alone and breaks no rule by itself, and answers the
     /// market's reply to it after the settled events. What was planned before is dropped first.
+    ///
+    /// It refuses as [`Unfilled`](market_model::Refusal::Unfilled) a fill-or-kill order alone, with the zones
+    /// that are still in reach where its taking would end, and with their bound: it is below the order's
+    /// quantity, and so is the value of every flow plan for it.
     ///
     /// The setup's zones and borders are the desk's grid, and the settled events are those that a legal
     /// journal of the setup leaves for the hour.
@@ -43,6 +50,8 @@ impl HourDesk {
         requires few { count_by (enters_in self.old.hour) self.old.settled < 2 ^ 32 - 1 }
         requires place { states.IsAfterJournal setup.now self.old }
         ensures reply { IfOk result (λ reply. reply ≡ reply_to setup.now self.old.settled caller command.now) }
+        ensures certified { IfOk result (λ reply. (zones : List ℕ) (bound : ℕ) → reply ≡ replies.Refused (refusals.Unfilled zones bound)
+            → IsUnfilledOrder self.old.grid self.old.settled caller command.now zones bound) }
         ensures planned { OnOk result (self.new ≡ states.planning self.old (events_of (reply_to setup.now self.old.settled caller command.now))) }
         ensures failed { OnErr result (self.new ≡ states.with_nothing_planned self.old) }
     {

@@ -71,7 +71,8 @@ impl HourDesk {
     ///
     /// # Errors
     ///
-    /// [`NoMemory`] where memory runs out; nothing is planned then.
+    /// [`NoMemory`] where memory runs out; nothing is planned then, and the rooms may be those after some of
+    /// the deals.
     pub fn match_blocks(
         &mut self,
         alloc: Global,
@@ -86,6 +87,8 @@ impl HourDesk {
         requires period { periods.IsFirstOfPeriod self.old.grid self.old.hour last self.old.settled rooms.old }
         ensures deals { IfOk result (λ deals. periods.AreDealsOf self.old.grid self.old.hour last self.old.settled rooms.old deals) }
         ensures planned { IfOk result (λ deals. self.new ≡ states.planning self.old (shared.then_swept self.old (legs_of self.old.hour last deals))) }
+        ensures rooms { IfOk result (λ deals. periods.AreRoomsAfter self.old.grid self.old.hour last self.old.settled rooms.old deals rooms.new) }
+        ensures size { length rooms.new ≡ length rooms.old }
         ensures failed { OnErr result (self.new ≡ states.with_nothing_planned self.old) }
     {
         drop_plan(&mut self.kept, &mut self.views);

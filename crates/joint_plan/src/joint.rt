@@ -1,11 +1,14 @@
 //! Commands are planned on the desks of the hours that they touch.
 
-ghost use Rattle.std.specs.Prelude.{◌≡◌, ◌<◌, None, IfOk, List, OnErr, length};
+ghost use Rattle.std.specs.Prelude.{◌≡◌, ℕ, ◌<◌, None, IfOk, List, OnErr, length};
 ghost use Rattle.market_model.specs.declared.entry.Entry.{Entry as AnEntry};
 ghost use Rattle.market_model.specs.declared.event.Event.{Event as AnEvent};
+ghost use Rattle.market_model.specs.declared.refusal.Refusal.TheVariants as refusals;
+ghost use Rattle.market_model.specs.declared.reply.Reply.TheVariants as replies;
 ghost use Rattle.market_model.specs.History.{events_of, journal_events};
 ghost use Rattle.market_model.specs.Market.{reply_to};
 ghost use Rattle.market_model.specs.Rules.{early_refusal, touched_hours};
+ghost use Rattle.certified_maximum.specs.Unfilled.{IsUnfilledOrder};
 ghost use Rattle.joint_plan.specs.Kinds.{IsNoBasket};
 ghost use Rattle.joint_plan.specs.Rows.{AreAsked, AreReady, IsHistoryOf, IsJournalOf, dropped, hours_of, planning_all};
 
@@ -23,6 +26,10 @@ use zone_graph::{Grid, NoMemory};
 /// by ascending hour. Answers the market's reply to it after the journal, and each desk plans, behind its settled
 /// events, those of the reply that are of its hour: none where the command is refused. What was planned before is
 /// dropped first.
+///
+/// It refuses as [`Unfilled`](market_model::Refusal::Unfilled) a fill-or-kill order alone, with the zones that are still
+/// in reach where its taking would end, and with their bound: it is below the order's quantity, and so is the value of
+/// every flow plan for it.
 ///
 /// The setup's zones and borders are the grid of the desks, and the settled events of each are those that a legal
 /// journal of the setup leaves for its hour.
@@ -45,6 +52,9 @@ pub fn plan_joint<D: Desks>(
     requires hours { hours_of (D.desks row.old) ≡ touched_hours setup.now caller command.now }
     ensures reply { (entries : List AnEntry) → IsJournalOf setup.now (D.desks row.old) entries
         → IfOk result (λ reply. reply ≡ reply_to setup.now (journal_events entries) caller command.now) }
+    ensures certified { (entries : List AnEntry) → IsJournalOf setup.now (D.desks row.old) entries
+        → IfOk result (λ reply. (zones : List ℕ) (bound : ℕ) → reply ≡ replies.Refused (refusals.Unfilled zones bound)
+        → IsUnfilledOrder grid.now (journal_events entries) caller command.now zones bound) }
     ensures planned { IfOk result (λ reply. D.desks row.new ≡ planning_all (D.desks row.old) (events_of reply)) }
     ensures failed { OnErr result (D.desks row.new ≡ dropped (D.desks row.old)) }
     ensures rest { D.rest row.new ≡ D.rest row.old }

@@ -5,6 +5,8 @@ use Rattle.market_model.specs.History.{events_of, journal_events}
 use Rattle.market_model.specs.Market.{reply_to}
 use Rattle.joint_plan.specs.Desk.{DeskState}
 use Rattle.joint_plan.specs.Rows.{AreAsked, IsHistoryOf, dropped, planning_all}
+use Rattle.certified_maximum.specs.Unfilled.{IsUnfilledBasket}
+use Rattle.certified_maximum.proofs.Certified.{basket_certified}
 use Rattle.joint_plan.proofs.Dropped.{asked-dropped, journal-dropped, planning-dropped, twice-dropped}
 use Rattle.joint_plan.proofs.Histories.{journal-history}
 use Rattle.basket_match.proofs.basket.plan_basket.Goals as goal
@@ -22,6 +24,14 @@ returns-in-Ok-clause-reply g c = λ entries journal.
     (subst (λ (desks : List DeskState). IsHistoryOf c.args.setup.now desks (journal_events entries)) (sym c.undo_all.ensures.desks)
     (journal-history c.args.setup.now (dropped old) entries (journal-dropped c.args.setup.now old entries journal)))
     ∙ ap (λ (orders : List Order). reply_to c.args.setup.now (journal_events entries) c.args.caller (command.EnterBasket orders)) c.as_slice.ensures
+
+pub returns-in-Ok-clause-certified : goal.returns-in-Ok-clause-certified
+returns-in-Ok-clause-certified g c = λ entries journal hour zones bound refused.
+    let given = command.EnterBasket c.args.orders.now in
+    subst (λ graph. IsUnfilledBasket graph (journal_events entries) c.args.caller given hour zones bound) c.requires.ready.over_setup
+    (basket_certified c.args.setup.now (journal_events entries) c.args.caller given hour zones bound journal.is_setup
+    (journal-history c.args.setup.now (g.D.Desks.desks c.args.row.now) entries journal).is_history
+    (sym (returns-in-Ok-clause-reply g c entries journal) ∙ refused))
 
 pub returns-in-Ok-clause-planned : goal.returns-in-Ok-clause-planned
 returns-in-Ok-clause-planned g c =

@@ -1,6 +1,8 @@
 use Rattle.std.proofs.Common.{◌∙◌, List, ap, subst, sym}
 use Rattle.market_model.specs.History.{events_of, journal_events}
 use Rattle.hour_desk.specs.Desk.{DeskState}
+use Rattle.certified_maximum.specs.Unfilled.{IsUnfilledOrder}
+use Rattle.certified_maximum.proofs.Certified.{unfilled_certified}
 use Rattle.joint_plan.specs.Rows.{AreAsked, IsHistoryOf, dropped, planning_all}
 use Rattle.joint_plan.proofs.Dropped.{asked-dropped, journal-dropped, planning-dropped, twice-dropped}
 use Rattle.joint_plan.proofs.Histories.{journal-history}
@@ -17,6 +19,13 @@ returns-in-Ok-clause-reply g c = λ entries journal.
     c.in-Ok.ensures.reply (journal_events entries)
     (subst (λ (desks : List DeskState). IsHistoryOf c.args.setup.now desks (journal_events entries)) (sym c.undo_all.ensures.desks)
     (journal-history c.args.setup.now (dropped old) entries (journal-dropped c.args.setup.now old entries journal)))
+
+pub returns-in-Ok-clause-certified : goal.returns-in-Ok-clause-certified
+returns-in-Ok-clause-certified g c = λ entries journal zones bound refused.
+    subst (λ graph. IsUnfilledOrder graph (journal_events entries) c.args.caller c.args.command.now zones bound) c.requires.ready.over_setup
+    (unfilled_certified c.args.setup.now (journal_events entries) c.args.caller c.args.command.now zones bound journal.is_setup
+    (journal-history c.args.setup.now (g.D.Desks.desks c.args.row.now) entries journal).is_history
+    (sym (returns-in-Ok-clause-reply g c entries journal) ∙ refused))
 
 pub returns-in-Ok-clause-planned : goal.returns-in-Ok-clause-planned
 returns-in-Ok-clause-planned g c =
