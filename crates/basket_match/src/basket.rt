@@ -107,7 +107,7 @@ fn enter_orders<D: Desks>(
 {
     let mut made: Vec<Event> = Vec::new(alloc);
     for (i, order) in orders.iter().enumerate() {
-        match enter_order(alloc, row, grid, setup, caller, i, order)? {
+        match enter_order(row, grid, setup, caller, i, order)? {
             Reply::Done(events) => made.append(&mut events.into_vec())?,
             Reply::Refused(refusal) => return Ok(refuse(row, refusal)),
             Reply::Seen(_) => unreachable!(),

@@ -10,7 +10,6 @@ ghost use Rattle.basket_match.specs.Orders as orders;
 use joint_plan::Desks;
 use market_model::{Command, Refusal, Reply, Setup};
 use order_kinds::Order;
-use std::alloc::Global;
 use zone_graph::{Grid, NoMemory};
 
 /// Plans an order of a basket on the desk at a place, and answers what it says of the basket: the events of the order,
@@ -20,7 +19,6 @@ use zone_graph::{Grid, NoMemory};
 ///
 /// [`NoMemory`] where memory runs out; nothing is planned there then.
 pub(crate) fn enter_order<D: Desks>(
-    alloc: Global,
     row: &mut D,
     grid: &Grid,
     setup: &Setup,
@@ -37,13 +35,12 @@ pub(crate) fn enter_order<D: Desks>(
     ensures failed { (desk : DeskState) → slice_get (D.desks row.old) i ≡ Some desk → OnErr result (D.desks row.new ≡ slice_set (D.desks row.old) i (with_nothing_planned desk)) }
     ensures rest { D.rest row.new ≡ D.rest row.old }
 {
-    let reply = plan_at(alloc, row, grid, setup, caller, i, order)?;
+    let reply = plan_at(row, grid, setup, caller, i, order)?;
     Ok(of_basket(order.contract.hour, reply))
 }
 
 // Plans an order by itself on the desk at a place, and answers the desk's reply to it.
 fn plan_at<D: Desks>(
-    alloc: Global,
     row: &mut D,
     grid: &Grid,
     setup: &Setup,
@@ -61,7 +58,7 @@ fn plan_at<D: Desks>(
     ensures rest { D.rest row.new ≡ D.rest row.old }
 {
     let command = Command::Enter { order: *order };
-    row.desk_mut(i).plan(alloc, grid, setup, caller, &command)
+    row.desk_mut(i).plan(grid, setup, caller, &command)
 }
 
 // What the reply to an order of an hour says of its basket.

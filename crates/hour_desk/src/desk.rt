@@ -33,6 +33,7 @@ use zone_graph::{Arc, Grid, NoMemory, Rooms};
 /// Parts of the hour have numbers: 0 is the hour, 1 to 4 are its quarters, 5 and 6 its halves.
 #[derive(Drop)]
 pub struct HourDesk {
+    pub(crate) alloc: Global,
     pub(crate) kept: KeptHour,
     pub(crate) views: DeskViews,
     pub(crate) is_planned: bool,
@@ -61,6 +62,7 @@ impl HourDesk {
         let kept = KeptHour::new(alloc, hour, grid)?;
         let views = DeskViews::new(alloc, grid)?;
         Ok(HourDesk {
+            alloc,
             kept,
             views,
             is_planned: false,

@@ -17,7 +17,6 @@ use crate::replying::reply_and_refresh;
 use desk_blocks::KeptHour;
 use desk_views::DeskViews;
 use market_model::{Command, Reply, Setup};
-use std::alloc::Global;
 use zone_graph::{Grid, NoMemory};
 
 impl HourDesk {
@@ -36,7 +35,6 @@ impl HourDesk {
     /// [`NoMemory`] where memory runs out; nothing is planned then.
     pub fn plan(
         &mut self,
-        alloc: Global,
         grid: &Grid,
         setup: &Setup,
         caller: u32,
@@ -58,7 +56,7 @@ impl HourDesk {
         let hour = &mut self.kept;
         let views = &mut self.views;
         drop_plan(hour, views);
-        match reply_and_refresh(alloc, hour, views, grid, setup, caller, command) {
+        match reply_and_refresh(self.alloc, hour, views, grid, setup, caller, command) {
             Ok(reply) => {
                 self.is_planned = true;
                 Ok(reply)

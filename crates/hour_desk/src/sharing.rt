@@ -13,7 +13,6 @@ use crate::part::{match_and_refresh, share_and_refresh};
 use crate::part_work::{BlockDeals, PartWork};
 use crate::planning::drop_plan;
 use market_model::Events;
-use std::alloc::Global;
 use zone_graph::{Grid, NoMemory, Rooms};
 
 impl HourDesk {
@@ -38,7 +37,6 @@ impl HourDesk {
     /// [`NoMemory`] where memory runs out; nothing is planned then.
     pub fn plan_part(
         &mut self,
-        alloc: Global,
         grid: &Grid,
         work: &PartWork,
     ) -> Result<Events, NoMemory>
@@ -51,7 +49,7 @@ impl HourDesk {
         ensures failed { OnErr result (self.new ≡ states.with_nothing_planned self.old) }
     {
         drop_plan(&mut self.kept, &mut self.views);
-        match share_and_refresh(alloc, &mut self.kept, &mut self.views, grid, work) {
+        match share_and_refresh(self.alloc, &mut self.kept, &mut self.views, grid, work) {
             Ok(events) => {
                 self.is_planned = true;
                 Ok(events)
@@ -75,7 +73,6 @@ impl HourDesk {
     /// the deals.
     pub fn match_blocks(
         &mut self,
-        alloc: Global,
         grid: &Grid,
         rooms: &mut Rooms,
         last: u32,
@@ -92,7 +89,7 @@ impl HourDesk {
         ensures failed { OnErr result (self.new ≡ states.with_nothing_planned self.old) }
     {
         drop_plan(&mut self.kept, &mut self.views);
-        match match_and_refresh(alloc, &mut self.kept, &mut self.views, grid, rooms, last) {
+        match match_and_refresh(self.alloc, &mut self.kept, &mut self.views, grid, rooms, last) {
             Ok(deals) => {
                 self.is_planned = true;
                 Ok(deals)

@@ -8,7 +8,6 @@ ghost use Rattle.joint_plan.specs.Rows.{AreAsked, IsHistoryOf, dropped, planning
 
 use crate::desks::Desks;
 use market_model::{Command, Reply, Setup};
-use std::alloc::Global;
 use zone_graph::{Grid, NoMemory};
 
 /// Plans a caller's command on the one desk that there is, and answers the market's reply to it.
@@ -17,7 +16,6 @@ use zone_graph::{Grid, NoMemory};
 ///
 /// [`NoMemory`] where memory runs out; nothing is planned then.
 pub(crate) fn plan_alone<D: Desks>(
-    alloc: Global,
     row: &mut D,
     grid: &Grid,
     setup: &Setup,
@@ -32,5 +30,5 @@ pub(crate) fn plan_alone<D: Desks>(
     ensures failed { OnErr result (dropped (D.desks row.new) ≡ dropped (D.desks row.old)) }
     ensures rest { D.rest row.new ≡ D.rest row.old }
 {
-    row.desk_mut(0).plan(alloc, grid, setup, caller, command)
+    row.desk_mut(0).plan(grid, setup, caller, command)
 }

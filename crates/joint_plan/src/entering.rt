@@ -125,7 +125,7 @@ fn plan_entered<D: Desks>(
         }),
         deals: deals_of(alloc, deal)?,
     };
-    let first = plan_at(alloc, row, grid, 0, &work)?;
+    let first = plan_at(row, grid, 0, &work)?;
     let work = without_entry(work);
     plan_others(alloc, row, grid, &work, legs, first)
 }

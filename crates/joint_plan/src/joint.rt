@@ -87,7 +87,7 @@ fn plan_asked<D: Desks>(
     ensures rest { D.rest row.new ≡ D.rest row.old }
 {
     if row.len() == 1 {
-        return plan_alone(alloc, row, grid, setup, caller, command);
+        return plan_alone(row, grid, setup, caller, command);
     }
     match command {
         Command::Offer { .. }

@@ -46,7 +46,7 @@ pub(crate) fn plan_matching<D: Desks>(
         return Ok(refuse(row, refusal));
     }
     let mut rooms = period_rooms(row, grid)?;
-    let deals = match_first(alloc, row, grid, &mut rooms, last)?;
+    let deals = match_first(row, grid, &mut rooms, last)?;
     let planned = planned_at_first(alloc, row)?;
     let legs = legs_in(first, last, deals.as_slice(), planned.len());
     let work = PartWork::Block {
@@ -62,7 +62,6 @@ pub(crate) fn plan_matching<D: Desks>(
 // Finds and plans the deals of the period on its first desk, with the sweep of its hour. The rooms are those of the
 // period, and are left as the deals leave them.
 fn match_first<D: Desks>(
-    alloc: Global,
     row: &mut D,
     grid: &Grid,
     rooms: &mut Rooms,
@@ -76,7 +75,7 @@ fn match_first<D: Desks>(
     ensures failed { (desk : DeskState) → slice_get (D.desks row.old) 0 ≡ Some desk → OnErr result (D.desks row.new ≡ slice_set (D.desks row.old) 0 (with_nothing_planned desk)) }
     ensures rest { D.rest row.new ≡ D.rest row.old }
 {
-    row.desk_mut(0).match_blocks(alloc, grid, rooms, last)
+    row.desk_mut(0).match_blocks(grid, rooms, last)
 }
 
 // The events that the first desk plans.

@@ -36,7 +36,7 @@ pub(crate) fn plan_over<D: Desks>(
     ensures failed { OnErr result (dropped (D.desks row.new) ≡ dropped (D.desks row.old)) }
     ensures rest { D.rest row.new ≡ D.rest row.old }
 {
-    let first = plan_at(alloc, row, grid, 0, work)?;
+    let first = plan_at(row, grid, 0, work)?;
     plan_others(alloc, row, grid, work, 1, first)
 }
 
@@ -63,7 +63,7 @@ pub(crate) fn plan_others<D: Desks>(
 {
     let mut made = first;
     for i in 1..row.len() {
-        let events = plan_at(alloc, row, grid, i, work)?;
+        let events = plan_at(row, grid, i, work)?;
         append_from(&mut made, events, shared)?;
     }
     Ok(made)
@@ -75,7 +75,6 @@ pub(crate) fn plan_others<D: Desks>(
 ///
 /// [`NoMemory`] where memory runs out; nothing is planned there then.
 pub(crate) fn plan_at<D: Desks>(
-    alloc: Global,
     row: &mut D,
     grid: &Grid,
     i: usize,
@@ -88,7 +87,7 @@ pub(crate) fn plan_at<D: Desks>(
     ensures failed { (desk : DeskState) → slice_get (D.desks row.old) i ≡ Some desk → OnErr result (D.desks row.new ≡ slice_set (D.desks row.old) i (with_nothing_planned desk)) }
     ensures rest { D.rest row.new ≡ D.rest row.old }
 {
-    row.desk_mut(i).plan_part(alloc, grid, work)
+    row.desk_mut(i).plan_part(grid, work)
 }
 
 /// How many legs some deals of a period have: no more than `most`.
