@@ -22,6 +22,10 @@ ship-is-text : IsUtf8 (codes "ship")
 unfolding encode_utf8
 ship-is-text = (codes "ship", (refl, refl))
 
+store-is-text : IsUtf8 (codes "store")
+unfolding encode_utf8
+store-is-text = (codes "store", (refl, refl))
+
 generate-is-text : IsUtf8 (codes "generate")
 unfolding encode_utf8
 generate-is-text = (codes "generate", (refl, refl))
@@ -32,7 +36,7 @@ asking-is-text [] asked = absurd (true≢false (sym asked))
 asking-is-text (word ∷ []) asked = only
   where
     only : (i : ℕ) (d : List ℕ) → i < 1 → IsUtf8 (get_or (word ∷ []) i d)
-    only zero d within = one-word IsUtf8 replay-is-text audit-is-text ship-is-text word asked
+    only zero d within = one-word IsUtf8 replay-is-text audit-is-text ship-is-text store-is-text word asked
     only (suc i) d within = absurd (omega (arith, within))
 asking-is-text (word ∷ count ∷ []) asked = by (bytes_eq word (codes "generate")) refl asked
   where
@@ -49,13 +53,15 @@ asking-is-text (word ∷ count ∷ more ∷ words) asked = absurd (true≢false 
 -- a number of commands that is asked for is in range
 pub asked_in_range : (words : List (List ℕ)) → IsInRange (task_of words)
 asked_in_range [] = tt
-asked_in_range (word ∷ []) = one (bytes_eq word (codes "replay")) (bytes_eq word (codes "audit")) (bytes_eq word (codes "ship"))
+asked_in_range (word ∷ []) =
+    one (bytes_eq word (codes "replay")) (bytes_eq word (codes "audit")) (bytes_eq word (codes "ship")) (bytes_eq word (codes "store"))
   where
-    one : (a b c : Bool) → IsInRange (if a then Some task.Replay else if b then Some task.Audit else if c then Some task.Ship else None)
-    one true b c = tt
-    one false true c = tt
-    one false false true = tt
-    one false false false = tt
+    one : (a b c d : Bool) → IsInRange (if a then Some task.Replay else if b then Some task.Audit else if c then Some task.Ship else if d then Some task.Store else None)
+    one true b c d = tt
+    one false true c d = tt
+    one false false true d = tt
+    one false false false true = tt
+    one false false false false = tt
 asked_in_range (word ∷ count ∷ []) = two (bytes_eq word (codes "generate"))
   where
     counted : (o : Option ℕ) → count_of count ≡ o → IsInRange (option_map task.Generate o)

@@ -33,9 +33,13 @@ ship = new_app (codes "ship")
 abbrev pub with_record_words : App → App
 with_record_words line = with_subcommand (with_subcommand line audit.top) ship.top
 
+-- the word `store`, with nothing behind it
+abbrev pub store : App
+store = new_app (codes "store")
+
 -- the command line of the program
 abbrev pub program : App
-program = with_record_words session_words
+program = with_subcommand (with_record_words session_words) store.top
 
 -- what the matches ask for, if they ask for anything
 abbrev pub task_matched : Option (Text × List Row) → Option Task

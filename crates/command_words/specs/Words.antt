@@ -20,6 +20,7 @@ task_of_word word =
     if bytes_eq word (codes "replay") then Some task.Replay
     else if bytes_eq word (codes "audit") then Some task.Audit
     else if bytes_eq word (codes "ship") then Some task.Ship
+    else if bytes_eq word (codes "store") then Some task.Store
     else None
 
 -- what a list of words asks for, if it asks for anything: one word that does, or `generate` and a
@@ -37,6 +38,10 @@ IsInRange _ = Unit {0}
 -- words that read a record, a session with its journal: `audit` and `ship`
 abbrev pub ReadsRecord : Option Task → Type 0
 ReadsRecord asked = (asked ≡ Some task.Audit) ⊎ (asked ≡ Some task.Ship)
+
+-- words that work on a disk: `store`
+abbrev pub WorksOnDisk : Option Task → Type 0
+WorksOnDisk asked = asked ≡ Some task.Store
 
 -- the one word `trade`
 abbrev pub is_trade : List (List ℕ) → Bool

@@ -62,7 +62,8 @@ fn program<'a>(alloc: Global) -> Result<Command<'a>, AllocError>
     ensures { IfOk result (λ command. app_of command ≡ asked.program) }
 {
     let line = session_words(alloc)?;
-    with_record_words(alloc, line)
+    let line = with_record_words(alloc, line)?;
+    line.subcommand(Command::new(alloc, "store"))
 }
 
 // The command line with the words that play a session alone.

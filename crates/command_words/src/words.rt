@@ -16,6 +16,9 @@ pub enum Task {
     Audit,
     /// `ship`: reads a session and its journal, and writes the schedule that follows from it.
     Ship,
+    /// `store`: plays a session in the order of its lines, appends the line of each entry to a durable journal on a disk,
+    /// and writes the image of the disk.
+    Store,
     /// `generate N`: plays the session that is generated for so many commands, and writes the
     /// summary of its journal.
     Generate {
@@ -60,6 +63,8 @@ pub(crate) fn task_of_word(word: &[u8]) -> Option<Task>
         Some(Task::Audit)
     } else if word == b"ship".as_slice() {
         Some(Task::Ship)
+    } else if word == b"store".as_slice() {
+        Some(Task::Store)
     } else {
         None
     }

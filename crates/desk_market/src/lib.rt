@@ -10,4 +10,5 @@ mod waiting;
 
 pub use market::DeskMarket;
 pub use playing::{journal_of, market_of};
+pub use waiting::Waiting;
 pub use zone_graph::NoMemory;

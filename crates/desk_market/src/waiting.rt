@@ -12,7 +12,7 @@ use zone_graph::NoMemory;
 
 /// The commands that each caller has still to give, in its order. Contracts see a list of them for each caller.
 #[derive(Drop)]
-pub(crate) struct Waiting {
+pub struct Waiting {
     callers: Vec<IntoIter<Command>>,
 }
 

@@ -5,6 +5,7 @@
 //! and on every status but `Done` says in a line on standard error what went wrong.
 #![tactic(auto)]
 
+use disk_model::RamDisk;
 use outside::{OpenGate, ReadSource, WriteSink};
 use session_run::{Status, message, run};
 use std::env;
@@ -52,7 +53,16 @@ fn run_on_streams<R: AllocGlobal + Input + Print + Threads + Wait + Sync>(
     };
     let mut source = ReadSource::new(rt.reader());
     let mut sink = WriteSink::new(&mut output);
-    let status = run(rt, rt.alloc(), words, &mut source, &mut sink, &OpenGate);
+    let mut disk = RamDisk::new(rt.alloc());
+    let status = run(
+        rt,
+        rt.alloc(),
+        words,
+        &mut source,
+        &mut sink,
+        &OpenGate,
+        &mut disk,
+    );
     drop(sink);
     match output.flush() {
         Err(_) if status == Status::Done => Status::WriteFault,

@@ -18,6 +18,8 @@ stops-early most IsBad IsIllegal left new status.Usage none = absurd none
 stops-early most IsBad IsIllegal left new status.WriteFault none = absurd none
 stops-early most IsBad IsIllegal left new (status.BadSession line) none = absurd none
 stops-early most IsBad IsIllegal left new (status.Illegal entry) none = absurd none
+stops-early most IsBad IsIllegal left new status.DiskFault none = absurd none
+stops-early most IsBad IsIllegal left new (status.BadImage place) none = absurd none
 
 -- and no entry was found illegal
 pub reads-no-entry : (most : ℕ) (left new : Option (List ℕ)) (end : Status) (entry : ℕ) → ReadsNone most left new end → end ≢ status.Illegal entry
@@ -29,3 +31,5 @@ reads-no-entry most left new status.Usage entry none e = absurd none
 reads-no-entry most left new status.WriteFault entry none e = absurd none
 reads-no-entry most left new (status.BadSession line) entry none e = absurd none
 reads-no-entry most left new (status.Illegal other) entry none e = absurd none
+reads-no-entry most left new status.DiskFault entry none e = absurd none
+reads-no-entry most left new (status.BadImage place) entry none e = absurd none

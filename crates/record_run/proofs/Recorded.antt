@@ -55,6 +55,8 @@ stops-of bytes left new status.Usage read ends = absurd ends
 stops-of bytes left new status.ReadFault read ends = absurd ends
 stops-of bytes left new status.WriteFault read ends = absurd ends
 stops-of bytes left new status.TooLong read ends = absurd ends
+stops-of bytes left new status.DiskFault read ends = absurd ends
+stops-of bytes left new (status.BadImage place) read ends = absurd ends
 
 -- ---- what is written of it
 

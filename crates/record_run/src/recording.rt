@@ -1,10 +1,10 @@
 //! What is written of a record whose journal is complete.
 
-ghost use Rattle.std.specs.Prelude.{◌≡◌, ◌≢◌, ◌≤◌, ℕ, List, IsTrue, Some, IfOk};
+ghost use Rattle.std.specs.Prelude.{◌≡◌, ◌≢◌, ◌≤◌, ℕ, List, IsTrue, Some, false, IfOk};
 ghost use Rattle.outside.specs.Faults.{Rose};
 ghost use Rattle.session_io.specs.Reading.{ReadsWithin, longest_record};
 ghost use Rattle.run_status.specs.Reading.{ReadsUpTo};
-ghost use Rattle.run_status.specs.Status.{writes_nothing};
+ghost use Rattle.run_status.specs.Status.{is_of_disk, writes_nothing};
 ghost use Rattle.record_run.specs.Outcomes.{Audited as AuditedSo, CompletesRecords, Shipped as ShippedSo};
 ghost use Rattle.record_run.specs.Records.{legal_line};
 
@@ -20,6 +20,7 @@ use zone_graph::{NoMemory, Text};
 /// entries.
 pub fn audit_record<S: Source, K: Sink>(alloc: Global, source: &mut S, sink: &mut K) -> Status
     ensures usage { result ≢ Status.Usage }
+    ensures no_disk { is_of_disk result ≡ false }
     ensures unwritten { IsTrue (writes_nothing result) → sink.new ≡ sink.old }
     ensures audited { (bytes : List ℕ) → S.left source.old ≡ Some bytes → AuditedSo bytes result (K.written sink.old) (K.written sink.new) }
     ensures complete { CompletesRecords (S.left source.old) (Rose (S.faults source.old) (S.faults source.new)) (Rose (K.faults sink.old) (K.faults sink.new)) result }
@@ -40,6 +41,7 @@ pub fn audit_record<S: Source, K: Sink>(alloc: Global, source: &mut S, sink: &mu
 /// carry over each border, and what each zone has sold and bought, quarter by quarter.
 pub fn ship_record<S: Source, K: Sink>(alloc: Global, source: &mut S, sink: &mut K) -> Status
     ensures usage { result ≢ Status.Usage }
+    ensures no_disk { is_of_disk result ≡ false }
     ensures unwritten { IsTrue (writes_nothing result) → sink.new ≡ sink.old }
     ensures shipped { (bytes : List ℕ) → S.left source.old ≡ Some bytes → ShippedSo bytes result (K.written sink.old) (K.written sink.new) }
     ensures complete { CompletesRecords (S.left source.old) (Rose (S.faults source.old) (S.faults source.new)) (Rose (K.faults sink.old) (K.faults sink.new)) result }

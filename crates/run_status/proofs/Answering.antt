@@ -4,7 +4,7 @@ use Rattle.std.specs.Io.KnownBytes.{Consumes, IsAtEnd}
 use Rattle.std.proofs.KnownBytes.{Appends-nil, Consumes-whole}
 use Rattle.run_status.specs.declared.status.Status.{Status}
 use Rattle.run_status.specs.declared.status.Status.TheVariants as status
-use Rattle.run_status.specs.Outcomes.{Answers}
+use Rattle.run_status.specs.Outcomes.{Answers, DiskAnswers}
 use Rattle.run_status.specs.Reading.{ReadsUpTo, Stops, WasRead}
 
 -- what came of known bytes up to their end is these bytes
@@ -30,6 +30,22 @@ answers-nothing most IsAsked IsBad IsIllegal left new status.WriteFault bytes ol
 answers-nothing most IsAsked IsBad IsIllegal left new status.NoMemory bytes old stops is = inl (Appends-nil old)
 answers-nothing most IsAsked IsBad IsIllegal left new (status.BadSession line) bytes old stops is = stops.bad bytes line refl is
 answers-nothing most IsAsked IsBad IsIllegal left new (status.Illegal entry) bytes old stops is = stops.illegal bytes entry refl is
+answers-nothing most IsAsked IsBad IsIllegal left new status.DiskFault bytes old stops is = absurd (true≢false (sym stops.early))
+answers-nothing most IsAsked IsBad IsIllegal left new (status.BadImage place) bytes old stops is = absurd (true≢false (sym stops.early))
 answers-nothing most IsAsked IsBad IsIllegal left new status.Usage bytes old stops is = tt
 answers-nothing most IsAsked IsBad IsIllegal left new status.ReadFault bytes old stops is = tt
 answers-nothing most IsAsked IsBad IsIllegal left new status.TooLong bytes old stops is = tt
+
+-- what is answered without a disk is answered with one
+pub answers-on-disk : (IsAsked : List ℕ → Type 0) (IsBad IsIllegal IsDamaged : ℕ → Type 0) (end : Status) (old new : Option (List ℕ))
+    → Answers IsAsked IsBad IsIllegal end old new → DiskAnswers IsAsked IsBad IsIllegal IsDamaged end old new
+answers-on-disk IsAsked IsBad IsIllegal IsDamaged status.Done old new answers = answers
+answers-on-disk IsAsked IsBad IsIllegal IsDamaged status.Usage old new answers = tt
+answers-on-disk IsAsked IsBad IsIllegal IsDamaged (status.BadSession line) old new answers = answers
+answers-on-disk IsAsked IsBad IsIllegal IsDamaged status.ReadFault old new answers = tt
+answers-on-disk IsAsked IsBad IsIllegal IsDamaged status.WriteFault old new answers = answers
+answers-on-disk IsAsked IsBad IsIllegal IsDamaged status.NoMemory old new answers = answers
+answers-on-disk IsAsked IsBad IsIllegal IsDamaged status.TooLong old new answers = tt
+answers-on-disk IsAsked IsBad IsIllegal IsDamaged (status.Illegal entry) old new answers = answers
+answers-on-disk IsAsked IsBad IsIllegal IsDamaged status.DiskFault old new answers = absurd answers
+answers-on-disk IsAsked IsBad IsIllegal IsDamaged (status.BadImage place) old new answers = absurd answers

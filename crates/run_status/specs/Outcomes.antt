@@ -26,7 +26,15 @@ Answers IsAsked IsBad IsIllegal status.WriteFault old new = IsWrittenInPart IsAs
 Answers IsAsked IsBad IsIllegal status.NoMemory old new = Appends old new [] ⊎ IsWrittenInPart IsAsked old new
 Answers IsAsked IsBad IsIllegal (status.BadSession line) old new = IsBad line
 Answers IsAsked IsBad IsIllegal (status.Illegal entry) old new = IsIllegal entry
+Answers IsAsked IsBad IsIllegal status.DiskFault old new = ⊥
+Answers IsAsked IsBad IsIllegal (status.BadImage place) old new = ⊥
 Answers IsAsked IsBad IsIllegal _ old new = Unit {0}
+
+-- the same of a run over a disk, a call of which may fail; its image is told as damaged only where it is
+abbrev pub DiskAnswers : (IsAsked : List ℕ → Type 0) (IsBad IsIllegal IsDamaged : ℕ → Type 0) → Status → (old new : Option (List ℕ)) → Type 0
+DiskAnswers IsAsked IsBad IsIllegal IsDamaged status.DiskFault old new = Unit {0}
+DiskAnswers IsAsked IsBad IsIllegal IsDamaged (status.BadImage place) old new = IsDamaged place
+DiskAnswers IsAsked IsBad IsIllegal IsDamaged end old new = Answers IsAsked IsBad IsIllegal end old new
 
 -- a run that does what it is asked for, or for which memory was wanting
 abbrev pub EndsWell : Status → Type 0

@@ -25,12 +25,20 @@ pub enum Status {
     /// There was no memory.
     NoMemory,
     /// The input is longer than it may be: 8388608 bytes for a session, 134217728 for a session with
-    /// its journal.
+    /// its journal or an image, and 67108864 for the image; or the stored lines of a journal would be
+    /// longer than 67108864 bytes.
     TooLong,
     /// The journal of a session is not complete.
     Illegal {
         /// Its first fault, counted from 1.
         entry: u64,
+    },
+    /// A call of the disk failed.
+    DiskFault,
+    /// The image of the disk is damaged.
+    BadImage {
+        /// The place of the open gate behind which no line stands, counted from 0.
+        place: u64,
     },
 }
 
@@ -48,6 +56,8 @@ impl Status {
             Status::NoMemory => 6,
             Status::TooLong => 7,
             Status::Illegal { .. } => 8,
+            Status::DiskFault => 9,
+            Status::BadImage { .. } => 10,
         }
     }
 }
@@ -69,6 +79,11 @@ pub fn message(alloc: Global, status: &Status) -> Result<Text, NoMemory>
         Status::TooLong => b"sidc: session too long\n",
         Status::Illegal { entry } => {
             let line = format!(in alloc; "sidc: illegal entry {entry}\n")?;
+            return Text::new(alloc, line.as_bytes());
+        }
+        Status::DiskFault => b"sidc: disk fault\n",
+        Status::BadImage { place } => {
+            let line = format!(in alloc; "sidc: bad image, place {place}\n")?;
             return Text::new(alloc, line.as_bytes());
         }
     };

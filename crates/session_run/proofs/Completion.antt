@@ -28,3 +28,5 @@ generates commands status.ReadFault old written outcome no_write = absurd outcom
 generates commands (status.BadSession line) old written outcome no_write = absurd outcome
 generates commands status.TooLong old written outcome no_write = absurd outcome
 generates commands (status.Illegal entry) old written outcome no_write = absurd outcome
+generates commands status.DiskFault old written outcome no_write = absurd outcome
+generates commands (status.BadImage place) old written outcome no_write = absurd outcome

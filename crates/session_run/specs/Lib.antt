@@ -1,3 +1,4 @@
 pub mod Journal
 pub mod Outcomes
 pub mod Reading
+pub mod Storing

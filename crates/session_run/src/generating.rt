@@ -1,7 +1,8 @@
 //! A generated session is played, and its journal summed up.
 
-ghost use Rattle.std.specs.Prelude.{◌≡◌, ◌≤◌, IfOk};
+ghost use Rattle.std.specs.Prelude.{◌≡◌, ◌≤◌, IfOk, false};
 ghost use Rattle.outside.specs.Faults.{Rose};
+ghost use Rattle.run_status.specs.Status.{is_of_disk};
 ghost use Rattle.session_run.specs.Journal.{IsSummaryOf};
 ghost use Rattle.session_run.specs.Outcomes.{Generated};
 
@@ -19,6 +20,7 @@ use zone_graph::{NoMemory, Text};
 pub fn generate<K: Sink>(alloc: Global, commands: u32, sink: &mut K) -> Status
     requires some { 1 ≤ commands }
     requires few { commands ≤ 100000 }
+    ensures no_disk { is_of_disk result ≡ false }
     ensures outcome { Generated commands result (K.written sink.old) (K.written sink.new) }
     ensures write_count { K.faults sink.old ≤ K.faults sink.new }
     ensures write_fault { result ≡ Status.WriteFault → Rose (K.faults sink.old) (K.faults sink.new) }

@@ -4,8 +4,10 @@
 #![tactic(auto)]
 
 mod generating;
+mod players;
 mod running;
 mod sessions;
+mod storing;
 
 pub use run_status::{Status, message};
 pub use running::{run, run_alone};

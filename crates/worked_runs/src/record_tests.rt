@@ -7,6 +7,7 @@ use crate::records::{
 use crate::sessions::words_of;
 use crate::streams::Counting;
 use command_words::is_trade;
+use disk_model::RamDisk;
 use outside::{BytesSink, BytesSource, NullSink, OpenGate};
 use session_run::{Status, run, run_alone};
 use std::alloc::Global;
@@ -26,7 +27,7 @@ fn ends(
     }
     let mut source = BytesSource::new(alloc, record, 64, reads)?;
     let mut sink = BytesSink::new(alloc, 16, writes)?;
-    let ended = run_alone(alloc, words.as_slice(), &mut source, &mut sink);
+    let ended = run_alone(alloc, words.as_slice(), &mut source, &mut sink, &mut RamDisk::new(alloc));
     Ok(ended == status && sink.bytes() == written)
 }
 
@@ -150,6 +151,7 @@ fn a_record_may_be_longer_than_a_session(rt: HostRuntime) -> Result<(), Fail> {
         ("audit", 8_388_609, Status::BadSession { line: 1 }, 130),
         ("ship", 134_217_728, Status::BadSession { line: 1 }, 2049),
         ("audit", 134_217_729, Status::TooLong, 2049),
+        ("store", 8_388_609, Status::TooLong, 129),
     ] {
         let words = words_of(rt.alloc(), &[word])?;
         let mut source = Counting {
@@ -164,6 +166,7 @@ fn a_record_may_be_longer_than_a_session(rt: HostRuntime) -> Result<(), Fail> {
             &mut source,
             &mut NullSink::new(),
             &OpenGate,
+            &mut RamDisk::new(rt.alloc()),
         );
         assert_eq!(rt; ended, status, "{word}");
         assert_eq!(rt; source.reads, reads, "{word}");

@@ -4,6 +4,7 @@ use crate::sessions::{
     BEFORE_EACH_WRITE, JOURNAL, SALE, SWEEP, SWEEP_JOURNAL, replay_steadily, replay_word, words_of,
 };
 use crate::streams::{Counting, Noting};
+use disk_model::RamDisk;
 use outside::{BytesSink, BytesSource, NullSink, OpenGate, SteadySource};
 use session_run::{Status, message, run, run_alone};
 use std::test::Fail;
@@ -20,6 +21,7 @@ fn replay_writes_the_journal_of_a_sale(rt: HostRuntime) -> Result<(), Fail> {
         &mut source,
         &mut sink,
         &OpenGate,
+        &mut RamDisk::new(rt.alloc()),
     );
     assert_eq!(rt; status, Status::Done);
     assert_eq!(rt; sink.bytes(), JOURNAL);
@@ -43,6 +45,9 @@ fn other_words_mean_nothing(rt: HostRuntime) -> Result<(), Fail> {
         &["audit", "audit"],
         &["audit", "ship"],
         &["Ship"],
+        &["store", "store"],
+        &["recover"],
+        &["stor"],
         &["generate"],
         &["generate", "0"],
         &["generate", "100001"],
@@ -57,6 +62,7 @@ fn other_words_mean_nothing(rt: HostRuntime) -> Result<(), Fail> {
             &mut source,
             &mut sink,
             &OpenGate,
+            &mut RamDisk::new(rt.alloc()),
         );
         assert_eq!(rt; status, Status::Usage);
         assert_eq!(rt; sink.bytes(), b"".as_slice());
@@ -70,7 +76,7 @@ fn a_failed_read_leaves_nothing_written(rt: HostRuntime) -> Result<(), Fail> {
     for fails in [1, 2, 16] {
         let mut source = BytesSource::new(rt.alloc(), SALE, 7, &[fails])?;
         let mut sink = BytesSink::new(rt.alloc(), 10, &[])?;
-        let status = run_alone(rt.alloc(), words.as_slice(), &mut source, &mut sink);
+        let status = run_alone(rt.alloc(), words.as_slice(), &mut source, &mut sink, &mut RamDisk::new(rt.alloc()));
         assert_eq!(rt; status, Status::ReadFault, "read {fails}");
         assert_eq!(rt; sink.bytes(), b"".as_slice());
     }
@@ -82,7 +88,7 @@ fn a_failed_write_leaves_what_went_before(rt: HostRuntime) -> Result<(), Fail> {
     let words = replay_word(rt.alloc())?;
     let mut source = SteadySource::new(rt.alloc(), SALE)?;
     let mut sink = BytesSink::new(rt.alloc(), 10, &[3])?;
-    let status = run_alone(rt.alloc(), words.as_slice(), &mut source, &mut sink);
+    let status = run_alone(rt.alloc(), words.as_slice(), &mut source, &mut sink, &mut RamDisk::new(rt.alloc()));
     assert_eq!(rt; status, Status::WriteFault);
     assert_eq!(rt; sink.bytes(), &JOURNAL[..20]);
     Ok(())
@@ -94,7 +100,7 @@ fn each_failed_read_leaves_nothing_written(rt: HostRuntime) -> Result<(), Fail> 
     for fails in 1..=5 {
         let mut source = BytesSource::new(rt.alloc(), SWEEP, 64, &[fails])?;
         let mut sink = BytesSink::new(rt.alloc(), 16, &[])?;
-        let status = run_alone(rt.alloc(), words.as_slice(), &mut source, &mut sink);
+        let status = run_alone(rt.alloc(), words.as_slice(), &mut source, &mut sink, &mut RamDisk::new(rt.alloc()));
         assert_eq!(rt; status, Status::ReadFault, "read {fails}");
         assert_eq!(rt; sink.bytes(), b"".as_slice());
     }
@@ -107,7 +113,7 @@ fn each_failed_write_leaves_the_pieces_before_it(rt: HostRuntime) -> Result<(), 
     for (place, end) in BEFORE_EACH_WRITE.iter().enumerate() {
         let mut source = SteadySource::new(rt.alloc(), SWEEP)?;
         let mut sink = BytesSink::new(rt.alloc(), 16, &[place as u64 + 1])?;
-        let status = run_alone(rt.alloc(), words.as_slice(), &mut source, &mut sink);
+        let status = run_alone(rt.alloc(), words.as_slice(), &mut source, &mut sink, &mut RamDisk::new(rt.alloc()));
         assert_eq!(rt; status, Status::WriteFault, "write {place}");
         assert_eq!(rt; Some(sink.bytes()), SWEEP_JOURNAL.get(..*end));
     }
@@ -154,6 +160,7 @@ fn generate_sums_up_the_session_of_so_many_commands(rt: HostRuntime) -> Result<(
             &mut source,
             &mut sink,
             &OpenGate,
+            &mut RamDisk::new(rt.alloc()),
         );
         assert_eq!(rt; status, Status::Done);
         assert_eq!(rt; sink.bytes(), summary);
@@ -177,6 +184,7 @@ fn each_failed_write_leaves_a_first_part_of_the_summary(rt: HostRuntime) -> Resu
             &mut source,
             &mut sink,
             &OpenGate,
+            &mut RamDisk::new(rt.alloc()),
         );
         assert_eq!(rt; status, Status::WriteFault, "write {place}");
         assert_eq!(rt; Some(sink.bytes()), summary.get(..*end));
@@ -191,7 +199,7 @@ fn each_write_is_handed_what_is_left_of_one_line(rt: HostRuntime) -> Result<(), 
     let mut sink = Noting {
         lengths: Vec::new(rt.alloc()),
     };
-    let status = run_alone(rt.alloc(), words.as_slice(), &mut source, &mut sink);
+    let status = run_alone(rt.alloc(), words.as_slice(), &mut source, &mut sink, &mut RamDisk::new(rt.alloc()));
     assert_eq!(rt; status, Status::Done);
     let lengths = [
         74, 64, 54, 44, 34, 24, 14, 4, 115, 105, 95, 85, 75, 65, 55, 45, 35, 25, 15, 5,
@@ -209,6 +217,7 @@ fn each_write_is_handed_what_is_left_of_one_line(rt: HostRuntime) -> Result<(), 
         &mut source,
         &mut sink,
         &OpenGate,
+        &mut RamDisk::new(rt.alloc()),
     );
     assert_eq!(rt; status, Status::Done);
     let lengths = [11, 1, 10, 7, 12, 2, 7];
@@ -236,6 +245,7 @@ fn the_longest_session_is_read_in_so_many_reads(rt: HostRuntime) -> Result<(), F
             words.as_slice(),
             &mut source,
             &mut NullSink::new(),
+            &mut RamDisk::new(rt.alloc()),
         );
         assert_eq!(rt; ended, status);
         assert_eq!(rt; source.reads, reads);
@@ -257,6 +267,11 @@ fn each_status_has_its_message(rt: HostRuntime) -> Result<(), Fail> {
         (Status::NoMemory, b"sidc: no memory\n"),
         (Status::TooLong, b"sidc: session too long\n"),
         (Status::Illegal { entry: 2 }, b"sidc: illegal entry 2\n"),
+        (Status::DiskFault, b"sidc: disk fault\n"),
+        (
+            Status::BadImage { place: 82 },
+            b"sidc: bad image, place 82\n",
+        ),
     ] {
         assert_eq!(rt; message(rt.alloc(), &status)?.bytes(), text);
     }

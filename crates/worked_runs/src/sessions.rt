@@ -8,6 +8,7 @@ ghost use Rattle.market_text.specs.declared.session.Session.{Session};
 ghost use Rattle.session_io.specs.Reading.{longest_session};
 ghost use Rattle.run_status.specs.declared.status.Status.TheVariants as ended;
 
+use disk_model::RamDisk;
 use outside::{NullSink, SteadySource};
 use session_run::{Status, run_alone};
 use std::alloc::Global;
@@ -61,5 +62,11 @@ pub(crate) fn replay_steadily(alloc: Global, words: &[Word], source: &mut Steady
     requires task { task_of words.now ≡ Some task.Replay }
     ensures { (session : Session) → session_of_text source.old.left ≡ Ok session → length source.old.left ≤ longest_session → (result ≡ ended.Done) ⊎ (result ≡ ended.NoMemory) }
 {
-    run_alone(alloc, words, source, &mut NullSink::new())
+    run_alone(
+        alloc,
+        words,
+        source,
+        &mut NullSink::new(),
+        &mut RamDisk::new(alloc),
+    )
 }

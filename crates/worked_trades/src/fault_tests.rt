@@ -2,6 +2,7 @@
 
 use crate::runs::{one_word, run_word};
 use crate::sessions::{ALONE, ALONE_JOURNAL};
+use disk_model::RamDisk;
 use outside::{BytesSink, BytesSource, OpenGate, SteadySource};
 use session_run::{Status, run};
 use std::alloc::Global;
@@ -31,6 +32,7 @@ fn a_failed_read_leaves_nothing_written(rt: HostRuntime) -> Result<(), Fail> {
             &mut source,
             &mut sink,
             &OpenGate,
+            &mut RamDisk::new(alloc),
         );
         assert_eq!(rt; status, Status::ReadFault, "read {fails}");
         assert_eq!(rt; sink.bytes(), b"".as_slice(), "read {fails}");
@@ -56,6 +58,7 @@ fn a_failed_write_leaves_the_pieces_before_it(rt: HostRuntime) -> Result<(), Fai
             &mut source,
             &mut sink,
             &OpenGate,
+            &mut RamDisk::new(alloc),
         );
         assert_eq!(rt; status, Status::WriteFault, "write {place}");
         let written = from_utf8(sink.bytes())?;

@@ -1,5 +1,6 @@
 //! Runs on sessions that are given.
 
+use disk_model::RamDisk;
 use outside::{BytesSink, Gate, SteadySource};
 use session_run::{Status, run};
 use std::alloc::Global;
@@ -25,6 +26,14 @@ pub(crate) fn run_word<R: Threads + Wait + Sync, G: Gate>(
     let words = one_word(alloc, word)?;
     let mut source = SteadySource::new(alloc, session.as_bytes()).map_err(|_| NoMemory)?;
     let mut sink = BytesSink::new(alloc, 4096, &[]).map_err(|_| NoMemory)?;
-    let status = run(rt, alloc, words.as_slice(), &mut source, &mut sink, gate);
+    let status = run(
+        rt,
+        alloc,
+        words.as_slice(),
+        &mut source,
+        &mut sink,
+        gate,
+        &mut RamDisk::new(alloc),
+    );
     Ok((status, sink))
 }

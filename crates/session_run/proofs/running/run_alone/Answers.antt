@@ -3,7 +3,10 @@ use Rattle.command_words.specs.Words.{IsInRange}
 use Rattle.command_words.proofs.Asking.{asked_in_range}
 use Rattle.session_run.proofs.Generated.{nothing_of_summary}
 use Rattle.journal_audit.specs.Journal.{IsJournalOf}
+use Rattle.disk_model.proofs.Moments.{started}
+use Rattle.session_run.specs.Storing.{StoresPartOf}
 use Rattle.session_run.proofs.Completion.{plays}
+use Rattle.session_run.proofs.Stored.{nothing-yet, told-empty}
 use Rattle.session_run.proofs.running.run_alone.Goals as goal
 
 -- a session that is not too long is played where nothing fails
@@ -26,3 +29,15 @@ returns-in-Ok-Some-Audit-clause-complete_record g c asked bytes session entries 
 pub returns-in-Ok-Some-Ship-clause-complete_record : goal.returns-in-Ok-Some-Ship-clause-complete_record
 returns-in-Ok-Some-Ship-clause-complete_record g c asked bytes session entries is recorded short no_read_fault no_write_fault =
     c.ship_record.ensures.complete bytes session entries is recorded short no_read_fault no_write_fault
+
+-- a session whose lines are not too large is stored where nothing fails
+pub returns-in-Ok-Some-Store-clause-complete_stored : goal.returns-in-Ok-Some-Store-clause-complete_stored
+returns-in-Ok-Some-Store-clause-complete_stored g c asked bytes session is tells read short fits no_read_fault no_write_fault no_disk_fault =
+    c.store.ensures.complete bytes session is tells read short fits no_read_fault no_write_fault no_disk_fault
+
+-- where the words could not be taken apart nothing is on the disk
+pub returns-in-Err-clause-stored_any_moment : goal.returns-in-Err-clause-stored_any_moment
+returns-in-Err-clause-stored_any_moment g c bytes asked is tells =
+    started g.D.Disk.moment g.D.Disk.left_since c.args.disk.now (StoresPartOf bytes)
+    (λ image left. nothing-yet bytes (g.D.Disk.contents c.args.disk.now) (told-empty (g.D.Disk.contents c.args.disk.now) c.requires.empty tells) image
+    (g.met.D.Disk.only_now c.args.disk.now image left))

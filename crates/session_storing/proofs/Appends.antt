@@ -1,0 +1,128 @@
+-- What is stored while a session is played.
+use Rattle.std.proofs.Common.{◌≡◌, ◌∙◌, All, ℕ, ◌+◌, ◌<◌, ◌≤◌, List, [], ◌∷◌, ◌++◌, append_assoc, cond, drop, get_or, length, length-append, nat_eq, take, take-append-drop, Option, refl, sym, ap, subst, arith}
+use Rattle.std.proofs.lemmas.List.{get_or_at, map-append, take_more}
+use Rattle.std.proofs.lemmas.List.Sums.{sum_by-append}
+use Rattle.disk_model.specs.Contents.{Contents}
+use Rattle.disk_model.specs.Moments.{LeavesOnly, MayLeave}
+use Rattle.disk_model.proofs.Moments.{leaves_more, runs_on, started}
+use Rattle.durable_journal.specs.Appending.{StoresOldOrNew, most_stored, size_behind}
+use Rattle.durable_journal.specs.Resting.{HoldsLines, IsImageOf}
+use Rattle.durable_journal.specs.Stored.{AreLines, StoresLines, blocks, image_of}
+use Rattle.durable_journal.proofs.Steps.{held_image}
+use Rattle.market_model.specs.declared.entry.Entry.{Entry}
+use Rattle.market_text.specs.Commands.{commands_of}
+use Rattle.market_text.specs.declared.session.Session.{Session}
+use Rattle.session_journal.proofs.Journals.{count-callers}
+use Rattle.session_journal.proofs.Turns.{turn_comes}
+use Rattle.journal_audit.specs.Course.{callers_of, entries_of}
+use Rattle.stored_journal.specs.Lines.{StoresFront, stored_line, stored_lines}
+use Rattle.stored_journal.proofs.Fronts.{IsFront, front-more, front-same, front-shorter, old-or-new, stores-front}
+use Rattle.stored_journal.proofs.Lines.{image-more, lines-more}
+use Rattle.session_storing.specs.Playing.{HasCommandsFor, IsPlaying, PlayState, journal_in_order, lines_in_order, lines_played, turns_of}
+use Rattle.session_storing.proofs.Orders.{order-front}
+use Rattle.session_storing.proofs.Plays.{waiting-count}
+
+-- what is played is what is stored of its callers
+pub played-lines : (session : Session) (state : PlayState) → IsPlaying session state → lines_played state ≡ lines_in_order session (callers_of state.entries)
+played-lines session state is = (λ i. stored_lines (is.setup i) (is.journal i))
+
+-- one more entry
+pub record Grew (old : PlayState) (caller : ℕ) (new : PlayState) : Type 0 where
+  pub setup : new.setup ≡ old.setup
+  pub entry : Entry
+  pub entries : new.entries ≡ old.entries ++ entry ∷ []
+  pub whose : entry.caller ≡ caller
+
+module _ (old : PlayState) (caller : ℕ) (new : PlayState) (grew : Grew old caller new) where
+  pub callers-more : callers_of new.entries ≡ callers_of old.entries ++ caller ∷ []
+  callers-more =
+      ap callers_of grew.entries ∙ map-append (λ (e : Entry). e.caller) old.entries (grew.entry ∷ [])
+      ∙ ap (λ c. callers_of old.entries ++ c ∷ []) grew.whose
+
+  pub some-entry : 0 < length new.entries
+  some-entry = omega (arith, ap length grew.entries, length-append old.entries (grew.entry ∷ []))
+
+  -- the line of the last entry is behind the others
+  pub lines-grew : (last : Entry) → last ≡ grew.entry → lines_played old ++ stored_line new.setup (length new.entries) last ∷ [] ≡ lines_played new
+  lines-grew last same =
+      let count : length new.entries ≡ length old.entries + 1 = ap length grew.entries ∙ length-append old.entries (grew.entry ∷ []) in
+      ap (λ s. stored_lines s old.entries ++ stored_line new.setup (length new.entries) last ∷ []) (sym grew.setup)
+      ∙ (λ i. stored_lines new.setup old.entries ++ stored_line new.setup (count i) (same i) ∷ [])
+      ∙ sym (ap (stored_lines new.setup) grew.entries ∙ lines-more new.setup old.entries grew.entry)
+
+  module _ (session : Session) (is : IsPlaying session new) where
+    pub lines-then : lines_played new ≡ lines_in_order session (callers_of old.entries ++ caller ∷ [])
+    lines-then = played-lines session new is ∙ ap (lines_in_order session) callers-more
+
+-- the lines so far are the first of those of all turns
+pub front-of : (session : Session) (state : PlayState) (turns : List ℕ) → IsPlaying session state → IsFront (lines_played state) (lines_in_order session (callers_of state.entries ++ turns))
+front-of session state turns is =
+    subst (λ lines. IsFront lines (lines_in_order session (callers_of state.entries ++ turns))) (sym (played-lines session state is)) (order-front session (callers_of state.entries) turns)
+
+-- a disk that holds lines leaves the first of those of all turns
+pub holds-front : (session : Session) (state : PlayState) (turns : List ℕ) → IsPlaying session state → (contents : Option Contents) (place : ℕ) → HoldsLines contents (lines_played state) place
+    → (image : List ℕ) → MayLeave contents image → StoresFront (lines_in_order session (callers_of state.entries ++ turns)) image
+holds-front session state turns is contents place holds image leaves =
+    stores-front (lines_played state) (lines_in_order session (callers_of state.entries ++ turns)) image (front-of session state turns is)
+    (held_image contents (lines_played state) place holds image leaves)
+
+-- the turns up to one and that one are the first of all
+pub turns-front : (session : Session) (callers turns : List ℕ) (i : ℕ) → i < length turns
+    → IsFront (lines_in_order session ((callers ++ take i turns) ++ get_or turns i 0 ∷ [])) (lines_in_order session (callers ++ turns))
+turns-front session callers turns i within =
+    let upto : (callers ++ take i turns) ++ get_or turns i 0 ∷ [] ≡ callers ++ take (i + 1) turns =
+    append_assoc callers (take i turns) (get_or turns i 0 ∷ []) ∙ ap (λ ts. callers ++ ts) (sym (take_more turns i 0 within)) in
+    let whole : (callers ++ take (i + 1) turns) ++ drop (i + 1) turns ≡ callers ++ turns =
+    append_assoc callers (take (i + 1) turns) (drop (i + 1) turns) ∙ ap (λ ts. callers ++ ts) (take-append-drop (i + 1) turns) in
+    subst (λ order. IsFront (lines_in_order session ((callers ++ take i turns) ++ get_or turns i 0 ∷ [])) (lines_in_order session order)) whole
+    (subst (λ order. IsFront (lines_in_order session order) (lines_in_order session ((callers ++ take (i + 1) turns) ++ drop (i + 1) turns))) (sym upto)
+    (order-front session (callers ++ take (i + 1) turns) (drop (i + 1) turns)))
+
+-- whose turn it is has a command left
+pub some-waits : (session : Session) (old now : PlayState) (turns : List ℕ) (i : ℕ) → IsPlaying session old → IsPlaying session now → HasCommandsFor old turns
+    → callers_of now.entries ≡ callers_of old.entries ++ take i turns → i < length turns → 0 < length (commands_of now.waiting (get_or turns i 0))
+some-waits session old now turns i was is has callers within =
+    let turn = get_or turns i 0 in
+    let comes = turn_comes turns i within in
+    let before = waiting-count session old was turn in
+    let after = waiting-count session now is turn in
+    let enough = has.enough turn in
+    let counts : entries_of now.entries turn ≡ entries_of old.entries turn + turns_of (take i turns) turn =
+    count-callers now.entries turn ∙ ap (λ cs. turns_of cs turn) callers ∙ turns-append (callers_of old.entries) (take i turns) turn
+    ∙ ap (λ n. n + turns_of (take i turns) turn) (sym (count-callers old.entries turn)) in
+    omega (arith, comes, before, after, enough, counts)
+  where
+    turns-append : (first rest : List ℕ) (caller : ℕ) → turns_of (first ++ rest) caller ≡ turns_of first caller + turns_of rest caller
+    turns-append first rest caller = sum_by-append (λ t. cond (nat_eq t caller) 1 0) first rest
+
+-- ---- a whole session
+
+pub nothing-played : (old : PlayState) → old.entries ≡ [] → [] ≡ lines_played old
+nothing-played old begins = sym (ap (stored_lines old.setup) begins)
+
+pub whole-lines : (session : Session) (old new : PlayState) (turns : List ℕ) → IsPlaying session new → old.entries ≡ [] → callers_of new.entries ≡ callers_of old.entries ++ turns
+    → lines_played new ≡ lines_in_order session turns
+whole-lines session old new turns is begins callers =
+    played-lines session new is ∙ ap (lines_in_order session) (callers ∙ ap (λ es. callers_of es ++ turns) begins)
+
+-- the order of all turns
+pub whole-order : (session : Session) (old : PlayState) (turns : List ℕ) → old.entries ≡ [] → lines_in_order session (callers_of old.entries ++ turns) ≡ lines_in_order session turns
+whole-order session old turns begins = ap (λ es. lines_in_order session (callers_of es ++ turns)) begins
+
+-- a disk that holds all lines leaves them
+pub image-front : (contents : Option Contents) (lines : List (List ℕ)) (place : ℕ) → HoldsLines contents lines place → (image : List ℕ) → MayLeave contents image → StoresFront lines image
+image-front contents lines place holds image leaves = stores-front lines lines image (front-same lines) (held_image contents lines place holds image leaves)
+
+-- one that stores no line stores the first of any
+pub none-front : (lines : List (List ℕ)) (image : List ℕ) → StoresLines image [] → StoresFront lines image
+none-front lines image stores = stores-front [] lines image (record { rest = lines; whole = refl }) stores
+
+-- what holds of all entries holds of the last
+pub last-named : (P : Entry → Type 0) (entries : List Entry) (last : Entry) → All P (entries ++ last ∷ []) → P last
+last-named P entries last all =
+    subst P (get_or_at entries last [] last (length entries) refl) (all (length entries) last (omega (arith, length-append entries (last ∷ []))))
+
+-- the line behind those that a disk holds has so many bytes up to the closed gate
+pub behind-size : (lines : List (List ℕ)) (line : List ℕ) (contents : Option Contents) (place : ℕ) → HoldsLines contents lines place
+    → size_behind place line ≡ length (image_of (lines ++ line ∷ []))
+behind-size lines line contents place holds = sym (image-more lines line place holds.ends.end)

@@ -1,0 +1,4 @@
+pub mod Empties
+pub mod Fronts
+pub mod Lines
+pub mod Results
