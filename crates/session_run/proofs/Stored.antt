@@ -138,13 +138,16 @@ unstored-reads tells session status.NoMemory left new ends read large = inl (has
 unstored-reads tells session status.DiskFault left new ends read large = inl (has-read longest_session (IsTextOf session) left new status.DiskFault read (λ e. cc))
 unstored-reads tells session (status.BadImage place) left new ends read large =
     inl (has-read longest_session (IsTextOf session) left new (status.BadImage place) read (λ e. cc))
-unstored-reads tells session status.TooLong left new ends read large = inr (refl, record {
-  input = read.input;
-  came = read.came;
-  short = read.short;
-  ended = read.ended;
-  is = λ told. record { session = session; read = read.is; large = large told refl };
-})
+unstored-reads tells session status.TooLong left new ends read large = inr (
+  refl,
+  record {
+    input = read.input;
+    came = read.came;
+    short = read.short;
+    ended = read.ended;
+    is = λ told. record { session = session; read = read.is; large = large told refl };
+  },
+)
 unstored-reads tells session status.Done left new ends read large = absurd ends
 unstored-reads tells session status.Usage left new ends read large = absurd ends
 unstored-reads tells session status.ReadFault left new ends read large = absurd ends

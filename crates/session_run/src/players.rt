@@ -7,9 +7,9 @@ ghost use Rattle.market_model.specs.Grid.{graph_of};
 ghost use Rattle.market_text.specs.Session.{IsSession};
 
 use desk_market::{DeskMarket, Waiting, market_of};
-use session_storing::Player;
 use market_model::{Entry, Setup};
 use market_text::{Session, Turns};
+use session_storing::Player;
 use std::alloc::Global;
 use zone_graph::NoMemory;
 
@@ -37,7 +37,9 @@ impl DeskPlayer {
     {
         let market = market_of(alloc, &session)?;
         let Session {
-            commands, turns, ..
+            commands,
+            turns,
+            ..
         } = session;
         let waiting = Waiting::new(alloc, commands)?;
         Ok((DeskPlayer { market, waiting }, turns))

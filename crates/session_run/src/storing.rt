@@ -21,11 +21,11 @@ ghost use Rattle.session_run.specs.Storing.{CompletesStoring, IsEmptyDisk, Reads
 use crate::players::DeskPlayer;
 use crate::sessions::session_from;
 use disk_model::Disk;
-use session_storing::store_turns;
 use market_text::Session;
 use outside::{Sink, Source};
 use record_run::write_text;
 use run_status::Status;
+use session_storing::store_turns;
 use std::alloc::Global;
 
 /// Reads a session, plays it in the order of its lines, and appends the line of each entry to a durable journal on an
@@ -68,11 +68,7 @@ pub(crate) fn store<S: Source, K: Sink, D: Disk>(
 }
 
 // Plays a session over an empty disk, and answers the bytes of the disk.
-fn store_session<D: Disk>(
-    alloc: Global,
-    session: Session,
-    disk: &mut D,
-) -> Result<Vec<u8>, Status>
+fn store_session<D: Disk>(alloc: Global, session: Session, disk: &mut D) -> Result<Vec<u8>, Status>
     requires session { IsSession session }
     requires joined { JoinsZones (graph_of session.setup) }
     requires sound { grid_fault (graph_of session.setup) ≡ None }

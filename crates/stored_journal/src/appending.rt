@@ -61,12 +61,7 @@ pub fn append_entry<D: Disk>(
 }
 
 // Appends a line to those that a disk stores.
-fn append_line<D: Disk>(
-    alloc: Global,
-    disk: &mut D,
-    at: At,
-    line: &[u8],
-) -> Result<At, Status>
+fn append_line<D: Disk>(alloc: Global, disk: &mut D, at: At, line: &[u8]) -> Result<At, Status>
     requires some { 0 < length line.now }
     requires rest { IsAtRest (D.size disk.old) (D.contents disk.old) at }
     ensures place { IfOk result (λ next. next ≡ end_behind at line.now) }

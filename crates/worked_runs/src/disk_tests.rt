@@ -17,11 +17,7 @@ use std::test::Fail;
 const CALLS: u64 = 24;
 
 // How a run of `store` over a session and an empty disk ends, and what it has written.
-fn store_on(
-    alloc: Global,
-    session: &[u8],
-    disk: &mut RamDisk,
-) -> Result<(Status, BytesSink), Fail>
+fn store_on(alloc: Global, session: &[u8], disk: &mut RamDisk) -> Result<(Status, BytesSink), Fail>
     requires { disk.old.now ≡ settled [] }
 {
     let words = words_of(alloc, &["store"])?;
@@ -46,9 +42,12 @@ fn a_sale_is_stored(rt: HostRuntime) -> Result<(), Fail> {
     assert_eq!(rt; status, Status::Done);
     let image = sink.bytes();
     assert_eq!(rt; image.len(), 206);
-    assert_eq!(rt; part(image, 0, 9), &[1, 0, 0, 0, 0, 0, 0, 0, 73]);
+    assert_eq!(rt; part(image, 0, 9), [1, 0, 0, 0, 0, 0, 0, 0, 73].as_slice());
     assert_eq!(rt; part(image, 9, 82), part(JOURNAL, 0, 73));
-    assert_eq!(rt; part(image, 82, 91), &[1, 0, 0, 0, 0, 0, 0, 0, 114]);
+    assert_eq!(rt;
+        part(image, 82, 91),
+        [1, 0, 0, 0, 0, 0, 0, 0, 114].as_slice()
+    );
     assert_eq!(rt; part(image, 91, 205), part(JOURNAL, 74, 188));
     assert_eq!(rt; image.last(), Some(&0));
     Ok(())
@@ -88,7 +87,10 @@ fn each_failed_call_of_the_disk_leaves_the_first_lines(rt: HostRuntime) -> Resul
         }
         let count = (call.saturating_sub(4) / 4).min(5) as usize;
         for fill in [0, 1, 255] {
-            assert!(rt; are_first(alloc, &disk, fill, SWEEP_JOURNAL, count)?, "call {call}");
+            assert!(rt;
+                are_first(alloc, &disk, fill, SWEEP_JOURNAL, count)?,
+                "call {call}"
+            );
         }
     }
     Ok(())

@@ -27,7 +27,13 @@ fn ends(
     }
     let mut source = BytesSource::new(alloc, record, 64, reads)?;
     let mut sink = BytesSink::new(alloc, 16, writes)?;
-    let ended = run_alone(alloc, words.as_slice(), &mut source, &mut sink, &mut RamDisk::new(alloc));
+    let ended = run_alone(
+        alloc,
+        words.as_slice(),
+        &mut source,
+        &mut sink,
+        &mut RamDisk::new(alloc),
+    );
     Ok(ended == status && sink.bytes() == written)
 }
 

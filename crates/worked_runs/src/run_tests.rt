@@ -76,7 +76,13 @@ fn a_failed_read_leaves_nothing_written(rt: HostRuntime) -> Result<(), Fail> {
     for fails in [1, 2, 16] {
         let mut source = BytesSource::new(rt.alloc(), SALE, 7, &[fails])?;
         let mut sink = BytesSink::new(rt.alloc(), 10, &[])?;
-        let status = run_alone(rt.alloc(), words.as_slice(), &mut source, &mut sink, &mut RamDisk::new(rt.alloc()));
+        let status = run_alone(
+            rt.alloc(),
+            words.as_slice(),
+            &mut source,
+            &mut sink,
+            &mut RamDisk::new(rt.alloc()),
+        );
         assert_eq!(rt; status, Status::ReadFault, "read {fails}");
         assert_eq!(rt; sink.bytes(), b"".as_slice());
     }
@@ -88,7 +94,13 @@ fn a_failed_write_leaves_what_went_before(rt: HostRuntime) -> Result<(), Fail> {
     let words = replay_word(rt.alloc())?;
     let mut source = SteadySource::new(rt.alloc(), SALE)?;
     let mut sink = BytesSink::new(rt.alloc(), 10, &[3])?;
-    let status = run_alone(rt.alloc(), words.as_slice(), &mut source, &mut sink, &mut RamDisk::new(rt.alloc()));
+    let status = run_alone(
+        rt.alloc(),
+        words.as_slice(),
+        &mut source,
+        &mut sink,
+        &mut RamDisk::new(rt.alloc()),
+    );
     assert_eq!(rt; status, Status::WriteFault);
     assert_eq!(rt; sink.bytes(), &JOURNAL[..20]);
     Ok(())
@@ -100,7 +112,13 @@ fn each_failed_read_leaves_nothing_written(rt: HostRuntime) -> Result<(), Fail> 
     for fails in 1..=5 {
         let mut source = BytesSource::new(rt.alloc(), SWEEP, 64, &[fails])?;
         let mut sink = BytesSink::new(rt.alloc(), 16, &[])?;
-        let status = run_alone(rt.alloc(), words.as_slice(), &mut source, &mut sink, &mut RamDisk::new(rt.alloc()));
+        let status = run_alone(
+            rt.alloc(),
+            words.as_slice(),
+            &mut source,
+            &mut sink,
+            &mut RamDisk::new(rt.alloc()),
+        );
         assert_eq!(rt; status, Status::ReadFault, "read {fails}");
         assert_eq!(rt; sink.bytes(), b"".as_slice());
     }
@@ -113,7 +131,13 @@ fn each_failed_write_leaves_the_pieces_before_it(rt: HostRuntime) -> Result<(), 
     for (place, end) in BEFORE_EACH_WRITE.iter().enumerate() {
         let mut source = SteadySource::new(rt.alloc(), SWEEP)?;
         let mut sink = BytesSink::new(rt.alloc(), 16, &[place as u64 + 1])?;
-        let status = run_alone(rt.alloc(), words.as_slice(), &mut source, &mut sink, &mut RamDisk::new(rt.alloc()));
+        let status = run_alone(
+            rt.alloc(),
+            words.as_slice(),
+            &mut source,
+            &mut sink,
+            &mut RamDisk::new(rt.alloc()),
+        );
         assert_eq!(rt; status, Status::WriteFault, "write {place}");
         assert_eq!(rt; Some(sink.bytes()), SWEEP_JOURNAL.get(..*end));
     }
@@ -199,7 +223,13 @@ fn each_write_is_handed_what_is_left_of_one_line(rt: HostRuntime) -> Result<(), 
     let mut sink = Noting {
         lengths: Vec::new(rt.alloc()),
     };
-    let status = run_alone(rt.alloc(), words.as_slice(), &mut source, &mut sink, &mut RamDisk::new(rt.alloc()));
+    let status = run_alone(
+        rt.alloc(),
+        words.as_slice(),
+        &mut source,
+        &mut sink,
+        &mut RamDisk::new(rt.alloc()),
+    );
     assert_eq!(rt; status, Status::Done);
     let lengths = [
         74, 64, 54, 44, 34, 24, 14, 4, 115, 105, 95, 85, 75, 65, 55, 45, 35, 25, 15, 5,
