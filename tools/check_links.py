@@ -9,6 +9,7 @@
            NAME.words) to a file of it, and no other name to a file of examples/
   crates   each crate of crates.txt has its folder, and each folder with sources its line
   layers   no line of crates.txt names a crate that stands below it
+  plain    no crate but those of the plain market, of the audit and of tests cites a crate of the plain market
 """
 import argparse
 import re
@@ -29,6 +30,10 @@ ENUMS = {
 LINK = re.compile(r"\[([^\]]*)\]\(([^)\s]+)\)")
 ELSEWHERE = re.compile(r"[a-z]+:")
 CODE_SPAN = re.compile(r"`[^`]*`")
+# The plain market, and who may cite it beside itself: the audit, the programs of the gate, and tests.
+PLAIN = re.compile(r"plain_\w+|event_history")
+MAY_CITE_PLAIN = re.compile(r"plain_\w+|event_history|journal_audit|engine_comparison|worked_\w+")
+CITED = re.compile(r"\bRattle\.(\w+)\.|(?<![\w:.])(\w+)::")
 VARIANT = re.compile(r"^    ([A-Z]\w*)(?: \{|\(|,)", re.M)
 
 
@@ -157,6 +162,26 @@ def faults_of_layers(top):
                 yield f"{CRATES}:{number}: {name} names {other}, which stands in line {place[other]}"
 
 
+def faults_of_plain(top):
+    """Where a crate that is to know nothing of the plain market cites it, in its line or in its text."""
+    for number, name, cited in crate_lines(top):
+        if MAY_CITE_PLAIN.fullmatch(name):
+            continue
+        yield from (f"{CRATES}:{number}: {name} names {other} of the plain market" for other in cited if PLAIN.fullmatch(other))
+        for path in sorted(path for form in ("*.rt", "*.antt") for path in (top / "crates" / name).rglob(form)):
+            if path.relative_to(top / "crates" / name).parts[0] in ("src", "specs", "proofs"):
+                yield from faults_of_citations(top, path)
+
+
+def faults_of_citations(top, path):
+    for number, line in enumerate(path.read_text().splitlines(), 1):
+        if not line.lstrip().startswith(("//", "--")):
+            for cited in CITED.finditer(line):
+                other = cited.group(1) or cited.group(2)
+                if PLAIN.fullmatch(other):
+                    yield f"{path.relative_to(top)}:{number}: cites {other} of the plain market"
+
+
 PARTS = {
     "links": faults_of_links,
     "names": faults_of_names,
@@ -164,6 +189,7 @@ PARTS = {
     "examples": faults_of_examples,
     "crates": faults_of_crates,
     "layers": faults_of_layers,
+    "plain": faults_of_plain,
 }
 
 

@@ -23,7 +23,7 @@ use Rattle.market_model.specs.Market.{refused_or, reply_to}
 use Rattle.market_model.specs.Refusals.{basket_order_refusal, basket_refusal, refusal_of_command}
 use Rattle.market_model.specs.Rules.{first_broken}
 use Rattle.market_model.specs.Sweep.{all_parts, first_answer, or_else}
-use Rattle.plain_refusals.specs.State.{filling_rules, state_refusal}
+use Rattle.market_model.specs.StateRules.{filling_rules, state_refusal}
 use Rattle.joint_plan.specs.Baskets as baskets
 use Rattle.joint_plan.specs.ByHour.{hour_events}
 use Rattle.joint_plan.proofs.BasketHours.{done_by_hour, have_hours, refused_by_hour}

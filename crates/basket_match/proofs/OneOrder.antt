@@ -23,7 +23,7 @@ use Rattle.market_model.specs.Refusals.{basket_order_refusal, can_rest, is_fille
 use Rattle.market_model.specs.Room.{is_closed_phase, phase_of}
 use Rattle.market_model.specs.Rules.{early_refusal, first_broken, unless}
 use Rattle.market_model.specs.Sweep.{all_parts, or_else}
-use Rattle.plain_refusals.specs.State.{filling_rules, state_refusal}
+use Rattle.market_model.specs.StateRules.{filling_rules, state_refusal}
 use Rattle.joint_plan.specs.Desk.{DeskState}
 use Rattle.joint_plan.proofs.Histories.{split}
 use Rattle.basket_match.specs.Orders.{CanEnter, of_basket, reply_on}

@@ -11,5 +11,6 @@ pub mod OrdersMet
 pub mod Refused
 pub mod RoomsTaken
 pub mod Runs
+pub mod SameRooms
 pub mod Shortfall
 pub mod Takers

@@ -32,7 +32,7 @@ use Rattle.kept_certificate.specs.Crossing.{bound_in}
 use Rattle.kept_certificate.proofs.Entries.{entries-leave}
 use Rattle.kept_certificate.proofs.Records.{bounds-are}
 use Rattle.kept_certificate.proofs.RoomBounds.{rooms-fit}
-use Rattle.plain_certificate.proofs.Reaches.{reach-same}
+use Rattle.certified_maximum.proofs.SameRooms.{reach-same}
 use Rattle.match_core.specs.Walks.{AreRoomsOf}
 use Rattle.hour_changes.specs.OrderEvents.{without_hand}
 use Rattle.kept_hour.specs.Planned.{IsUnplanned}

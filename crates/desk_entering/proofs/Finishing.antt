@@ -10,12 +10,12 @@ use Rattle.market_model.specs.declared.command.Command.TheVariants as command
 use Rattle.market_model.specs.declared.refusal.Refusal.{Refusal}
 use Rattle.market_model.specs.Room.{room}
 use Rattle.market_model.specs.Rules.{first_broken}
+use Rattle.market_model.specs.StateRules.{filling_rules}
 use Rattle.desk_laws.specs.Settled.{IsSettled}
 use Rattle.match_core.specs.Walks.{AreRoomsOf}
 use Rattle.sweep_core.specs.Sweeping.{hour_sweep}
 use Rattle.kept_hour.specs.Planned.{IsUnplanned}
 use Rattle.kept_hour.specs.State.{HourState, undone}
-use Rattle.plain_refusals.specs.State.{filling_rules}
 use Rattle.desk_entering.specs.declared.obstacle.Obstacle.{Obstacle}
 use Rattle.desk_entering.specs.Entries.{Enters, HasEnded, IsJudged, IsSettledAs, refusal_for}
 use Rattle.desk_entering.specs.Opening.{any_opens, planned_events}

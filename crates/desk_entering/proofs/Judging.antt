@@ -16,7 +16,7 @@ use Rattle.market_model.specs.Entering.{after_taking, name_of_next, rest_of}
 use Rattle.market_model.specs.Refusals.{can_rest, has_desk_room, order_desk_refusal}
 use Rattle.market_model.specs.Rules.{first_broken, unless}
 use Rattle.market_model.specs.Sweep.{or_else}
-use Rattle.plain_refusals.specs.State.{filling_rules}
+use Rattle.market_model.specs.StateRules.{filling_rules}
 
 -- the rules on filling of an order of a kind, by what it is refused for as one to be filled, and as one
 -- that rests

@@ -14,10 +14,10 @@ use Rattle.market_model.specs.Entering.{after_taking, name_of_next, rest_of, res
 use Rattle.market_model.specs.Orders.{Placed, open_names}
 use Rattle.market_model.specs.Refusals.{desk_room}
 use Rattle.market_model.specs.Rules.{first_broken}
+use Rattle.market_model.specs.StateRules.{filling_rules}
 use Rattle.match_core.specs.declared.taker.Taker.{Taker}
 use Rattle.match_core.specs.Takers.{shown_of, taker_of}
 use Rattle.kept_hour.specs.State.{HourState, undone}
-use Rattle.plain_refusals.specs.State.{filling_rules}
 use Rattle.desk_entering.specs.declared.obstacle.Obstacle.{Obstacle}
 use Rattle.desk_entering.specs.declared.obstacle.Obstacle.TheVariants as obstacle
 

@@ -7,12 +7,12 @@ ghost use Rattle.market_model.specs.declared.refusal.Refusal.{Refusal as Reason}
 ghost use Rattle.market_model.specs.Entering as market;
 ghost use Rattle.market_model.specs.Rules.{first_broken};
 ghost use Rattle.market_model.specs.Sweep.{all_parts};
+ghost use Rattle.market_model.specs.StateRules.{filling_rules};
 ghost use Rattle.desk_laws.specs.Settled.{IsSettled};
 ghost use Rattle.match_core.specs.Walks.{AreRoomsOf};
 ghost use Rattle.kept_hour.specs.Kept.{names_given};
 ghost use Rattle.kept_hour.specs.Planned.{IsUnplanned, with_planned};
 ghost use Rattle.kept_hour.specs.State.{CanBeNext, entry_of};
-ghost use Rattle.plain_refusals.specs.State.{filling_rules};
 ghost use Rattle.desk_entering.specs.Entries.{AreZonesOf, Enters, IsJudged, IsSettledAs};
 
 use crate::ending::{end_taking, refusal_for};

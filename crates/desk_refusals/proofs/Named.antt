@@ -23,8 +23,8 @@ use Rattle.market_model.specs.Refusals.{below_flow, closed_hour, gate_refusal, h
 use Rattle.market_model.specs.Room.{is_closed_phase, phase_of}
 use Rattle.market_model.specs.Rules.{first_broken, hours_concerned, unless}
 use Rattle.market_model.specs.Sweep.{first_answer, or_else}
-use Rattle.plain_refusals.specs.Asked.{first_in_hour}
-use Rattle.plain_refusals.specs.State.{capacity_refusal, capacity_rules}
+use Rattle.market_model.specs.Asked.{first_in_hour}
+use Rattle.market_model.specs.StateRules.{capacity_refusal, capacity_rules}
 use Rattle.book_lines.proofs.LineOrders.{same_names}
 use Rattle.desk_refusals.specs.Found.{own_limit_order, record_of}
 use Rattle.desk_refusals.proofs.Ranges.{whole-range}

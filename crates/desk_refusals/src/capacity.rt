@@ -4,8 +4,8 @@
 ghost use Rattle.std.specs.Prelude.{◌≡◌};
 ghost use Rattle.zone_graph.specs.Graph.{HasArc};
 ghost use Rattle.market_model.specs.Refusals as refusals;
-ghost use Rattle.plain_refusals.specs.Asked.{first_in_hour};
-ghost use Rattle.plain_refusals.specs.State.{capacity_refusal};
+ghost use Rattle.market_model.specs.Asked.{first_in_hour};
+ghost use Rattle.market_model.specs.StateRules.{capacity_refusal};
 ghost use Rattle.desk_refusals.specs.Concerned.{ConcernsAlone};
 
 use capacity_requests::{test_offer, test_request};

@@ -2,7 +2,7 @@
 
 ghost use Rattle.std.specs.Prelude.{◌≡◌, [], ◌∷◌, None};
 ghost use Rattle.market_model.specs.Rules.{hours_concerned};
-ghost use Rattle.plain_refusals.specs.State.{order_refusal, state_refusal};
+ghost use Rattle.market_model.specs.StateRules.{order_refusal, state_refusal};
 ghost use Rattle.desk_refusals.specs.Concerned.{ConcernsAlone};
 
 use crate::capacity::refuse_by_capacity;
@@ -18,7 +18,7 @@ use zone_graph::Grid;
 /// The rules are, in this order: a reduction lowers what is left, the hour is not closed, a gate leads to
 /// a later phase, there is an order of the caller's that the command can change, an offer is not below
 /// what flows, and a request finds room.
-#[tactic(auto, unfolding(plain_refusals::specs::State::state_refusal, plain_refusals::specs::State::order_refusal, plain_refusals::specs::State::capacity_refusal))]
+#[tactic(auto, unfolding(market_model::specs::StateRules::state_refusal, market_model::specs::StateRules::order_refusal, market_model::specs::StateRules::capacity_refusal))]
 pub fn refuse_by_state(
     hour: &KeptHour,
     grid: &Grid,
@@ -34,7 +34,7 @@ pub fn refuse_by_state(
 }
 
 // The first broken rule on the state of orders and of the hour.
-#[tactic(auto, unfolding(plain_refusals::specs::State::order_refusal))]
+#[tactic(auto, unfolding(market_model::specs::StateRules::order_refusal))]
 fn refuse_by_orders(hour: &KeptHour, caller: u32, command: &Command) -> Option<Refusal>
     requires free { hour.now.board.hand ≡ None }
     requires concerns { ConcernsAlone hour.now command.now }

@@ -17,10 +17,10 @@ use Rattle.market_laws.proofs.LocalAnswers.{view-agree}
 use Rattle.market_laws.proofs.LocalLines.{contract-hours, line-agree}
 use Rattle.market_laws.proofs.LocalStates.{room-agree}
 use Rattle.hour_changes.proofs.NextEvents.{agrees}
-use Rattle.plain_view.specs.declared.filling.Fill.{Fill}
-use Rattle.plain_view.specs.declared.maker.Maker.{Maker}
-use Rattle.plain_view.specs.Depth.{Depth, after_fill, maker_of, next_fill}
-use Rattle.plain_view.proofs.Views.{view-rows}
+use Rattle.view_laws.specs.declared.trades.Fill.{Fill}
+use Rattle.view_laws.specs.declared.trades.Maker.{Maker}
+use Rattle.view_laws.specs.Depth.{Depth, after_fill, maker_of, next_fill}
+use Rattle.view_laws.proofs.Views.{view-rows}
 use Rattle.view_near.specs.Nearby.{DifferWithin, is_elsewhere}
 use Rattle.view_near.proofs.Near.{fills, fills-run}
 

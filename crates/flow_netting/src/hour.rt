@@ -21,8 +21,7 @@ use zone_graph::{Arc, Grid, NoMemory, Rooms, Route};
 
 /// The flows of one hour over the borders of a grid: for each border and quarter what is offered
 /// and what flows, for each border whether trade over it is halted, and the hour's phase. The engine
-/// keeps them and changes them in place; the plain market sums up the same from the list of events
-/// (`plain_capacity::HourCapacity`).
+/// keeps them and changes them in place; the plain market sums up the same from the list of events.
 ///
 /// All numbers are lots, tenths of a MW. The quarters of an hour are numbered from 1 to 4. On each
 /// arc in each quarter at most 1000000 lots are offered and at most what is offered flows, so from

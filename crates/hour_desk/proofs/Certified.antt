@@ -25,11 +25,11 @@ use Rattle.market_laws.proofs.LocalLines.{contract-hours, line-agree}
 use Rattle.market_laws.proofs.LocalReplies.{reply-agree}
 use Rattle.market_laws.proofs.LocalStates.{Agree, room-agree}
 use Rattle.market_laws.proofs.OfHours.{one-agrees}
+use Rattle.market_laws.proofs.Admitting.{IsNamed, early-none}
 use Rattle.certified_maximum.specs.FlowPlan.{FlowPlan, IsFlowPlan, IsPlanFor, orders_met, value_of}
 use Rattle.certified_maximum.specs.Takings.{lots_traded}
 use Rattle.certified_maximum.specs.Unfilled.{IsCertified, IsUnfilledOrder}
 use Rattle.certified_maximum.proofs.Certified.{unfilled_certified}
-use Rattle.plain_market.proofs.Admitting.{IsNamed, early-none}
 use Rattle.hour_desk.specs.Placed.{IsLeftBy}
 use Rattle.hour_desk.proofs.Histories.{of-journal}
 

@@ -29,7 +29,10 @@ use Rattle.market_model.specs.Refusals.{has_own, is_below_left, order_is_known, 
 use Rattle.market_model.specs.Rules.{border_is_known, early_refusal, first_broken, hours_concerned}
 use Rattle.market_model.specs.Sweep.{all_parts, sweep, sweeps}
 use Rattle.market_model.specs.WellFormed.{OrderEnters}
+use Rattle.market_model.specs.LetIn.{IsNoEntry}
+use Rattle.market_model.specs.StateRules.{filling_rules}
 use Rattle.market_laws.proofs.Admitted.{IsAdmitted, all-pass, naming-none, refusal-none}
+use Rattle.market_laws.proofs.Admitting.{early-none, let_in-refusal, no_entry-rules}
 use Rattle.desk_blocks.specs.Planned.{IsUnplanned, with_planned}
 use Rattle.desk_blocks.specs.State.{CanBeNext, HourState, after_event, entry_of, gate_of, name_in, reduction_of, withdrawal_of}
 use Rattle.desk_laws.specs.Settled.{IsSettled}
@@ -40,9 +43,6 @@ use Rattle.desk_blocks.specs.Changes.{then_sweep}
 use Rattle.desk_refusals.specs.declared.owning.Own.{Own}
 use Rattle.desk_refusals.specs.Owned.{left_of, own_of}
 use Rattle.desk_refusals.proofs.Named.{told-number}
-use Rattle.plain_market.specs.LetIn.{IsNoEntry}
-use Rattle.plain_market.proofs.Admitting.{early-none, let_in-refusal, no_entry-rules}
-use Rattle.plain_refusals.specs.State.{filling_rules}
 use Rattle.hour_desk.specs.Placed.{CanChange}
 use Rattle.hour_desk.proofs.Histories.{IsOfHistory, of-journal, settled-is}
 use Rattle.hour_desk.proofs.Owned.{below-left, limit-own, own-left}

@@ -18,12 +18,12 @@ use Rattle.market_model.specs.Market.{events_done, reply_to}
 use Rattle.market_model.specs.Rules.{early_refusal, first_broken}
 use Rattle.market_model.specs.Sweep.{all_parts}
 use Rattle.market_model.specs.View.{view}
+use Rattle.market_model.specs.LetIn.{IsLetIn}
+use Rattle.market_model.specs.StateRules.{filling_rules, state_refusal}
 use Rattle.desk_blocks.specs.Planned.{IsUnplanned, with_planned}
 use Rattle.desk_blocks.specs.State.{HourState, after_event, settled_board, undone, with_board, with_hand}
-use Rattle.plain_market.specs.LetIn.{IsLetIn}
-use Rattle.plain_market.proofs.Admitting.{IsNamed, early-none, state-some}
-use Rattle.plain_market.proofs.Replies.{Answers, done, refused, refused_late, seen}
-use Rattle.plain_refusals.specs.State.{filling_rules, state_refusal}
+use Rattle.market_laws.proofs.Admitting.{IsNamed, early-none, state-some}
+use Rattle.market_laws.proofs.Answered.{Answers, done, refused, refused_late, seen}
 use Rattle.hour_desk.specs.Placed.{CanChange, IsPlaced}
 
 -- ---- an hour with nothing planned

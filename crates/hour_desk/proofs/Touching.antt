@@ -14,10 +14,10 @@ use Rattle.market_model.specs.declared.command.Command.TheVariants as command
 use Rattle.market_model.specs.declared.refusal.Refusal.{Refusal}
 use Rattle.market_model.specs.declared.setup.Setup.{Setup}
 use Rattle.market_model.specs.Rules.{ascends, basket_is_good, early_refusal, hours_concerned, is_block_period, period_is_good, touched_hours}
+use Rattle.market_model.specs.LetIn.{IsNoEntry}
 use Rattle.market_laws.proofs.Admitted.{NamesWhatIs, naming-none}
+use Rattle.market_laws.proofs.Admitting.{IsNamed, early-none, is-no_entry}
 use Rattle.desk_blocks.specs.State.{HourState}
-use Rattle.plain_market.specs.LetIn.{IsNoEntry}
-use Rattle.plain_market.proofs.Admitting.{IsNamed, early-none, is-no_entry}
 use Rattle.hour_desk.specs.Placed.{IsPlaced}
 
 -- it concerns the hour alone

@@ -10,9 +10,9 @@ use Rattle.market_model.specs.Grid.{graph_of}
 use Rattle.market_model.specs.Market.{IsLegal}
 use Rattle.market_model.specs.Rules.{early_refusal, touched_hours}
 use Rattle.market_model.specs.WellFormed.{IsMarketSetup}
+use Rattle.market_model.specs.StateRules.{state_refusal}
 use Rattle.desk_blocks.specs.Planned.{IsUnplanned}
 use Rattle.desk_blocks.specs.State.{HourState}
-use Rattle.plain_refusals.specs.State.{state_refusal}
 
 -- some legal journal of a setup leaves these events for an hour
 pub record IsLeftBy (setup : Setup) (hour : ℕ) (events : List Event) : Type 0 where

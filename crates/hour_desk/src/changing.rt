@@ -8,10 +8,10 @@ ghost use Rattle.market_model.specs.declared.refusal.Refusal.{Refusal as Reason}
 ghost use Rattle.market_model.specs.Market.{events_done};
 ghost use Rattle.market_model.specs.Rules.{first_broken};
 ghost use Rattle.market_model.specs.Sweep.{all_parts};
+ghost use Rattle.market_model.specs.StateRules.{filling_rules};
 ghost use Rattle.desk_blocks.specs.Kept.{names_given};
 ghost use Rattle.desk_blocks.specs.Planned.{with_planned};
 ghost use Rattle.desk_blocks.specs.State.{settled_board};
-ghost use Rattle.plain_refusals.specs.State.{filling_rules};
 ghost use Rattle.desk_views.specs.Standing.{StandAt};
 ghost use Rattle.hour_desk.specs.Kinds as kinds;
 ghost use Rattle.hour_desk.specs.Placed.{CanChange};

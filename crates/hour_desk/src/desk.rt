@@ -11,7 +11,7 @@ ghost use Rattle.market_model.specs.Orders.{next_name, open_names};
 ghost use Rattle.market_model.specs.Refusals as refusals;
 ghost use Rattle.market_model.specs.Room.{phase_of};
 ghost use Rattle.market_model.specs.View.{view as market_view};
-ghost use Rattle.plain_refusals.specs.Asked.{first_in_hour};
+ghost use Rattle.market_model.specs.Asked.{first_in_hour};
 ghost use Rattle.local_view.specs.Boards.{AreRoomsOf};
 ghost use Rattle.local_view.specs.Kept.{kept_of, views_forgotten};
 ghost use Rattle.hour_desk.specs.Desk as states;

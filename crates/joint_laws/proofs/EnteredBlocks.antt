@@ -37,7 +37,7 @@ use Rattle.market_laws.proofs.Wholes.{history-more, new_block-whole}
 use Rattle.market_laws.proofs.LocalAnswers.{has_desk_room-agree}
 use Rattle.market_laws.proofs.NamedByHour.{AreNamedByHour, history-named}
 use Rattle.market_laws.proofs.LocalStates.{Agree, agree-more, is_open-agree, left-agree, next_name-agree}
-use Rattle.plain_refusals.proofs.Rules.{state_comes_second}
+use Rattle.market_laws.proofs.StateRules.{state_comes_second}
 use Rattle.book_lines.specs.BlocksOf.{blocks_of, resting_block}
 use Rattle.book_lines.proofs.BlocksKept.{resting-same}
 use Rattle.book_lines.proofs.Partners.{make_deals}

@@ -27,14 +27,14 @@ use Rattle.market_model.specs.Room.{is_closed_phase, lots_of, phase_of}
 use Rattle.market_model.specs.Rules.{first_broken, hours_concerned, unless}
 use Rattle.market_model.specs.Sweep.{first_answer, or_else}
 use Rattle.market_model.specs.WellFormed.{FitAfter}
+use Rattle.market_model.specs.StateRules.{state_refusal}
 use Rattle.market_laws.proofs.Legs.{open_order-is}
 use Rattle.market_laws.proofs.LocalBlocks.{open_block-agree}
 use Rattle.market_laws.proofs.LocalLines.{first_answer-same, open_order-agree}
 use Rattle.market_laws.proofs.Restrict.{find-same}
 use Rattle.market_laws.proofs.LocalStates.{Agree, allocated-agree, left-agree, phase-agree, quarter_room-agree}
 use Rattle.market_laws.proofs.OfHours.{one-agrees}
-use Rattle.plain_refusals.specs.State.{state_refusal}
-use Rattle.plain_refusals.proofs.Rules.{first_answer-append}
+use Rattle.market_laws.proofs.StateRules.{first_answer-append}
 use Rattle.joint_laws.specs.ByHour.{hour_events}
 use Rattle.joint_laws.specs.StateRefusals.{HoursAreClosedByThemselves, OffersAreRefusedHourByHour, RequestsAreRefusedHourByHour, StateRefusesHourByHour, first_closed, first_of, first_over_hours, offer_refused, quarters_of_range, request_refused, state_refusal_by}
 

@@ -17,7 +17,7 @@ use Rattle.market_model.specs.Room.{is_closed_phase, phase_of}
 use Rattle.market_model.specs.Rules.{first_broken, hours_concerned, unless}
 use Rattle.market_model.specs.Sweep.{first_answer}
 use Rattle.market_model.specs.WellFormed.{FitAfter}
-use Rattle.plain_refusals.specs.State.{state_refusal}
+use Rattle.market_model.specs.StateRules.{state_refusal}
 use Rattle.joint_laws.specs.ByHour.{hour_events}
 
 -- the first closed hour of those that a command concerns, each told by its own events

@@ -16,9 +16,9 @@ use Rattle.market_model.specs.Refusals.{refusal_of_command}
 use Rattle.market_model.specs.Rules.{early_refusal, first_broken, hours_concerned, naming_refusal, numbers_refusal, touched_hours}
 use Rattle.market_model.specs.Sweep.{all_parts, or_else}
 use Rattle.market_model.specs.WellFormed.{IsHistory}
+use Rattle.market_model.specs.StateRules.{filling_rules, state_refusal}
 use Rattle.market_laws.proofs.Journals.{run-history}
-use Rattle.plain_refusals.specs.State.{filling_rules, state_refusal}
-use Rattle.plain_refusals.proofs.Rules.{state_comes_second}
+use Rattle.market_laws.proofs.StateRules.{state_comes_second}
 use Rattle.joint_laws.proofs.HoursGoOn.{replies}
 use Rattle.hour_desk.specs.Desk.{DeskState}
 use Rattle.joint_plan.specs.Rows.{IsHistoryOf, IsJournalOf}

@@ -20,8 +20,8 @@ use Rattle.market_model.specs.Market.{reply_to}
 use Rattle.market_model.specs.Refusals.{refusal_of_command}
 use Rattle.market_model.specs.Rules.{early_refusal, first_broken, hours_concerned}
 use Rattle.market_model.specs.Sweep.{all_parts, or_else, sweep}
+use Rattle.market_model.specs.StateRules.{filling_rules}
 use Rattle.market_laws.proofs.Repeats.{map-some}
-use Rattle.plain_refusals.specs.State.{filling_rules}
 use Rattle.joint_laws.specs.ByHour.{hour_events}
 use Rattle.joint_laws.specs.Ranges.{shared_event, swept_after}
 use Rattle.joint_laws.proofs.SharedEvents.{done_ranges, of_hour_ranges}

@@ -18,8 +18,8 @@ use Rattle.market_model.specs.Room.{is_closed_phase, phase_of}
 use Rattle.market_model.specs.Rules.{hours_concerned}
 use Rattle.market_model.specs.Sweep.{first_answer, or_else}
 use Rattle.market_model.specs.WellFormed.{FitAfter}
-use Rattle.plain_refusals.specs.Asked.{first_in_hour}
-use Rattle.plain_refusals.specs.State as state
+use Rattle.market_model.specs.Asked.{first_in_hour}
+use Rattle.market_model.specs.StateRules as state
 use Rattle.joint_laws.specs.ByHour.{hour_events}
 use Rattle.joint_laws.specs.StateRefusals.{first_over_hours, offer_refused, request_refused, state_refusal_by}
 use Rattle.joint_laws.proofs.RefusedByHours.{state_alone}

@@ -12,7 +12,7 @@ use Rattle.market_model.specs.declared.refusal.Refusal.TheVariants as refusal
 use Rattle.market_model.specs.Refusals.{below_flow, no_room}
 use Rattle.market_model.specs.Room.{is_closed_phase, phase_of}
 use Rattle.market_model.specs.Sweep.{first_answer, or_else}
-use Rattle.plain_refusals.specs.Asked.{first_in_hour}
+use Rattle.market_model.specs.Asked.{first_in_hour}
 use Rattle.hour_desk.specs.Desk.{DeskState}
 
 -- the hour of a desk is closed

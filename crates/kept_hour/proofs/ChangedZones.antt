@@ -24,17 +24,16 @@ use Rattle.market_laws.proofs.Placed.{all_are_sound}
 use Rattle.market_laws.proofs.Rooms.{kept_part-is}
 use Rattle.market_laws.proofs.Trades.{from_line}
 use Rattle.market_laws.proofs.LocalLines.{line-agree}
-use Rattle.market_laws.proofs.Restrict.{filter-filter, map-same}
+use Rattle.market_laws.proofs.Restrict.{filter-filter, map-same, filter-map}
 use Rattle.book_lines.specs.BookOf.{book_of, resting_of}
 use Rattle.book_lines.proofs.PartLines.{line_of-book}
 use Rattle.flow_lines.specs.Standing.{Stands}
 use Rattle.flow_lines.proofs.Rooms.{remains}
 use Rattle.hour_changes.specs.OrderEvents.{without_hand}
 use Rattle.hour_changes.proofs.NextEvents.{agrees}
-use Rattle.plain_orders.proofs.LineLaws.{filter-map}
-use Rattle.plain_view.specs.declared.maker.Maker.{Maker}
-use Rattle.plain_view.specs.Depth.{AreInZones, maker_of}
-use Rattle.plain_view.proofs.Views.{makers-known}
+use Rattle.view_laws.specs.declared.trades.Maker.{Maker}
+use Rattle.view_laws.specs.Depth.{AreInZones, maker_of}
+use Rattle.view_laws.proofs.Views.{makers-known}
 use Rattle.view_near.specs.Nearby.{is_elsewhere, seen_elsewhere}
 use Rattle.hour_store.specs.declared.change.Change.{Change}
 use Rattle.hour_store.specs.Changed.{AreChangedZones, changes_flows, has_changed, is_untouched, zones_of}

@@ -26,8 +26,8 @@ use Rattle.market_laws.proofs.Tests.{same_name-refl}
 use Rattle.market_laws.proofs.Trades.{IsInLine, from_line}
 use Rattle.market_laws.proofs.Unique.{entered-order}
 use Rattle.market_laws.proofs.Prices.{prices-in-range}
-use Rattle.plain_view.specs.declared.maker.Maker.{Maker}
-use Rattle.plain_view.specs.Depth.{crosses_any, maker_of}
+use Rattle.view_laws.specs.declared.trades.Maker.{Maker}
+use Rattle.view_laws.specs.Depth.{crosses_any, maker_of}
 use Rattle.view_near.proofs.FirstMakers.{AllCross, AreOnce}
 
 -- ---- the names of a line

@@ -15,10 +15,10 @@ use Rattle.market_model.specs.Certificate.{zones_in_reach}
 use Rattle.market_model.specs.Lines.{line}
 use Rattle.market_model.specs.Room.{room}
 use Rattle.market_model.specs.View.{view}
-use Rattle.plain_view.specs.declared.filling.Fill.{Fill}
-use Rattle.plain_view.specs.Depth.{AreInZones, after_fill, maker_of, next_fill}
-use Rattle.plain_view.specs.Filled.{row_in, rows_with}
-use Rattle.plain_view.proofs.Views.{makers-known, view-rows}
+use Rattle.view_laws.specs.declared.trades.Fill.{Fill}
+use Rattle.view_laws.specs.Depth.{AreInZones, after_fill, maker_of, next_fill}
+use Rattle.view_laws.specs.Filled.{row_in, rows_with}
+use Rattle.view_laws.proofs.Views.{makers-known, view-rows}
 use Rattle.view_near.specs.Nearby.{DifferWithin, HaveNoZoneInCommon, is_elsewhere, zones_of_view}
 use Rattle.view_near.proofs.Near.{fills, fills-run, found-agree, in_reach, reach-own}
 use Rattle.view_near.proofs.Running.{run-same}

@@ -27,9 +27,9 @@ use Rattle.route_choice.specs.Poured.{lots_of, rooms_after}
 use Rattle.route_choice.proofs.Pours.{pour-within}
 use Rattle.certified_maximum.specs.FlowPlan.{FlowPlan, IsBalanced, IsFlowPlan, value_of}
 use Rattle.certified_maximum.proofs.Duality.{no_plan_more, sum_same_in}
-use Rattle.plain_view.specs.declared.maker.Maker.{Maker}
-use Rattle.plain_view.specs.Depth.{Depth, after_fill, maker_of}
-use Rattle.plain_view.proofs.RowLemmas.{rows-are}
+use Rattle.view_laws.specs.declared.trades.Maker.{Maker}
+use Rattle.view_laws.specs.Depth.{Depth, after_fill, maker_of}
+use Rattle.view_laws.proofs.RowLemmas.{rows-are}
 use Rattle.view_near.proofs.FirstMakers.{AllCross, AreOnce, all-bound, lots_filled, own_reached, shown_in as makers_shown}
 use Rattle.view_near.proofs.RowSums.{rows-lots}
 use Rattle.local_view.specs.declared.whole.WholeLine.{WholeLine}

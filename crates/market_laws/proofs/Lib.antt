@@ -63,3 +63,7 @@ pub mod ReplyEntries
 pub mod ReplyNames
 pub mod Halfless
 pub mod Without
+pub mod StateRules
+pub mod Answered
+pub mod Admitting
+pub mod Replaced

@@ -1,6 +1,6 @@
 -- Names are given once: in each hour the orders and blocks that enter are numbered from 1.
 use Rattle.std.proofs.Common.{◌≡◌, ℕ, ◌+◌, ◌≤◌, Bool, true, false, cond, List, [], count_by, refl, sym, ap, subst, nat_eq, eq-eqb, arith}
-use Rattle.std.proofs.lemmas.List.Sums.{sum_by_push}
+use Rattle.std.proofs.lemmas.List.Sums.{sum_by_push, sum_by-le-sum_by}
 use Rattle.order_kinds.specs.declared.order.Order.{Order}
 use Rattle.order_kinds.specs.declared.order.BlockOrder.{BlockOrder}
 use Rattle.order_kinds.specs.declared.order.OrderName.{OrderName}
@@ -8,7 +8,7 @@ use Rattle.order_kinds.specs.Same.{same_name}
 use Rattle.market_model.specs.declared.event.Event.{Event}
 use Rattle.market_model.specs.declared.event.Event.TheVariants as event
 use Rattle.market_model.specs.declared.setup.Setup.{Setup}
-use Rattle.market_model.specs.History.{and_then, enters_in}
+use Rattle.market_model.specs.History.{and_then, enters_in, entered_count, enters}
 use Rattle.market_model.specs.Orders.{next_name}
 use Rattle.market_model.specs.WellFormed.{FitAfter, Fits}
 use Rattle.market_laws.proofs.Growing.{grows}
@@ -135,3 +135,28 @@ pub block_name-new : (setup : Setup) (before : List Event) (name : OrderName) (c
 block_name-new setup before name caller order names fits =
     let hour : name.hour ≡ order.first = ap (λ (n : OrderName). n.hour) fits.named in
     is_new before (event.EnteredBlock name caller order) name names (subst (λ h. name ≡ next_name before h) (sym hour) fits.named) (λ n. refl) (λ h. refl)
+
+-- no more enter by one hour than enter
+enters-some : (hour : ℕ) (e : Event) → cond (enters_in hour e) 1 0 ≤ cond (enters e) 1 0
+enters-some hour (event.Entered given caller order) = one (enters_in hour (event.Entered given caller order))
+  where
+    one : (b : Bool) → cond b 1 0 ≤ 1
+    one true = omega arith
+    one false = omega arith
+enters-some hour (event.EnteredBlock given caller order) = one (enters_in hour (event.EnteredBlock given caller order))
+  where
+    one : (b : Bool) → cond b 1 0 ≤ 1
+    one true = omega arith
+    one false = omega arith
+enters-some hour (event.Leg contract leg) = omega arith
+enters-some hour (event.BlockLeg first last leg) = omega arith
+enters-some hour (event.Granted arc first last lots) = omega arith
+enters-some hour (event.Offered arc first last lots) = omega arith
+enters-some hour (event.Halted border first last) = omega arith
+enters-some hour (event.Resumed border first last) = omega arith
+enters-some hour (event.Gated gated phase) = omega arith
+enters-some hour (event.Withdrawn given lots) = omega arith
+enters-some hour (event.Reduced given by) = omega arith
+
+pub entered_in-few : (events : List Event) (hour : ℕ) → entered_in events hour ≤ entered_count events
+entered_in-few events hour = sum_by-le-sum_by (λ e. cond (enters_in hour e) 1 0) (λ e. cond (enters e) 1 0) events (enters-some hour)

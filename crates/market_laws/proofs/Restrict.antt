@@ -69,3 +69,13 @@ find-filter {X} p q (x ∷ xs) weaker = go (find-filter p q xs (λ y i. weaker y
     go rest true false e k = absurd (true≢false (sym (weaker x (inl refl) e) ∙ k))
     go rest false true e k = rw e rest
     go rest false false e k = rest
+
+-- a filter of what comes from items
+pub filter-map : {X Y : Type 0} (p : Y → Bool) (f : X → Y) (xs : List X) → filter p (map f xs) ≡ map f (filter (λ x. p (f x)) xs)
+filter-map p f [] = refl
+filter-map {X} {Y} p f (x ∷ xs) = go (p (f x)) (filter-map p f xs)
+  where
+    go : (b : Bool) → filter p (map f xs) ≡ map f (filter (λ y. p (f y)) xs)
+        → cond b (f x ∷ filter p (map f xs)) (filter p (map f xs)) ≡ map f (cond b (x ∷ filter (λ y. p (f y)) xs) (filter (λ y. p (f y)) xs))
+    go true rest = ap (λ ys. f x ∷ ys) rest
+    go false rest = rest

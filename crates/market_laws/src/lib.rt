@@ -40,7 +40,7 @@ pub use locality::{
     replies_stay_within, touched_hours_decide,
 };
 pub use moments::{moments_are_kept, nobody_overtakes, replies_keep_moments};
-pub use refusals::only_its_rules_refuse;
+pub use refusals::{only_its_rules_refuse, state_comes_second};
 pub use repetitions::{deals_are_runs, pours_are_runs, sweeps_are_runs, takings_are_runs};
 pub use reply_bounds::{replies_enter_few, replies_name_the_setup};
 pub use turns::{

@@ -1,3 +1,4 @@
+pub mod Asked
 pub mod Blocks
 pub mod Board
 pub mod Capacity
@@ -8,6 +9,7 @@ pub mod Grid
 pub mod History
 pub mod HistoryLaws
 pub mod HourSet
+pub mod LetIn
 pub mod Lines
 pub mod Market
 pub mod Naming
@@ -17,6 +19,7 @@ pub mod RefusalTable
 pub mod Refusals
 pub mod Room
 pub mod Rules
+pub mod StateRules
 pub mod Sweep
 pub mod Taking
 pub mod View

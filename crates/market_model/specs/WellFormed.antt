@@ -14,7 +14,7 @@ use Rattle.order_kinds.specs.Period.{block_quarters, contract_quarters, is_not_a
 use Rattle.order_kinds.specs.Phase.{is_later}
 use Rattle.order_kinds.specs.Side.{opposite}
 use Rattle.zone_graph.specs.declared.route.Arc.{Arc}
-use Rattle.zone_graph.specs.Graph.{HasArc, HasZone, IsGraph, border_count}
+use Rattle.zone_graph.specs.Graph.{HasArc, HasZone, IsGraph, border_count, Graph}
 use Rattle.zone_graph.specs.Route.{IsIn, IsRoute}
 use Rattle.market_model.specs.declared.event.Event.{Event}
 use Rattle.market_model.specs.declared.event.Event.TheVariants as event
@@ -184,3 +184,9 @@ BlocksAreWhole events = (block : PlacedBlock) → IsIn block (blocks_placed even
 pub record IsHistory (setup : Setup) (events : List Event) : Type 0 where
   pub fit : FitAfter setup [] events
   pub whole : BlocksAreWhole events
+
+-- a first part of a legal history over a graph: each event fits those before it
+pub record IsLegalOver (graph : Graph) (events : List Event) : Type 0 where
+  pub setup : Setup
+  pub over : graph ≡ graph_of setup
+  pub fit : FitAfter setup [] events

@@ -5,6 +5,7 @@
 //! of their declaration, hours from 1 through the delivery day.
 #![tactic(auto)]
 
+mod asked;
 mod board;
 mod command;
 mod copying;
@@ -18,6 +19,7 @@ mod setup;
 mod touched_hours;
 mod who;
 
+pub use asked::Asked;
 pub use board::{Board, Shown};
 pub use command::{Command, Commands, Orders};
 pub use early_rules::refuse_early;

@@ -10,12 +10,11 @@ use Rattle.zone_graph.specs.Pour.{pour_leg}
 use Rattle.zone_graph.specs.Rooms.{room_of}
 use Rattle.zone_graph.specs.Route.{best_route, carried}
 use Rattle.zone_graph.proofs.BestRoute.{best_route-rooms}
-use Rattle.route_carrying.proofs.Carrying.{carried-rooms}
+use Rattle.route_carrying.proofs.Carrying.{carried-rooms, best_route-arcs}
 use Rattle.market_model.specs.declared.event.Event.{Event}
 use Rattle.market_model.specs.Blocks.{StandingBlock, block_buyer_zone, block_leg, block_leg_over, block_seller_zone}
 use Rattle.market_model.specs.Orders.{left}
 use Rattle.market_model.specs.Room.{room}
-use Rattle.plain_matching.proofs.SameRooms.{best_route-arcs}
 use Rattle.plain_blocks.specs.Meeting.{leg_of}
 
 -- a pour is the same where the rooms of the graph's arcs are

@@ -10,9 +10,8 @@ use Rattle.market_model.specs.Blocks.{IsBlockPour, StandingBlock, block_leg, blo
 use Rattle.market_model.specs.Grid.{graph_of}
 use Rattle.market_model.specs.History.{and_then}
 use Rattle.market_model.specs.Orders.{PlacedBlock, blocks_placed, left}
-use Rattle.market_model.specs.WellFormed.{IsMarketSetup}
+use Rattle.market_model.specs.WellFormed.{IsMarketSetup, IsLegalOver}
 use Rattle.market_laws.proofs.Pours.{ArePair, PourKeeps, pour-run, pour-step}
-use Rattle.plain_capacity.specs.Hour.{IsLegalOver}
 use Rattle.plain_blocks.specs.Meeting.{ArePoured}
 use Rattle.plain_blocks.proofs.Meetings.{quantities-pair}
 

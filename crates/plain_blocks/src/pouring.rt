@@ -7,8 +7,8 @@ ghost use Rattle.zone_graph.specs.Grid.{IsGrid};
 ghost use Rattle.zone_graph.specs.Rooms.{room_of};
 ghost use Rattle.zone_graph.specs.Route.{IsIn};
 ghost use Rattle.market_model.specs.Blocks as blocks;
+ghost use Rattle.market_model.specs.WellFormed.{IsLegalOver};
 ghost use Rattle.plain_blocks.specs.Meeting as meeting;
-ghost use Rattle.plain_capacity.specs.Hour.{IsLegalOver};
 ghost use Rattle.plain_matching.specs.Grown.{Grew};
 
 use event_history::History;

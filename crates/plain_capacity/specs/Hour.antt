@@ -1,6 +1,6 @@
 -- The capacity of one hour as it follows from a list of events. The quarters of an hour are numbered
 -- from 1 to 4.
-use Rattle.std.specs.Prelude.{◌≡◌, ℕ, ◌<◌, ◌==◌, ◌&&◌, Bool, true, false, not, List, [], length, map, replicate, slice_index_or, ℤ, if◌then◌else◌}
+use Rattle.std.specs.Prelude.{◌≡◌, ℕ, ◌<◌, ◌==◌, ◌&&◌, Bool, true, false, not, List, length, map, replicate, slice_index_or, ℤ, if◌then◌else◌}
 use Rattle.order_kinds.specs.declared.contract.Part.{Part}
 use Rattle.order_kinds.specs.declared.contract.Part.TheVariants as part
 use Rattle.order_kinds.specs.declared.phase.Phase.{Phase}
@@ -13,17 +13,8 @@ use Rattle.zone_graph.specs.Graph.{Graph, border_count}
 use Rattle.market_model.specs.declared.event.Event.{Event}
 use Rattle.market_model.specs.declared.event.Event.TheVariants as event
 use Rattle.market_model.specs.declared.event.Leg.{Leg}
-use Rattle.market_model.specs.declared.setup.Setup.{Setup}
-use Rattle.market_model.specs.Grid.{graph_of}
 use Rattle.market_model.specs.Room.{is_halted, is_open_phase, least, lots_of, phase_of}
-use Rattle.market_model.specs.WellFormed.{FitAfter}
 use Rattle.plain_capacity.specs.Rows.{CanNote, IsQuarterOf, flow_at, remaining_at}
-
--- a first part of a legal history over a graph: each event fits those before it
-pub record IsLegalOver (graph : Graph) (events : List Event) : Type 0 where
-  pub setup : Setup
-  pub over : graph ≡ graph_of setup
-  pub fit : FitAfter setup [] events
 
 -- the rows of the borders in each of the four quarters, which borders are halted, and the phase
 pub record Capacity : Type 0 where

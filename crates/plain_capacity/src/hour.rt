@@ -8,6 +8,7 @@ ghost use Rattle.zone_graph.specs.Graph as graphs;
 ghost use Rattle.zone_graph.specs.Rooms as arcs;
 ghost use Rattle.event_history.specs.Near.{IsNear};
 ghost use Rattle.market_model.specs.Room.{halt_by as halt_said, is_open_phase, phase_by as phase_said};
+ghost use Rattle.market_model.specs.WellFormed.{IsLegalOver};
 ghost use Rattle.plain_capacity.specs.Rows.{CanCarry, IsCarried, IsNoted, flow_at, row_at};
 ghost use Rattle.plain_capacity.specs.Hour as hours;
 
@@ -134,7 +135,7 @@ impl HourCapacity {
         start: usize,
         hour: u32,
     )
-        requires legal { hours.IsLegalOver grid.now events.now }
+        requires legal { IsLegalOver grid.now events.now }
         requires near { IsNear hour events.now near.now }
         requires start { start ≤ length near.now }
         requires before { hours.IsCapacityOf grid.now (take start near.now) hour self.old }
@@ -322,7 +323,7 @@ pub fn hour_capacity(
     events: &History,
     hour: u32,
 ) -> Result<HourCapacity, NoMemory>
-    requires { hours.IsLegalOver grid.now events.now }
+    requires { IsLegalOver grid.now events.now }
     ensures { IfOk result (hours.IsCapacityOf grid.now events.now hour) }
 {
     let mut capacity = HourCapacity::new(alloc, grid)?;

@@ -7,6 +7,7 @@ ghost use Rattle.zone_graph.specs.declared.route.Arc.{Arc};
 ghost use Rattle.zone_graph.specs.Graph as graphs;
 ghost use Rattle.zone_graph.specs.Rooms as rows;
 ghost use Rattle.market_model.specs.Room as rooms;
+ghost use Rattle.market_model.specs.WellFormed.{IsLegalOver};
 ghost use Rattle.plain_capacity.specs.Hour as hours;
 ghost use Rattle.plain_capacity.specs.Sums.{AreCapacitySums, IsCurrent};
 
@@ -33,7 +34,7 @@ pub fn contract_rooms(
     events: &History,
     contract: Contract,
 ) -> Result<Rooms, NoMemory>
-    requires legal { hours.IsLegalOver grid.now events.now }
+    requires legal { IsLegalOver grid.now events.now }
     requires part { contracts.is_known contract.part ≡ true }
     ensures size { IfOk result (λ made. length made ≡ graphs.border_count grid.now) }
     ensures rooms { IfOk result (λ made. (arc : Arc) → graphs.HasArc grid.now arc → rows.room_of made arc ≡ rooms.room events.now (periods.contract_quarters contract) arc) }
@@ -55,7 +56,7 @@ pub fn contract_rooms_over(
     capacity: &mut Option<CapacitySums>,
     contract: Contract,
 ) -> Result<Rooms, NoMemory>
-    requires legal { hours.IsLegalOver grid.now events.now }
+    requires legal { IsLegalOver grid.now events.now }
     requires part { contracts.is_known contract.part ≡ true }
     requires summed { IfSome capacity.old (AreCapacitySums grid.now events.now contract.hour) }
     ensures size { IfOk result (λ made. length made ≡ graphs.border_count grid.now) }
@@ -82,7 +83,7 @@ fn sum_up(
     hour: u32,
     given: Option<CapacitySums>,
 ) -> Result<HourCapacity, NoMemory>
-    requires legal { hours.IsLegalOver grid.now events.now }
+    requires legal { IsLegalOver grid.now events.now }
     requires given { IfSome given (AreCapacitySums grid.now events.now hour) }
     ensures { IfOk result (hours.IsCapacityOf grid.now events.now hour) }
 {
@@ -105,7 +106,7 @@ pub fn block_rooms(
     first: u32,
     last: u32,
 ) -> Result<Rooms, NoMemory>
-    requires legal { hours.IsLegalOver grid.now events.now }
+    requires legal { IsLegalOver grid.now events.now }
     requires order { first ≤ last }
     ensures size { IfOk result (λ made. length made ≡ graphs.border_count grid.now) }
     ensures rooms { IfOk result (λ made. (arc : Arc) → graphs.HasArc grid.now arc → rows.room_of made arc ≡ rooms.room events.now (periods.block_quarters first last) arc) }
@@ -119,7 +120,7 @@ pub fn block_rooms(
 
 // The rooms of a whole hour.
 fn hour_rooms(alloc: Global, grid: &Grid, events: &History, hour: u32) -> Result<Rooms, NoMemory>
-    requires { hours.IsLegalOver grid.now events.now }
+    requires { IsLegalOver grid.now events.now }
     ensures size { IfOk result (λ made. length made ≡ graphs.border_count grid.now) }
     ensures rooms { IfOk result (λ made. (arc : Arc) → graphs.HasArc grid.now arc → rows.room_of made arc ≡ rooms.room events.now (periods.hour_quarters hour) arc) }
 {

@@ -10,7 +10,7 @@ ghost use Rattle.market_model.specs.Certificate as certificates;
 ghost use Rattle.market_model.specs.History.{entered_count};
 ghost use Rattle.market_model.specs.Lines as lines;
 ghost use Rattle.market_model.specs.Room as rooms;
-ghost use Rattle.plain_capacity.specs.Hour.{IsLegalOver};
+ghost use Rattle.market_model.specs.WellFormed.{IsLegalOver};
 ghost use Rattle.plain_certificate.specs.Crossing as crossing;
 
 use crate::crossing::crossing_lots_inside;

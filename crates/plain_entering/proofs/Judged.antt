@@ -14,8 +14,8 @@ use Rattle.market_model.specs.Entering.{after_taking, name_of_next, rest_of, wit
 use Rattle.market_model.specs.Refusals.{basket_order_refusal, order_desk_refusal}
 use Rattle.market_model.specs.Rules.{first_broken}
 use Rattle.market_model.specs.Sweep.{first_answer, or_else}
-use Rattle.plain_matching.proofs.Orders.{of_kind}
-use Rattle.plain_refusals.specs.State.{filling_rules}
+use Rattle.market_model.specs.StateRules.{filling_rules}
+use Rattle.market_laws.proofs.Replaced.{of_kind}
 use Rattle.plain_entering.proofs.Parts.{IsTaken}
 use Rattle.plain_entering.specs.Judging.{refusal_after, unless_filled, unless_full}
 

@@ -7,8 +7,8 @@ ghost use Rattle.market_model.specs.Refusals.{basket_order_refusal};
 ghost use Rattle.market_model.specs.Rules.{basket_is_good, first_broken};
 ghost use Rattle.market_model.specs.Sweep as sweeping;
 ghost use Rattle.market_model.specs.declared.command.Command.TheVariants as command;
+ghost use Rattle.market_model.specs.StateRules.{filling_rules};
 ghost use Rattle.plain_entering.specs.Entering.{CanEnter, StaysWhereRefused};
-ghost use Rattle.plain_refusals.specs.State.{filling_rules};
 ghost use Rattle.plain_matching.specs.Grown.{Grew};
 
 use crate::entering::{enter_and_take, enter_unrefused};

@@ -4,7 +4,7 @@ ghost use Rattle.std.specs.Prelude.{◌≡◌, ◌<◌, ◌^◌, true, Ok, None,
 ghost use Rattle.order_kinds.specs.Contract as contracts;
 ghost use Rattle.zone_graph.specs.Graph.{Graph, HasZone};
 ghost use Rattle.market_model.specs.History.{entered_count};
-ghost use Rattle.plain_capacity.specs.Hour.{IsLegalOver};
+ghost use Rattle.market_model.specs.WellFormed.{IsLegalOver};
 ghost use Rattle.plain_entering.specs.Entering.{IsCut};
 ghost use Rattle.plain_entering.specs.Judging as judged;
 ghost use Rattle.plain_matching.specs.Summed.{AreHourSums};

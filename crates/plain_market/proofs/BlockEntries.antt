@@ -15,11 +15,10 @@ use Rattle.market_model.specs.Orders.{next_name}
 use Rattle.market_model.specs.Refusals.{block_desk_refusal, has_desk_room}
 use Rattle.market_model.specs.Rules.{unless}
 use Rattle.market_model.specs.Sweep.{all_parts, sweeps}
-use Rattle.market_model.specs.WellFormed.{FitAfter, IsMarketSetup}
+use Rattle.market_model.specs.WellFormed.{FitAfter, IsMarketSetup, IsLegalOver}
 use Rattle.market_laws.proofs.BlockEntries.{MayEnterBlock, enter_block-history}
 use Rattle.market_laws.proofs.Growing.{fit-front}
 use Rattle.plain_blocks.specs.Entering.{CanEnterBlock}
-use Rattle.plain_capacity.specs.Hour.{IsLegalOver}
 
 -- the legs of a block with the partner that it finds
 abbrev pub legs_found : Graph → List Event → (caller : ℕ) → BlockOrder → List Event

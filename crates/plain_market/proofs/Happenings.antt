@@ -17,14 +17,13 @@ use Rattle.market_model.specs.Market.{events_done, gate, on_arc, then_sweeps, wi
 use Rattle.market_model.specs.History.{and_then}
 use Rattle.market_model.specs.Orders.{left}
 use Rattle.market_model.specs.Sweep.{all_parts, sweeps}
-use Rattle.market_model.specs.WellFormed.{FitAfter, Fits, IsHistory, IsMarketSetup}
+use Rattle.market_model.specs.WellFormed.{FitAfter, Fits, IsHistory, IsMarketSetup, IsLegalOver}
+use Rattle.market_model.specs.LetIn.{IsNoEntry}
 use Rattle.market_laws.proofs.BlockEntries.{deals-history}
 use Rattle.market_laws.proofs.Growing.{fit-back, fit-front}
 use Rattle.plain_blocks.specs.Entering.{IsHistoryOver}
-use Rattle.plain_capacity.specs.Hour.{IsLegalOver}
 use Rattle.plain_market.specs.declared.border_events.BorderEvent.{BorderEvent}
 use Rattle.plain_market.specs.Borders.{border_event, grant, halt, offer, resumption}
-use Rattle.plain_market.specs.LetIn.{IsNoEntry}
 
 -- what follows from what holds of a success
 pub on-ok : {T E P Q : Type 0} (result : Result T E) → OnOk result P → (P → Q) → OnOk result Q

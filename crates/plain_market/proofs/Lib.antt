@@ -4,4 +4,3 @@ pub mod Closings
 pub mod Empty
 pub mod Growing
 pub mod Happenings
-pub mod Replies

@@ -9,11 +9,10 @@ ghost use Rattle.market_model.specs.History.{and_then};
 ghost use Rattle.market_model.specs.Market as market;
 ghost use Rattle.market_model.specs.Orders as orders;
 ghost use Rattle.market_model.specs.Sweep.{all_parts};
-ghost use Rattle.market_model.specs.WellFormed.{IsHistory};
-ghost use Rattle.plain_capacity.specs.Hour.{IsLegalOver};
+ghost use Rattle.market_model.specs.WellFormed.{IsHistory, IsLegalOver};
+ghost use Rattle.market_model.specs.LetIn.{IsNoEntry};
 ghost use Rattle.plain_blocks.specs.Entering.{IsHistoryOver};
 ghost use Rattle.plain_market.specs.Borders as borders;
-ghost use Rattle.plain_market.specs.LetIn.{IsNoEntry};
 ghost use Rattle.plain_matching.specs.Grown.{Grew};
 ghost use Rattle.plain_orders.specs.Histories.{IsSomeHistory};
 

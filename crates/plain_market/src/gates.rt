@@ -4,7 +4,7 @@ ghost use Rattle.std.specs.Prelude.{◌≡◌, ◌∷◌, ◌++◌, IfOk, OnOk, 
 ghost use Rattle.market_model.specs.declared.event.Event.TheVariants as event;
 ghost use Rattle.market_model.specs.Market as market;
 ghost use Rattle.market_model.specs.Sweep.{all_parts};
-ghost use Rattle.plain_capacity.specs.Hour.{IsLegalOver};
+ghost use Rattle.market_model.specs.WellFormed.{IsLegalOver};
 ghost use Rattle.plain_matching.specs.Grown.{Grew};
 ghost use Rattle.plain_orders.specs.Histories.{IsSomeHistory};
 

@@ -8,8 +8,8 @@ ghost use Rattle.market_model.specs.Market as market;
 ghost use Rattle.market_model.specs.Rules.{first_broken};
 ghost use Rattle.market_model.specs.Sweep.{all_parts};
 ghost use Rattle.market_model.specs.WellFormed.{IsHistory};
-ghost use Rattle.plain_refusals.specs.State.{filling_rules};
-ghost use Rattle.plain_market.specs.LetIn.{IsLetIn};
+ghost use Rattle.market_model.specs.StateRules.{filling_rules};
+ghost use Rattle.market_model.specs.LetIn.{IsLetIn};
 ghost use Rattle.plain_matching.specs.Grown.{Grew};
 
 use crate::blocks::enter_block;

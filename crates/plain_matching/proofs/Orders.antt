@@ -4,7 +4,6 @@ use Rattle.std.specs.List.{find}
 use Rattle.std.specs.Option.{option_map}
 use Rattle.std.proofs.lemmas.Bool.{and_parts}
 use Rattle.order_kinds.specs.declared.contract.Contract.{Contract}
-use Rattle.order_kinds.specs.declared.order.Kind.{Kind}
 use Rattle.order_kinds.specs.declared.order.Order.{Order}
 use Rattle.order_kinds.specs.declared.order.OrderName.{OrderName}
 use Rattle.order_kinds.specs.declared.side.Side.{Side}
@@ -19,11 +18,11 @@ use Rattle.market_model.specs.declared.event.Event.{Event}
 use Rattle.market_model.specs.Lines.{line}
 use Rattle.market_model.specs.Orders.{Placed, Standing, left, placed, standing}
 use Rattle.market_model.specs.Taking.{standing_order}
+use Rattle.market_model.specs.WellFormed.{IsLegalOver}
 use Rattle.market_laws.proofs.Placed.{all_are_sound}
 use Rattle.market_laws.proofs.Tests.{same_name-eq}
 use Rattle.market_laws.proofs.Trades.{from_line}
 use Rattle.market_laws.proofs.Restrict.{find-filter}
-use Rattle.plain_capacity.specs.Hour.{IsLegalOver}
 use Rattle.plain_orders.specs.Listed.{is_order_of, line_of, open_orders, stands_open}
 use Rattle.plain_orders.proofs.LineLaws.{line-of_orders}
 use Rattle.plain_matching.specs.Over.{AreInZones, AreRoomsFor, is_open_as}
@@ -121,7 +120,3 @@ ready graph events orders own order side found others made legal same of_order o
       line_is = line_is;
       in_zones = subst (AreInZones graph) (sym line_is) (line-zones graph events own.order.contract (opposite own.order.side) legal);
     }
-
--- an order, of a kind
-unfoldable pub of_kind : Kind → Order → Order
-of_kind kind order = record order { kind = kind }

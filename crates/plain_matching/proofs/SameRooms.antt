@@ -4,23 +4,15 @@ use Rattle.std.specs.Option.{option_and_then, option_map, is_some}
 use Rattle.std.specs.Ordering.{is_lt}
 use Rattle.zone_graph.specs.declared.route.Arc.{Arc}
 use Rattle.zone_graph.specs.Graph.{Graph, HasArc, IsGraph}
-use Rattle.zone_graph.specs.Route.{IsIn, best_route}
+use Rattle.zone_graph.specs.Route.{best_route}
 use Rattle.zone_graph.proofs.BestRoute.{best_route-rooms}
-use Rattle.zone_graph.proofs.Carrying.{best_route-route}
 use Rattle.market_model.specs.declared.event.Event.{Event}
 use Rattle.market_model.specs.Lines.{buyer_zone, can_trade, seller_zone, time_cmp}
 use Rattle.market_model.specs.Orders.{Standing}
 use Rattle.market_model.specs.Taking.{leg_over}
 use Rattle.market_laws.proofs.Restrict.{find-same}
-use Rattle.cut_proof.proofs.Ways.{way_has_arc}
-use Rattle.route_carrying.proofs.Carrying.{carried-rooms}
+use Rattle.route_carrying.proofs.Carrying.{carried-rooms, best_route-arcs}
 use Rattle.plain_matching.specs.Over.{crosses_price, leg_of_buy_over, partner_in, resting_trade_over, trade_over}
-
--- the arcs of a best route are the graph's
-pub best_route-arcs : (graph : Graph) (room : Arc → ℕ) (from to : ℕ) (route : List Arc) → IsGraph graph → best_route graph room from to ≡ Some route
-    → (arc : Arc) → IsIn arc route → HasArc graph arc
-best_route-arcs graph room from to route is found arc i =
-    way_has_arc graph room from to route arc (best_route-route graph room from to route is found).way i
 
 module _ (graph : Graph) (room other : Arc → ℕ) (is : IsGraph graph) (same : (arc : Arc) → HasArc graph arc → room arc ≡ other arc) where
   pub can_trade-rooms : (own another : Standing) → can_trade graph room own another ≡ can_trade graph other own another

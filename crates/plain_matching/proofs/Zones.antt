@@ -13,14 +13,11 @@ use Rattle.cut_proof.specs.Cut.{reaches_in}
 use Rattle.market_model.specs.Lines.{buyer_zone, can_trade, seller_zone}
 use Rattle.market_model.specs.Orders.{Standing}
 use Rattle.market_laws.proofs.Restrict.{find-same}
+use Rattle.market_laws.proofs.Replaced.{on}
 use Rattle.plain_routes.specs.declared.reach.ReachedZones.{ReachedZones}
 use Rattle.plain_routes.specs.Reached.{has_zone}
 use Rattle.plain_matching.specs.Over.{AreInZones, crosses_price, is_buy, is_in_reach, partner_in}
 use Rattle.plain_matching.proofs.Places.{find-nothing}
-
--- an order, on a side
-unfoldable pub on : Side → Standing → Standing
-on side own = record own { order = record (own.order) { side = side } }
 
 module _ (graph : Graph) (own other : Standing) (own_zone : HasZone graph own.order.zone) (other_zone : HasZone graph other.order.zone) where
   pub seller-known : HasZone graph (seller_zone own other)

@@ -9,7 +9,7 @@ ghost use Rattle.zone_graph.specs.Graph.{HasZone, border_count};
 ghost use Rattle.zone_graph.specs.Grid.{IsGrid};
 ghost use Rattle.zone_graph.specs.Rooms.{room_of};
 ghost use Rattle.market_model.specs.Sweep as market;
-ghost use Rattle.plain_capacity.specs.Hour.{IsLegalOver};
+ghost use Rattle.market_model.specs.WellFormed.{IsLegalOver};
 ghost use Rattle.plain_capacity.specs.Sums.{AreCapacitySums};
 ghost use Rattle.plain_orders.specs.Listed as listed;
 ghost use Rattle.plain_matching.specs.Grown.{Grew, GrewByPart};

@@ -5,7 +5,7 @@ ghost use Rattle.std.specs.List.{find};
 ghost use Rattle.zone_graph.specs.Grid.{IsGrid};
 ghost use Rattle.zone_graph.specs.Route.{IsIn};
 ghost use Rattle.market_model.specs.Taking as market;
-ghost use Rattle.plain_capacity.specs.Hour.{IsLegalOver};
+ghost use Rattle.market_model.specs.WellFormed.{IsLegalOver};
 ghost use Rattle.plain_capacity.specs.Sums.{AreCapacitySums};
 ghost use Rattle.plain_orders.specs.Listed as listed;
 ghost use Rattle.plain_matching.specs.Grown.{GrewByPart};

@@ -1,5 +1,5 @@
 -- The lines that the orders and blocks of an hour make.
-use Rattle.std.proofs.Common.{◌≡◌, ◌∙◌, ℕ, ◌&&◌, Bool, true, false, List, [], ◌∷◌, cond, filter, map, nat_eq, eqb-true, eq-eqb, refl, ap}
+use Rattle.std.proofs.Common.{◌≡◌, ◌∙◌, ℕ, ◌&&◌, true, List, filter, map, nat_eq, eqb-true, eq-eqb, ap}
 use Rattle.std.specs.Cmp.{IsStrictWeakOrder, IsTotalOrder}
 use Rattle.std.specs.Ordering.{is_lt}
 use Rattle.std.proofs.lemmas.Cmp.{nat_cmp_total, on_total, then_total}
@@ -16,7 +16,7 @@ use Rattle.market_model.specs.Lines.{line, priority_cmp, stands_in}
 use Rattle.market_model.specs.Orders.{Placed, PlacedBlock, blocks_placed, is_open, placed, standing}
 use Rattle.market_laws.proofs.Placed.{all_are_sound}
 use Rattle.market_laws.proofs.Tests.{same_contract-eq}
-use Rattle.market_laws.proofs.Restrict.{filter-filter}
+use Rattle.market_laws.proofs.Restrict.{filter-filter, filter-map}
 use Rattle.plain_orders.specs.Histories.{IsSomeHistory}
 use Rattle.plain_orders.specs.Listed.{block_line_of, blocks_of, is_block_of, is_in_block_line, is_in_line, is_order_of, line_of, open_orders, stands_open}
 use Rattle.zone_graph.specs.InOrder.{in_order}
@@ -29,16 +29,6 @@ block_priority_total side =
 
 pub block_priority_weak : (side : Side) → IsStrictWeakOrder (λ (a b : StandingBlock). is_lt (block_priority_cmp side a b))
 block_priority_weak side = ranks_by (block_priority_total side) (λ (s : StandingBlock). s)
-
--- a filter of what comes from items
-pub filter-map : {X Y : Type 0} (p : Y → Bool) (f : X → Y) (xs : List X) → filter p (map f xs) ≡ map f (filter (λ x. p (f x)) xs)
-filter-map p f [] = refl
-filter-map {X} {Y} p f (x ∷ xs) = go (p (f x)) (filter-map p f xs)
-  where
-    go : (b : Bool) → filter p (map f xs) ≡ map f (filter (λ y. p (f y)) xs)
-        → cond b (f x ∷ filter p (map f xs)) (filter p (map f xs)) ≡ map f (cond b (x ∷ filter (λ y. p (f y)) xs) (filter (λ y. p (f y)) xs))
-    go true rest = ap (λ ys. f x ∷ ys) rest
-    go false rest = rest
 
 pub line-of_orders : (events : List Event) (contract : Contract) (side : Side) → IsSomeHistory events
     → line_of (open_orders events contract.hour) contract side ≡ line events contract side

@@ -17,9 +17,8 @@ use Rattle.market_model.specs.Orders.{Placed, PlacedBlock, block_placed_by, bloc
 use Rattle.market_model.specs.Refusals.{desk_room, has_desk_room}
 use Rattle.market_laws.proofs.Balances.{left-filled-taken_off}
 use Rattle.market_laws.proofs.Members.{IsIn-filter_map, from_filter_map}
-use Rattle.market_laws.proofs.Names.{enters_as}
+use Rattle.market_laws.proofs.Names.{enters_as, names-once}
 use Rattle.market_laws.proofs.Placed.{all_are_sound, picked-same}
-use Rattle.market_laws.proofs.Names.{names-once}
 use Rattle.market_laws.proofs.Tests.{same_name-refl}
 use Rattle.market_laws.proofs.Unique.{enters-block_placed, enters-placed, entered-order, times-some}
 use Rattle.plain_orders.specs.declared.tally.Tally.{Tally}

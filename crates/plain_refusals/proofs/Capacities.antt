@@ -19,11 +19,13 @@ use Rattle.market_model.specs.Refusals.{below_flow, no_room, offer_refusal, requ
 use Rattle.market_model.specs.Room.{lots_of}
 use Rattle.market_model.specs.Rules.{unless}
 use Rattle.market_model.specs.Sweep.{first_answer, or_else}
+use Rattle.market_model.specs.WellFormed.{IsLegalOver}
+use Rattle.market_model.specs.declared.asked.Asked.{Asked}
+use Rattle.market_model.specs.Asked.{first_in_hour, is_asked}
 use Rattle.market_laws.proofs.Uses.{within_offers}
-use Rattle.plain_capacity.specs.Hour.{Capacity, IsCapacityOf, IsLegalOver}
+use Rattle.plain_capacity.specs.Hour.{Capacity, IsCapacityOf}
 use Rattle.plain_capacity.proofs.RoomLemmas.{room-is}
-use Rattle.plain_refusals.specs.declared.capacity.Asked.{Asked}
-use Rattle.plain_refusals.specs.Asked.{FlowsAtMost, asked_between, below_flow_at, first_below_flow, first_in_hour, first_no_room, is_asked, no_room_at}
+use Rattle.plain_refusals.specs.Asked.{FlowsAtMost, asked_between, below_flow_at, first_below_flow, first_no_room, no_room_at}
 
 -- ---- the same answers in each quarter
 

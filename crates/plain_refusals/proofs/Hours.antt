@@ -7,9 +7,9 @@ use Rattle.order_kinds.specs.declared.contract.Quarter.{Quarter}
 use Rattle.order_kinds.specs.Period.{block_quarters, hour_quarters, hours_from}
 use Rattle.order_kinds.proofs.Hours.{hours-next, hours-none}
 use Rattle.market_model.specs.Sweep.{first_answer, or_else}
-use Rattle.plain_refusals.specs.declared.capacity.Asked.{Asked}
-use Rattle.plain_refusals.specs.Asked.{first_in_hour, is_asked}
-use Rattle.plain_refusals.proofs.Rules.{first_answer-append}
+use Rattle.market_model.specs.declared.asked.Asked.{Asked}
+use Rattle.market_model.specs.Asked.{first_in_hour, is_asked}
+use Rattle.market_laws.proofs.StateRules.{first_answer-append}
 
 -- ---- the first hour that passes
 

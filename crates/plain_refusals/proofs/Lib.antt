@@ -1,4 +1,3 @@
-pub mod Rules
 pub mod Quarters
 pub mod Hours
 pub mod Capacities

@@ -5,8 +5,8 @@ use Rattle.order_kinds.specs.declared.contract.Quarter.{Quarter}
 use Rattle.order_kinds.specs.Period.{quarter_of}
 use Rattle.order_kinds.proofs.Hours.{quarters-onward}
 use Rattle.market_model.specs.Sweep.{first_answer}
-use Rattle.plain_refusals.specs.declared.capacity.Asked.{Asked}
-use Rattle.plain_refusals.specs.Asked.{first_in_hour, is_asked}
+use Rattle.market_model.specs.declared.asked.Asked.{Asked}
+use Rattle.market_model.specs.Asked.{first_in_hour, is_asked}
 
 -- the first answer of those quarters that pass and do not come before a number
 abbrev pub from_number : {Y : Type 0} → (Quarter → Option Y) → (Quarter → Bool) → (hour number : ℕ) → Option Y

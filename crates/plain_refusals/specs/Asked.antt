@@ -1,9 +1,9 @@
 -- What an offer or a request asks for, and which quarter refuses it, told by the capacity of the
 -- quarter's hour.
-use Rattle.std.specs.Prelude.{ℕ, ◌&&◌, Bool, not, List, filter, nat_le, Option, pos, int_lt, ◌≤ℤ◌}
+use Rattle.std.specs.Prelude.{ℕ, not, List, nat_le, Option, pos, int_lt, ◌≤ℤ◌}
 use Rattle.std.specs.Option.{option_map}
 use Rattle.order_kinds.specs.declared.contract.Quarter.{Quarter}
-use Rattle.order_kinds.specs.Period.{EachQuarter, hour_quarters, is_not_after, range_quarters}
+use Rattle.order_kinds.specs.Period.{EachQuarter, range_quarters}
 use Rattle.zone_graph.specs.declared.route.Arc.{Arc}
 use Rattle.zone_graph.specs.Graph.{Graph}
 use Rattle.zone_graph.specs.Grid.{arc_between}
@@ -14,21 +14,13 @@ use Rattle.market_model.specs.Refusals.{below_flow, no_room}
 use Rattle.market_model.specs.Room.{lots_of}
 use Rattle.market_model.specs.Rules.{unless}
 use Rattle.market_model.specs.Sweep.{first_answer}
+use Rattle.market_model.specs.declared.asked.Asked.{Asked}
 use Rattle.plain_capacity.specs.Hour.{Capacity, flow_in, room_in}
-use Rattle.plain_refusals.specs.declared.capacity.Asked.{Asked}
 
 -- what is asked over the arc from a zone to a zone, if there is one
 abbrev pub asked_between : Graph → (from to : ℕ) → (first last : Quarter) → (lots : ℕ) → Option Asked
 asked_between graph from to first last lots =
     option_map (λ arc. record { arc = arc; first = first; last = last; lots = lots }) (arc_between graph from to)
-
--- a quarter is not before the first nor after the last
-abbrev pub is_asked : Asked → Quarter → Bool
-is_asked asked quarter = is_not_after asked.first quarter && is_not_after quarter asked.last
-
--- the first answer of those quarters of an hour that are asked for
-unfoldable pub first_in_hour : {Y : Type 0} → (Quarter → Option Y) → Asked → (hour : ℕ) → Option Y
-first_in_hour ask asked hour = first_answer ask (filter (is_asked asked) (hour_quarters hour))
 
 -- no more flows over an arc in any quarter of an hour
 abbrev pub FlowsAtMost : (most : ℕ) → Capacity → Arc → Type 0

@@ -5,23 +5,16 @@ ghost use Rattle.std.specs.Prelude.{◌≡◌, ◌≤◌, ◌<◌, IfOk, IfSome}
 ghost use Rattle.quarter_capacity.specs.Capacity.{most_offered};
 ghost use Rattle.zone_graph.specs.Graph.{HasArc};
 ghost use Rattle.market_model.specs.Refusals as refusals;
+ghost use Rattle.market_model.specs.WellFormed.{IsLegalOver};
 ghost use Rattle.plain_capacity.specs.Hour as hours;
+ghost use Rattle.market_model.specs.Asked as ranges;
 ghost use Rattle.plain_refusals.specs.Asked as range;
 
 use event_history::History;
-use market_model::{Arc, Command, NoMemory, Quarter, Refusal};
+use market_model::{Asked, Command, NoMemory, Quarter, Refusal};
 use plain_capacity::{HourCapacity, hour_capacity};
 use std::alloc::Global;
 use zone_graph::Grid;
-
-// Lots over an arc in each quarter from the first to the last: what is offered, or what is asked for.
-#[derive(Clone, Copy, Debug)]
-struct Asked {
-    arc: Arc,
-    first: Quarter,
-    last: Quarter,
-    lots: u32,
-}
 
 /// The refusal of an offer that is below what flows in one of its quarters.
 pub(crate) fn refuse_offer(
@@ -30,7 +23,7 @@ pub(crate) fn refuse_offer(
     events: &History,
     command: &Command,
 ) -> Result<Option<Refusal>, NoMemory>
-    requires { hours.IsLegalOver grid.now events.now }
+    requires { IsLegalOver grid.now events.now }
     ensures { IfOk result (λ refusal. refusal ≡ refusals.offer_refusal grid.now events.now command.now) }
 {
     match command {
@@ -55,7 +48,7 @@ pub(crate) fn refuse_request(
     events: &History,
     command: &Command,
 ) -> Result<Option<Refusal>, NoMemory>
-    requires { hours.IsLegalOver grid.now events.now }
+    requires { IsLegalOver grid.now events.now }
     ensures { IfOk result (λ refusal. refusal ≡ refusals.request_refusal grid.now events.now command.now) }
 {
     match command {
@@ -101,7 +94,7 @@ fn first_below_flow(
     events: &History,
     offer: &Asked,
 ) -> Result<Option<Refusal>, NoMemory>
-    requires legal { hours.IsLegalOver grid.now events.now }
+    requires legal { IsLegalOver grid.now events.now }
     requires there { HasArc grid.now offer.now.arc }
     ensures { IfOk result (λ refusal. refusal ≡ range.first_below_flow events.now offer.now) }
 {
@@ -119,7 +112,7 @@ fn first_below_flow(
 fn below_flow_in(capacity: &HourCapacity, hour: u32, offer: &Asked) -> Option<Refusal>
     requires border { offer.now.arc.border < hours.size_of capacity.now }
     requires most { range.FlowsAtMost most_offered capacity.now offer.now.arc }
-    ensures { result ≡ range.first_in_hour (range.below_flow_at capacity.now offer.now) offer.now hour }
+    ensures { result ≡ ranges.first_in_hour (range.below_flow_at capacity.now offer.now) offer.now hour }
 {
     for number in 1..5 {
         let quarter = Quarter { hour, number };
@@ -158,7 +151,7 @@ fn first_no_room(
     events: &History,
     request: &Asked,
 ) -> Result<Option<Refusal>, NoMemory>
-    requires legal { hours.IsLegalOver grid.now events.now }
+    requires legal { IsLegalOver grid.now events.now }
     requires there { HasArc grid.now request.now.arc }
     ensures { IfOk result (λ refusal. refusal ≡ range.first_no_room events.now request.now) }
 {
@@ -175,7 +168,7 @@ fn first_no_room(
 #[tactic(auto, using(crate::proofs::Quarters::answered, crate::proofs::Quarters::not_passed, crate::proofs::Quarters::no_answer, crate::proofs::Quarters::from_first))]
 fn no_room_in(capacity: &HourCapacity, hour: u32, request: &Asked) -> Option<Refusal>
     requires border { request.now.arc.border < hours.size_of capacity.now }
-    ensures { result ≡ range.first_in_hour (range.no_room_at capacity.now request.now) request.now hour }
+    ensures { result ≡ ranges.first_in_hour (range.no_room_at capacity.now request.now) request.now hour }
 {
     for number in 1..5 {
         let quarter = Quarter { hour, number };
@@ -205,7 +198,7 @@ fn no_room(capacity: &HourCapacity, request: &Asked, quarter: Quarter) -> Option
 
 // Whether a quarter is one of those from the first to the last.
 fn is_asked(asked: &Asked, quarter: Quarter) -> bool
-    ensures { result ≡ range.is_asked asked.now quarter }
+    ensures { result ≡ ranges.is_asked asked.now quarter }
 {
     asked.first.is_not_after(quarter) && quarter.is_not_after(asked.last)
 }

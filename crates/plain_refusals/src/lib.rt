@@ -10,4 +10,4 @@ mod closing;
 mod orders;
 mod state;
 
-pub use state::{refuse_by_state, state_comes_second};
+pub use state::refuse_by_state;

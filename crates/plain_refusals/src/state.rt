@@ -1,9 +1,9 @@
 //! The rules in their order.
 
 ghost use Rattle.std.specs.Prelude.{◌≡◌, IfOk};
-ghost use Rattle.plain_capacity.specs.Hour.{IsLegalOver};
+ghost use Rattle.market_model.specs.WellFormed.{IsLegalOver};
 ghost use Rattle.plain_orders.specs.Histories.{IsSomeHistory};
-ghost use Rattle.plain_refusals.specs.State as state;
+ghost use Rattle.market_model.specs.StateRules as state;
 
 use crate::capacity::{refuse_offer, refuse_request};
 use crate::closing::{refuse_closed, refuse_gate};
@@ -23,7 +23,7 @@ use zone_graph::Grid;
 /// # Errors
 ///
 /// [`NoMemory`], where there is no memory for the capacity of an hour.
-#[tactic(auto, unfolding(crate::specs::State::state_refusal, crate::specs::State::order_refusal, crate::specs::State::capacity_refusal))]
+#[tactic(auto, unfolding(market_model::specs::StateRules::state_refusal, market_model::specs::StateRules::order_refusal, market_model::specs::StateRules::capacity_refusal))]
 pub fn refuse_by_state(
     alloc: Global,
     grid: &Grid,
@@ -41,7 +41,7 @@ pub fn refuse_by_state(
 }
 
 // The first broken rule on the state of orders and hours.
-#[tactic(auto, unfolding(crate::specs::State::order_refusal))]
+#[tactic(auto, unfolding(market_model::specs::StateRules::order_refusal))]
 fn refuse_by_orders(events: &History, caller: u32, command: &Command) -> Option<Refusal>
     requires { IsSomeHistory events.now }
     ensures { result ≡ state.order_refusal events.now caller command.now }
@@ -53,7 +53,7 @@ fn refuse_by_orders(events: &History, caller: u32, command: &Command) -> Option<
 }
 
 // The first broken rule on capacity.
-#[tactic(auto, unfolding(crate::specs::State::capacity_refusal))]
+#[tactic(auto, unfolding(market_model::specs::StateRules::capacity_refusal))]
 fn refuse_by_capacity(
     alloc: Global,
     grid: &Grid,
@@ -68,9 +68,3 @@ fn refuse_by_capacity(
         None => refuse_request(alloc, grid, events, command),
     }
 }
-
-/// All rules are those that a command can break by itself, then these, then those on orders that are
-/// filled and on what rests.
-pub fn state_comes_second()
-    ensures { state.StateComesSecond }
-{}

@@ -13,8 +13,9 @@ use Rattle.market_laws.proofs.Restrict.{find-same}
 use Rattle.cut_proof.specs.Cut.{reaches_in}
 use Rattle.plain_routes.specs.declared.reach.ReachedZones.{ReachedZones}
 use Rattle.plain_routes.specs.Reached.{has_zone}
-use Rattle.plain_view.specs.declared.maker.Maker.{Maker}
-use Rattle.plain_view.specs.Depth.{AreInZones, buyer_zone, can_fill, crosses_any, fill_with, is_in_reach, next_fill, route_with, seller_zone}
+use Rattle.view_laws.specs.declared.trades.Maker.{Maker}
+use Rattle.plain_view.specs.InReach.{is_in_reach}
+use Rattle.view_laws.specs.Depth.{AreInZones, buyer_zone, can_fill, crosses_any, fill_with, next_fill, route_with, seller_zone}
 
 pub seller-known : (graph : Graph) (side : Side) (zone : ℕ) (maker : Maker) → HasZone graph zone → HasZone graph maker.zone → HasZone graph (seller_zone side zone maker)
 seller-known graph Buy zone maker own other = own

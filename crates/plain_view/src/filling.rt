@@ -9,27 +9,15 @@ ghost use Rattle.market_model.specs.View as market;
 ghost use Rattle.order_kinds.specs.Same.{same_side};
 ghost use Rattle.order_kinds.specs.declared.side.Side.TheVariants.{Sell};
 ghost use Rattle.plain_routes.specs.Reached.{IsFoundIn};
-ghost use Rattle.plain_view.specs.Depth as depth;
+ghost use Rattle.view_laws.specs.Depth as depth;
+ghost use Rattle.plain_view.specs.InReach as in_reach;
 
-use crate::maker::Maker;
-use market_model::{NoMemory, OrderName, Price, Route, Side};
+use market_model::{NoMemory, Price, Side};
 use plain_routes::{ReachedZones, reached};
 use route_carrying::carried;
 use std::alloc::Global;
+use view_laws::{Fill, Maker};
 use zone_graph::{Grid, Rooms};
-
-/// A trade of the taker.
-#[derive(Drop)]
-pub struct Fill {
-    /// The maker's name.
-    pub maker: OrderName,
-    /// The maker's price, in cents per MWh.
-    pub price: Price,
-    /// How much is traded, in lots.
-    pub lots: u32,
-    /// The way from the seller to the buyer.
-    pub route: Route,
-}
 
 /// The next trade of a taker in a zone, of which so many lots are left: with the first maker of the
 /// line of which something is left and with which a route over arcs with room joins the zone.
@@ -73,7 +61,7 @@ fn is_sell(side: Side) -> bool
 
 // The first maker that is in reach of the taker.
 fn first_in_reach(zones: &ReachedZones, makers: &[Maker], side: Side) -> Option<Maker>
-    ensures { result ≡ find (depth.is_in_reach zones.now side) makers.now }
+    ensures { result ≡ find (in_reach.is_in_reach zones.now side) makers.now }
 {
     for maker in makers {
         if is_in_reach(zones, maker, side) {
@@ -85,7 +73,7 @@ fn first_in_reach(zones: &ReachedZones, makers: &[Maker], side: Side) -> Option<
 
 // Whether something is left of a maker, its price crosses the taker's and its zone is in the set.
 fn is_in_reach(zones: &ReachedZones, maker: &Maker, side: Side) -> bool
-    ensures { result ≡ depth.is_in_reach zones.now side maker.now }
+    ensures { result ≡ in_reach.is_in_reach zones.now side maker.now }
 {
     let taking = side.opposite();
     maker.left > 0 && taking.crosses(any_price(taking), maker.price) && zones.contains(maker.zone)

@@ -2,8 +2,6 @@
 //! quantity at any price, one after the other, each with what the ones before it left. No order book
 //! is kept from one view to the next.
 //!
-//! The taker's trades, the makers and their rows are public for the laws of views, which speak of them.
-//!
 //! Quantities are lots, tenths of a MW; prices are cents per MWh.
 #![tactic(auto)]
 
@@ -12,7 +10,4 @@ mod local_view;
 mod maker;
 mod rows;
 
-pub use filling::Fill;
 pub use local_view::view;
-pub use maker::Maker;
-pub use rows::MakerRow;

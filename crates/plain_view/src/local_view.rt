@@ -4,7 +4,7 @@ ghost use Rattle.std.specs.Prelude.{◌≡◌, true, IfOk};
 ghost use Rattle.order_kinds.specs.Contract.{is_known};
 ghost use Rattle.zone_graph.specs.Graph.{HasZone};
 ghost use Rattle.market_model.specs.View as market;
-ghost use Rattle.plain_capacity.specs.Hour.{IsLegalOver};
+ghost use Rattle.market_model.specs.WellFormed.{IsLegalOver};
 
 use crate::maker::makers_of;
 use crate::rows::{rows_filled, rows_of};

@@ -1,24 +1,12 @@
 //! The orders of a line as makers: what they show, and what is left of it.
 
 ghost use Rattle.std.specs.Prelude.{◌≡◌, IfOk, map};
-ghost use Rattle.plain_view.specs.Depth as depth;
+ghost use Rattle.view_laws.specs.Depth as depth;
 
-use market_model::{NoMemory, OrderName, Price};
+use market_model::{NoMemory, OrderName};
 use plain_orders::StandingOrder;
 use std::alloc::Global;
-
-/// An order of a line, of which a taker takes.
-#[derive(Clone, Copy, Debug)]
-pub struct Maker {
-    /// Its name.
-    pub name: OrderName,
-    /// Its zone.
-    pub zone: u32,
-    /// Its price, in cents per MWh.
-    pub price: Price,
-    /// What it showed, less what was taken of it, in lots.
-    pub left: u32,
-}
+use view_laws::Maker;
 
 /// The orders of a line as makers, of which nothing is taken yet.
 pub(crate) fn makers_of(alloc: Global, line: &[StandingOrder]) -> Result<Vec<Maker>, NoMemory>

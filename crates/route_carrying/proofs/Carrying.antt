@@ -1,14 +1,14 @@
 -- What a route carries of some lots, and the rooms after it has carried them arc by arc.
-use Rattle.std.proofs.Common.{◌≡◌, ◌≢◌, ◌∙◌, ◌+◌, ◌-◌, ◌<◌, ◌≤◌, ◌&&◌, ◌||◌, inl, inr, ℕ, Bool, true, false, List, [], ◌∷◌, map, min, refl, sym, ap, subst, arith}
+use Rattle.std.proofs.Common.{◌≡◌, ◌≢◌, ◌∙◌, ◌+◌, ◌-◌, ◌<◌, ◌≤◌, ◌&&◌, ◌||◌, inl, inr, ℕ, Bool, true, false, List, [], ◌∷◌, map, min, refl, sym, ap, subst, arith, Some}
 use Rattle.std.proofs.lemmas.Bool.{ne_eqb}
 use Rattle.zone_graph.specs.declared.route.Arc.{Arc}
 use Rattle.zone_graph.specs.declared.route.RouteLeg.{RouteLeg}
-use Rattle.zone_graph.specs.Graph.{Graph, HasArc, border_count, end_of}
+use Rattle.zone_graph.specs.Graph.{Graph, HasArc, border_count, end_of, IsGraph}
 use Rattle.zone_graph.specs.Pour.{lots_if, opposite_arc, room_after, same_arc, same_bool, uses}
-use Rattle.zone_graph.specs.Route.{AreDifferent, IsIn, IsWay, carried}
+use Rattle.zone_graph.specs.Route.{AreDifferent, IsIn, IsWay, carried, best_route}
 use Rattle.zone_graph.proofs.Membership.{IsIn-map}
 use Rattle.zone_graph.proofs.Arcs.{same_arc-is, IsIn-uses, opposite-twice}
-use Rattle.zone_graph.proofs.Carrying.{carried-le}
+use Rattle.zone_graph.proofs.Carrying.{carried-le, best_route-route}
 use Rattle.cut_proof.specs.Cut.{HasRoomFor}
 use Rattle.cut_proof.proofs.Ways.{borders_once, way_has_arc}
 use Rattle.route_carrying.specs.Carrying.{CanCarry, FitTogether}
@@ -156,3 +156,9 @@ pub after_leg : (before after : Arc → ℕ) (leg : RouteLeg) (route : List Arc)
     → ((x : Arc) → after x ≡ room_after before (record { route = route; lots = leg.lots }) x) → room_after before leg ≡ after
 after_leg before after leg route e over =
     sym (ap (λ r. room_after before (record { route = r; lots = leg.lots })) e) ∙ (λ i. λ x. sym (over x) i)
+
+-- the arcs of a best route are the graph's
+pub best_route-arcs : (graph : Graph) (room : Arc → ℕ) (from to : ℕ) (route : List Arc) → IsGraph graph → best_route graph room from to ≡ Some route
+    → (arc : Arc) → IsIn arc route → HasArc graph arc
+best_route-arcs graph room from to route is found arc i =
+    way_has_arc graph room from to route arc (best_route-route graph room from to route is found).way i

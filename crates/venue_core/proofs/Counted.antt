@@ -34,7 +34,7 @@ use Rattle.market_model.specs.Sweep.{all_parts, sweep}
 use Rattle.market_laws.proofs.Admitted.{IsAdmitted, refusal-none}
 use Rattle.market_laws.proofs.HoursAlone.{ascends-later, ascends-rest}
 use Rattle.market_laws.proofs.Closing.{AreQuiet, at_arc-quiet, gate-quiet, match_blocks-quiet, quiet-one, rest-quiet, sweep-quiet, take-quiet, then-quiet}
-use Rattle.plain_orders.proofs.Found.{entered_in-few}
+use Rattle.market_laws.proofs.Names.{entered_in-few}
 use Rattle.market_laws.proofs.ReplyEntries.{enter_block-one, enter-one}
 
 -- what enters by the events of an hour is what enters by all events and is named by the hour

@@ -19,11 +19,11 @@ use Rattle.cut_proof.proofs.ArcSums.{sum_nothing, sum_parts}
 use Rattle.market_laws.proofs.Tests.{same_name-eq, same_name-refl}
 use Rattle.route_choice.specs.Flow.{sent_out, taken_in}
 use Rattle.route_choice.proofs.Flows.{route-balance}
-use Rattle.plain_view.specs.declared.filling.Fill.{Fill}
-use Rattle.plain_view.specs.declared.maker.Maker.{Maker}
-use Rattle.plain_view.specs.Depth.{after_fill, buyer_zone, can_fill, next_fill, seller_zone, taken_of}
-use Rattle.plain_view.proofs.Fills.{carried_by, next_fill-is}
-use Rattle.plain_view.proofs.RowLemmas.{same_name-sym}
+use Rattle.view_laws.specs.declared.trades.Fill.{Fill}
+use Rattle.view_laws.specs.declared.trades.Maker.{Maker}
+use Rattle.view_laws.specs.Depth.{after_fill, buyer_zone, can_fill, next_fill, seller_zone, taken_of}
+use Rattle.view_laws.proofs.Fills.{carried_by, next_fill-is}
+use Rattle.view_laws.proofs.RowLemmas.{same_name-sym}
 use Rattle.view_near.proofs.FirstMakers.{AreApart, AreOnce, AreUnnamed, depth, find-front, idle, is_named_in, lots_with, named-true, taken, taken-append, taken-apart, taken-is, taken-names, taken-once}
 
 -- ---- what trades give and carry

@@ -26,10 +26,9 @@ use Rattle.market_laws.proofs.Placed.{all_are_sound}
 use Rattle.market_laws.proofs.Repeats.{fit-more}
 use Rattle.market_laws.proofs.Tests.{same_name-eq}
 use Rattle.market_laws.proofs.Unique.{one_order, order_is_no_block}
-use Rattle.market_laws.proofs.Restrict.{filter-filter}
-use Rattle.plain_orders.proofs.LineLaws.{filter-map}
-use Rattle.plain_view.specs.declared.maker.Maker.{Maker}
-use Rattle.plain_view.specs.Depth.{maker_of}
+use Rattle.market_laws.proofs.Restrict.{filter-filter, filter-map}
+use Rattle.view_laws.specs.declared.trades.Maker.{Maker}
+use Rattle.view_laws.specs.Depth.{maker_of}
 use Rattle.view_near.specs.Nearby.{is_elsewhere, is_within, seen_elsewhere}
 use Rattle.view_near.specs.Changes.{AreAmong, ChangesOfAnHourStayWithin, ChangesStayWithin, DifferencesJoin, DifferencesWiden, EventsStayWithin, NamedOrdersHaveTheZones, OrdersChangeInTheirZones, OtherEventsChangeNoOrders, RoomsDifferWithin, ZonesOfEventsAreOfTheGrid, is_named, order_names, order_zones, zones_in, zones_of_events}
 use Rattle.view_near.proofs.NamedElsewhere.{AreIn, placed-in}

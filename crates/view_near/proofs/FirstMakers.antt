@@ -26,11 +26,11 @@ use Rattle.cut_proof.proofs.Crossing.{entering_after, leaving_after}
 use Rattle.cut_proof.proofs.ReachLaws.{beyond-has, has-beyond, has-towards, no_room_enters, no_room_leaves, reach_from_start, reach_to_end, towards-has}
 use Rattle.market_model.specs.Certificate.{room_across, zones_in_reach}
 use Rattle.market_laws.proofs.Tests.{same_name-refl}
-use Rattle.plain_view.specs.declared.filling.Fill.{Fill}
-use Rattle.plain_view.specs.declared.maker.Maker.{Maker}
-use Rattle.plain_view.specs.Depth.{Depth, after_fill, buyer_zone, can_fill, crosses_any, fill_over, fill_with, next_fill, route_with, seller_zone, taken_of}
-use Rattle.plain_view.proofs.Fills.{IsFill, carried_by, next_fill-is}
-use Rattle.plain_view.proofs.RowLemmas.{same_name-sym}
+use Rattle.view_laws.specs.declared.trades.Fill.{Fill}
+use Rattle.view_laws.specs.declared.trades.Maker.{Maker}
+use Rattle.view_laws.specs.Depth.{Depth, after_fill, buyer_zone, can_fill, crosses_any, fill_over, fill_with, next_fill, route_with, seller_zone, taken_of}
+use Rattle.view_laws.proofs.Fills.{IsFill, carried_by, next_fill-is}
+use Rattle.view_laws.proofs.RowLemmas.{same_name-sym}
 
 -- ---- makers by their names
 

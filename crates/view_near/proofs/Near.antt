@@ -26,13 +26,12 @@ use Rattle.market_model.specs.Grid.{graph_of}
 use Rattle.market_model.specs.Lines.{line}
 use Rattle.market_model.specs.Room.{room}
 use Rattle.market_model.specs.WellFormed.{FitAfter, IsMarketSetup}
-use Rattle.market_laws.proofs.Restrict.{filter-filter}
-use Rattle.plain_orders.proofs.LineLaws.{filter-map}
-use Rattle.plain_view.specs.declared.filling.Fill.{Fill}
-use Rattle.plain_view.specs.declared.maker.Maker.{Maker}
-use Rattle.plain_view.specs.Depth.{AreInZones, Depth, after_fill, maker_of, next_fill}
-use Rattle.plain_view.proofs.Fills.{next_fill-is}
-use Rattle.plain_view.proofs.Views.{makers-known, view-rows}
+use Rattle.market_laws.proofs.Restrict.{filter-filter, filter-map}
+use Rattle.view_laws.specs.declared.trades.Fill.{Fill}
+use Rattle.view_laws.specs.declared.trades.Maker.{Maker}
+use Rattle.view_laws.specs.Depth.{AreInZones, Depth, after_fill, maker_of, next_fill}
+use Rattle.view_laws.proofs.Fills.{next_fill-is}
+use Rattle.view_laws.proofs.Views.{makers-known, view-rows}
 use Rattle.view_near.specs.Nearby.{DifferWithin, HaveNoZoneInCommon, ReachChangesNearby, RoutesDependOnWhatIsReached, RoutesDependOnWhatReaches, ViewsChangeNearby, is_elsewhere, is_within, zones_of_view}
 use Rattle.view_near.proofs.Agreement.{Agree, far_end, near_end, routes-from, routes-to}
 use Rattle.view_near.proofs.Running.{AgreeInside, run-same}

@@ -22,9 +22,8 @@ use Rattle.market_laws.proofs.Lines.{priority_weak}
 use Rattle.market_laws.proofs.Members.{from_filter_map}
 use Rattle.market_laws.proofs.Placed.{picked-stays}
 use Rattle.market_laws.proofs.Unique.{enters-placed}
-use Rattle.market_laws.proofs.Restrict.{map-same}
-use Rattle.plain_orders.proofs.LineLaws.{filter-map}
-use Rattle.plain_view.specs.Depth.{maker_of}
+use Rattle.market_laws.proofs.Restrict.{map-same, filter-map}
+use Rattle.view_laws.specs.Depth.{maker_of}
 use Rattle.view_near.specs.Nearby.{is_elsewhere, seen_elsewhere}
 use Rattle.book_lines.proofs.Untouched.{concerns, left-kept, standing-kept}
 use Rattle.view_near.specs.Changes.{AreAmong, is_named, order_zones, zones_of_events}

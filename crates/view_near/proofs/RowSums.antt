@@ -11,11 +11,11 @@ use Rattle.market_model.specs.declared.reply.ViewRow.{ViewRow}
 use Rattle.market_model.specs.View.{rows_of}
 use Rattle.market_laws.proofs.LineSums.{sum-map}
 use Rattle.market_laws.proofs.Tests.{same_name-eq}
-use Rattle.plain_view.specs.declared.filling.Fill.{Fill}
-use Rattle.plain_view.specs.declared.rows.MakerRow.{MakerRow}
-use Rattle.plain_view.specs.Depth.{leg_of}
-use Rattle.plain_view.specs.Filled.{is_row_of, row_in, row_with, rows_with, with_fill, with_lots}
-use Rattle.plain_view.proofs.RowLemmas.{rows-are, rows-same, same_name-sym}
+use Rattle.view_laws.specs.declared.trades.Fill.{Fill}
+use Rattle.view_laws.specs.declared.trades.MakerRow.{MakerRow}
+use Rattle.view_laws.specs.Depth.{leg_of}
+use Rattle.view_laws.specs.Filled.{is_row_of, row_in, row_with, rows_with, with_fill, with_lots}
+use Rattle.view_laws.proofs.RowLemmas.{rows-are, rows-same, same_name-sym}
 use Rattle.view_near.proofs.FirstMakers.{lots_filled}
 
 -- the lots of some rows

@@ -14,12 +14,11 @@ use Rattle.zone_graph.specs.Steps.{IsRun}
 use Rattle.zone_graph.proofs.Carrying.{best_route-route}
 use Rattle.cut_proof.proofs.SameRooms.{carried-same}
 use Rattle.cut_proof.proofs.Ways.{way_has_arc}
-use Rattle.market_laws.proofs.Restrict.{filter-same, find-filter, find-same}
-use Rattle.plain_orders.proofs.LineLaws.{filter-map}
-use Rattle.plain_view.specs.declared.filling.Fill.{Fill}
-use Rattle.plain_view.specs.declared.maker.Maker.{Maker}
-use Rattle.plain_view.specs.Depth.{Depth, after_fill, buyer_zone, can_fill, crosses_any, fill_over, fill_with, next_fill, route_with, seller_zone, taken_of}
-use Rattle.plain_view.proofs.Fills.{carried_by, next_fill-is}
+use Rattle.market_laws.proofs.Restrict.{filter-same, find-filter, find-same, filter-map}
+use Rattle.view_laws.specs.declared.trades.Fill.{Fill}
+use Rattle.view_laws.specs.declared.trades.Maker.{Maker}
+use Rattle.view_laws.specs.Depth.{Depth, after_fill, buyer_zone, can_fill, crosses_any, fill_over, fill_with, next_fill, route_with, seller_zone, taken_of}
+use Rattle.view_laws.proofs.Fills.{carried_by, next_fill-is}
 use Rattle.view_near.proofs.Agreement.{Agree, AreInside, agree-after, from-inside, routes-from, routes-to, to-inside}
 
 taken-zone : (name : OrderName) (lots : ℕ) (maker : Maker) → (taken_of name lots maker).zone ≡ maker.zone

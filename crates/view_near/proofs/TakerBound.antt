@@ -31,12 +31,12 @@ use Rattle.market_laws.proofs.Trades.{from_line}
 use Rattle.certified_maximum.proofs.CrossingPeaks.{HasPeaks, crosses-fall, while_left}
 use Rattle.certified_maximum.proofs.Duality.{sum_same_in}
 use Rattle.certified_maximum.proofs.Obtained.{sound-peaks}
-use Rattle.plain_view.specs.declared.maker.Maker.{Maker}
-use Rattle.plain_view.specs.Depth.{maker_of}
-use Rattle.plain_view.proofs.Kept.{line-of_kind, now, now-price, now-shown}
-use Rattle.plain_view.proofs.LineAfter.{line-after}
-use Rattle.plain_view.proofs.NextLeg.{maker_now, taker_of}
-use Rattle.plain_view.proofs.Start.{after-start}
+use Rattle.view_laws.specs.declared.trades.Maker.{Maker}
+use Rattle.view_laws.specs.Depth.{maker_of}
+use Rattle.view_laws.proofs.Kept.{line-of_kind, now, now-price, now-shown}
+use Rattle.view_laws.proofs.LineAfter.{line-after}
+use Rattle.view_laws.proofs.NextLeg.{maker_now, taker_of}
+use Rattle.view_laws.proofs.Start.{after-start}
 use Rattle.view_near.specs.Views.{ViewsHaveTheirTakersBound}
 use Rattle.view_near.proofs.Viewed.{begun, makers-cross, name, of}
 

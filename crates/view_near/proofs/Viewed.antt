@@ -50,13 +50,13 @@ use Rattle.market_laws.proofs.Prices.{prices-in-range}
 use Rattle.cut_proof.proofs.ArcSums.{sum_passing}
 use Rattle.certified_maximum.specs.FlowPlan.{FlowPlan, IsBalanced, given_in, value_of}
 use Rattle.certified_maximum.proofs.Duality.{no_plan_more}
-use Rattle.plain_view.specs.declared.filling.Fill.{Fill}
-use Rattle.plain_view.specs.declared.maker.Maker.{Maker}
-use Rattle.plain_view.specs.Depth.{Depth, after_fill, crosses_any, leg_of, maker_of, next_fill}
-use Rattle.plain_view.proofs.Fills.{next_fill-is}
-use Rattle.plain_view.proofs.NextLeg.{IsDepth, leg_event}
-use Rattle.plain_view.proofs.Start.{after-start, depth-start, start, taker_name}
-use Rattle.plain_view.proofs.Views.{Takes, legs-are, takes-next, trades-of}
+use Rattle.view_laws.specs.declared.trades.Fill.{Fill}
+use Rattle.view_laws.specs.declared.trades.Maker.{Maker}
+use Rattle.view_laws.specs.Depth.{Depth, after_fill, crosses_any, leg_of, maker_of, next_fill}
+use Rattle.view_laws.proofs.Fills.{next_fill-is}
+use Rattle.view_laws.proofs.NextLeg.{IsDepth, leg_event}
+use Rattle.view_laws.proofs.Start.{after-start, depth-start, start, taker_name}
+use Rattle.view_laws.proofs.Views.{Takes, legs-are, takes-next, trades-of}
 use Rattle.view_near.specs.Views.{EachPlaceGetsTheMost, EachPlaceTakesAPlan, IsPlanOver, TakesAPlan, ViewsTakeNoMoreThanIsOpen, ViewsAddUpToTheirBound, bound_shown, legs_viewed, lots_of_rows, lots_taken_of, zones_viewed}
 use Rattle.view_near.proofs.FirstMakers.{filled-most, AllCross, AreOnce, all-bound, first-bound, is_named_in, lots_filled, lots_with, once-parts, shown_in}
 use Rattle.view_near.proofs.Attained.{Balances, all-given, first-flows, flow_of, given, gives}

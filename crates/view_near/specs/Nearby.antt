@@ -18,8 +18,8 @@ use Rattle.market_model.specs.Orders.{Standing}
 use Rattle.market_model.specs.Room.{room}
 use Rattle.market_model.specs.View.{view}
 use Rattle.market_model.specs.WellFormed.{FitAfter, IsMarketSetup}
-use Rattle.plain_view.specs.declared.maker.Maker.{Maker}
-use Rattle.plain_view.specs.Depth.{maker_of}
+use Rattle.view_laws.specs.declared.trades.Maker.{Maker}
+use Rattle.view_laws.specs.Depth.{maker_of}
 
 -- the best route to a zone depends only on the rooms of the arcs that lead to zones which reach it
 abbrev pub RoutesDependOnWhatReaches : Type 0

@@ -6,11 +6,10 @@ use Rattle.market_model.specs.declared.event.Leg.{Leg}
 use Rattle.order_kinds.specs.Contract.{contract_at}
 use Rattle.market_model.specs.Board.{BoardState, CanBeMade, IsBoard, after_leg}
 use Rattle.market_model.specs.History.{and_then, touches}
-use Rattle.market_model.specs.WellFormed.{Fits}
+use Rattle.market_model.specs.WellFormed.{Fits, IsLegalOver}
 use Rattle.market_laws.proofs.Repeats.{fit-more}
 use Rattle.market_laws.proofs.LocalMoments.{hour-more}
 use Rattle.board_laws.proofs.Legs.{leaves, made-fits}
-use Rattle.plain_capacity.specs.Hour.{IsLegalOver}
 use Rattle.plain_orders.specs.Histories.{IsSomeHistory}
 use Rattle.worked_boards.specs.Small.{HasRoom, IsGrown, setup_of, with_event, with_hand}
 

@@ -14,11 +14,10 @@ use Rattle.market_model.specs.Board.{BoardState, CanBeMade, RestsIn, resting_lin
 use Rattle.market_model.specs.History.{and_then, touches}
 use Rattle.market_model.specs.Lines.{line}
 use Rattle.market_model.specs.Orders.{Placed, open_order}
-use Rattle.market_model.specs.WellFormed.{FitAfter, Fits}
+use Rattle.market_model.specs.WellFormed.{FitAfter, Fits, IsLegalOver}
 use Rattle.market_laws.proofs.Legs.{open_order-is}
 use Rattle.market_laws.proofs.Placed.{all_are_sound}
 use Rattle.market_laws.proofs.Repeats.{fit-more}
-use Rattle.plain_capacity.specs.Hour.{IsLegalOver}
 use Rattle.worked_boards.specs.declared.kept_part.KeptPart.{KeptPart}
 use Rattle.worked_boards.specs.declared.small_board.SmallBoard.TheInside.{Inside}
 use Rattle.worked_boards.specs.Kept.{IsKept, line_in, resting}

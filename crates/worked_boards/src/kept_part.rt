@@ -2,7 +2,7 @@
 
 ghost use Rattle.std.specs.Prelude.{◌≡◌, IfOk, true};
 ghost use Rattle.order_kinds.specs.Contract as contracts;
-ghost use Rattle.plain_capacity.specs.Hour.{IsLegalOver};
+ghost use Rattle.market_model.specs.WellFormed.{IsLegalOver};
 ghost use Rattle.plain_orders.specs.Listed as listed;
 ghost use Rattle.worked_boards.specs.Kept as kept;
 

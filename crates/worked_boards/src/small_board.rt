@@ -6,7 +6,7 @@ ghost use Rattle.zone_graph.specs.Graph.{HasArc};
 ghost use Rattle.market_model.specs.Board.{IsHourOf, is_in_hand, with_events};
 ghost use Rattle.market_model.specs.Capacity.{flow};
 ghost use Rattle.market_model.specs.History.{and_then, touches};
-ghost use Rattle.market_model.specs.WellFormed.{Fits};
+ghost use Rattle.market_model.specs.WellFormed.{Fits, IsLegalOver};
 ghost use Rattle.plain_capacity.specs.Hour as hours;
 ghost use Rattle.plain_orders.specs.Histories.{IsSomeHistory};
 ghost use Rattle.worked_boards.specs.Kept.{IsKept};
@@ -109,7 +109,7 @@ impl SmallBoard {
     /// [`NoMemory`], where memory is wanting.
     pub fn copy_events(&self) -> Result<History, NoMemory>
         ensures events { IfOk result (λ events. events ≡ self.now.events) }
-        ensures legal { hours.IsLegalOver self.now.grid self.now.events }
+        ensures legal { IsLegalOver self.now.grid self.now.events }
     {
         copy_of(self.alloc, &self.events)
     }

@@ -5,9 +5,9 @@ use Rattle.market_model.specs.Board.{BoardState}
 use Rattle.market_model.specs.Market.{events_done}
 use Rattle.market_model.specs.Rules.{first_broken}
 use Rattle.market_model.specs.Sweep.{all_parts}
+use Rattle.market_model.specs.StateRules.{filling_rules}
 use Rattle.match_core.specs.Walks.{AreRoomsOf}
 use Rattle.desk_blocks.specs.Planned.{with_planned}
-use Rattle.plain_refusals.specs.State.{filling_rules}
 use Rattle.hour_desk.specs.Placed.{CanChange}
 use Rattle.hour_desk.proofs.Commands.{not-refused, order-hour, order-next, order-part, order-planned, quiet}
 use Rattle.hour_desk.proofs.Touching.{no-entry}

@@ -4,7 +4,7 @@ use Rattle.zone_graph.specs.declared.route.Arc.{Arc}
 use Rattle.hour_desk.specs.Desk.{DeskState}
 use Rattle.market_model.specs.declared.refusal.Refusal.{Refusal}
 use Rattle.market_model.specs.Refusals.{below_flow}
-use Rattle.plain_refusals.specs.Asked.{first_in_hour}
+use Rattle.market_model.specs.Asked.{first_in_hour}
 use Rattle.joint_plan.proofs.Lists.{IsIn-get, answer-from}
 use Rattle.joint_plan.proofs.refusing.refuse_offer.Goals as goal
 

@@ -2,7 +2,7 @@ use Rattle.std.proofs.Common.{◌≡◌, drop}
 use Rattle.hour_desk.specs.Desk.{DeskState}
 use Rattle.market_model.specs.Refusals.{no_room}
 use Rattle.market_model.specs.Sweep.{first_answer}
-use Rattle.plain_refusals.specs.Asked.{first_in_hour}
+use Rattle.market_model.specs.Asked.{first_in_hour}
 use Rattle.joint_plan.specs.Refusing.{request_refusal}
 use Rattle.joint_plan.proofs.refusing.refuse_request.Given as goal
 

@@ -1,5 +1,5 @@
 use Rattle.std.proofs.Common.{subst, sym}
-use Rattle.plain_capacity.specs.Hour.{IsLegalOver}
+use Rattle.market_model.specs.WellFormed.{IsLegalOver}
 use Rattle.plain_matching.specs.Summed.{AreHourSums}
 use Rattle.plain_matching.proofs.Sums.{hour_sums-grow}
 use Rattle.plain_entering.proofs.Fitting.{rested-legal}

@@ -1,5 +1,5 @@
 use Rattle.std.proofs.Common.{◌∙◌, sym, subst}
-use Rattle.plain_capacity.specs.Hour.{IsLegalOver}
+use Rattle.market_model.specs.WellFormed.{IsLegalOver}
 use Rattle.plain_market.proofs.Closings.{gated, gate-is}
 use Rattle.plain_market.proofs.Happenings.{on-ok}
 use Rattle.plain_market.proofs.gates.move_hour.Goals as goal

@@ -2,9 +2,9 @@ use Rattle.std.proofs.Common.{◌∙◌, Ok, drop, refl, sym, ap, subst}
 use Rattle.zone_graph.specs.Graph.{Graph, HasZone}
 use Rattle.market_model.specs.declared.reply.Reply.TheVariants as reply
 use Rattle.market_model.specs.View.{view}
-use Rattle.plain_market.specs.LetIn.{IsLetIn}
-use Rattle.plain_market.proofs.Admitting.{view-named}
-use Rattle.plain_market.proofs.Replies.{done, refused_late, seen}
+use Rattle.market_model.specs.LetIn.{IsLetIn}
+use Rattle.market_laws.proofs.Admitting.{view-named}
+use Rattle.market_laws.proofs.Answered.{done, refused_late, seen}
 use Rattle.plain_market.proofs.replying.reply_to_let_in.Goals as goal
 
 pub view-requires-clause-part : goal.view-requires-clause-part

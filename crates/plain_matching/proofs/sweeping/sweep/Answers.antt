@@ -1,7 +1,7 @@
 use Rattle.std.proofs.Common.{◌≡◌, ◌∙◌, ◌<◌, List, [], ◌∷◌, Some, None, length, subst, sym}
 use Rattle.market_model.specs.declared.event.Event.{Event}
 use Rattle.market_model.specs.Sweep.{all_parts, left_in_hour, sweep, sweep_leg}
-use Rattle.plain_capacity.specs.Hour.{IsLegalOver}
+use Rattle.market_model.specs.WellFormed.{IsLegalOver}
 use Rattle.plain_matching.specs.Summed.{AreHourSums}
 use Rattle.plain_matching.proofs.Sums.{grew-more, hour_sums-grow, stays-or-after}
 use Rattle.plain_matching.proofs.Legs.{IsSoFar, all-so_far, more-so_far, sweep-next, sweep-end}

@@ -1,6 +1,6 @@
 use Rattle.std.proofs.Common.{◌≡◌, length}
 use Rattle.market_model.specs.Sweep.{all_parts, left_in_hour, sweep}
-use Rattle.plain_capacity.specs.Hour.{IsLegalOver}
+use Rattle.market_model.specs.WellFormed.{IsLegalOver}
 use Rattle.plain_matching.specs.Summed.{AreHourSums, StaysOrIsAfter}
 use Rattle.plain_matching.proofs.Legs.{IsSoFar}
 use Rattle.plain_matching.proofs.sweeping.sweep.Given as goal

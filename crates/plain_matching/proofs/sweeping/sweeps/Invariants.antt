@@ -1,4 +1,4 @@
-use Rattle.plain_capacity.specs.Hour.{IsLegalOver}
+use Rattle.market_model.specs.WellFormed.{IsLegalOver}
 use Rattle.plain_matching.proofs.Hours.{IsSwept}
 use Rattle.plain_matching.proofs.sweeping.sweeps.Given as goal
 

@@ -2,7 +2,7 @@ use Rattle.std.proofs.Common.{◌≡◌, ◌∙◌, ◌<◌, List, [], ◌∷◌
 use Rattle.market_model.specs.declared.event.Event.{Event}
 use Rattle.market_model.specs.Orders.{left}
 use Rattle.market_model.specs.Taking.{next_leg, take}
-use Rattle.plain_capacity.specs.Hour.{IsLegalOver}
+use Rattle.market_model.specs.WellFormed.{IsLegalOver}
 use Rattle.plain_matching.specs.Summed.{AreHourSums}
 use Rattle.plain_matching.proofs.Sums.{grew-more, hour_sums-grow, stays-or-after}
 use Rattle.plain_matching.proofs.Legs.{IsSoFar, all-so_far, more-so_far, take-next, take-end}

@@ -1,7 +1,7 @@
 use Rattle.std.proofs.Common.{◌≡◌, length}
 use Rattle.market_model.specs.Orders.{left}
 use Rattle.market_model.specs.Taking.{take}
-use Rattle.plain_capacity.specs.Hour.{IsLegalOver}
+use Rattle.market_model.specs.WellFormed.{IsLegalOver}
 use Rattle.plain_matching.specs.Summed.{AreHourSums, StaysOrIsAfter}
 use Rattle.plain_matching.proofs.Legs.{IsSoFar}
 use Rattle.plain_matching.proofs.taking.take.Given as goal

@@ -1,5 +1,6 @@
 use Rattle.std.proofs.Common.{◌≡◌, ◌≤◌}
-use Rattle.plain_refusals.specs.Asked.{below_flow_at, first_in_hour, is_asked}
+use Rattle.plain_refusals.specs.Asked.{below_flow_at}
+use Rattle.market_model.specs.Asked.{first_in_hour, is_asked}
 use Rattle.plain_refusals.proofs.Quarters.{from_number}
 use Rattle.plain_refusals.proofs.capacity.below_flow_in.Given as goal
 

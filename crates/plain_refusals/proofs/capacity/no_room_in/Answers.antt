@@ -1,5 +1,6 @@
 use Rattle.std.proofs.Common.{◌∙◌, sym, arith}
-use Rattle.plain_refusals.specs.Asked.{no_room_at, is_asked}
+use Rattle.plain_refusals.specs.Asked.{no_room_at}
+use Rattle.market_model.specs.Asked.{is_asked}
 use Rattle.plain_refusals.proofs.Quarters.{answered}
 use Rattle.plain_refusals.proofs.capacity.no_room_in.Goals as goal
 

@@ -1,6 +1,6 @@
 use Rattle.std.proofs.Common.{◌≡◌, drop}
 use Rattle.std.specs.List.{find}
-use Rattle.plain_view.specs.Depth.{is_in_reach}
+use Rattle.plain_view.specs.InReach.{is_in_reach}
 use Rattle.plain_view.proofs.filling.first_in_reach.Given as goal
 
 -- none of the makers so far is in reach

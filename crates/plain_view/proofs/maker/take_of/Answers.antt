@@ -1,5 +1,5 @@
-use Rattle.plain_view.specs.Depth.{taken_of}
-use Rattle.plain_view.proofs.Places.{set-next}
+use Rattle.view_laws.specs.Depth.{taken_of}
+use Rattle.view_laws.proofs.Places.{set-next}
 use Rattle.plain_view.proofs.maker.take_of.Goals as goal
 
 pub loop-maker-preserved : goal.loop-maker-preserved

@@ -1,5 +1,5 @@
 use Rattle.std.proofs.Common.{◌≡◌, map, take}
-use Rattle.plain_view.specs.Filled.{row_in}
+use Rattle.view_laws.specs.Filled.{row_in}
 use Rattle.plain_view.proofs.rows.rows_of.Given as goal
 
 -- the rows so far

@@ -1,6 +1,6 @@
 use Rattle.std.proofs.Common.{subst}
 use Rattle.market_model.specs.Board.{BoardState}
-use Rattle.plain_capacity.specs.Hour.{IsLegalOver}
+use Rattle.market_model.specs.WellFormed.{IsLegalOver}
 use Rattle.worked_boards.proofs.Grown.{legal}
 use Rattle.worked_boards.proofs.SmallBoards.{own_of}
 use Rattle.worked_boards.proofs.small_board.SmallBoard.copy_events.Goals as goal

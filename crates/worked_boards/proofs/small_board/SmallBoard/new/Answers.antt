@@ -1,5 +1,5 @@
 use Rattle.std.proofs.Common.{refl, sym, subst}
-use Rattle.plain_capacity.specs.Hour.{IsLegalOver}
+use Rattle.market_model.specs.WellFormed.{IsLegalOver}
 use Rattle.worked_boards.specs.Small.{setup_of}
 use Rattle.worked_boards.proofs.small_board.SmallBoard.new.Goals as goal
 

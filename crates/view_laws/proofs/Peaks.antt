@@ -7,7 +7,7 @@ use Rattle.order_kinds.specs.declared.order.Order.{Order}
 use Rattle.order_kinds.specs.Order.{peak_price}
 use Rattle.iceberg_peak.proofs.PeakLemmas.{filled-within_peak, peak_number-stays}
 use Rattle.market_model.specs.Orders.{ends_peak, price_now, shown_lots}
-use Rattle.plain_matching.proofs.Orders.{of_kind}
+use Rattle.market_laws.proofs.Replaced.{of_kind}
 
 -- no peak ends before all that shows is filled
 pub peak-open : (k : Kind) (filled left taken : ℕ) → 1 ≤ taken → taken < shown_lots k filled left → ends_peak k (filled + taken) ≡ false

@@ -18,9 +18,9 @@ use Rattle.market_model.specs.Refusals.{refusal_of_command}
 use Rattle.market_model.specs.Rules.{first_broken}
 use Rattle.market_model.specs.Sweep.{all_parts}
 use Rattle.market_model.specs.View.{view}
-use Rattle.plain_refusals.specs.State.{filling_rules}
-use Rattle.plain_market.proofs.Admitting.{let_in-refusal}
-use Rattle.plain_market.specs.LetIn.{IsLetIn}
+use Rattle.market_model.specs.StateRules.{filling_rules}
+use Rattle.market_model.specs.LetIn.{IsLetIn}
+use Rattle.market_laws.proofs.Admitting.{let_in-refusal}
 
 -- a reply, and the history after it
 pub record Answers (setup : Setup) (events : List Event) (caller : ℕ) (given : Command) (made : Reply) (after : List Event) : Type 0 where

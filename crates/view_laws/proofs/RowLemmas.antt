@@ -10,10 +10,10 @@ use Rattle.zone_graph.specs.Pour.{lots_if}
 use Rattle.market_model.specs.declared.event.Leg.{Leg}
 use Rattle.market_model.specs.View.{row_of, rows_of}
 use Rattle.market_laws.proofs.Tests.{same_name-eq, same_name-refl}
-use Rattle.plain_view.specs.declared.filling.Fill.{Fill}
-use Rattle.plain_view.specs.declared.rows.MakerRow.{MakerRow}
-use Rattle.plain_view.specs.Depth.{leg_of}
-use Rattle.plain_view.specs.Filled.{is_row_of, row_in, row_with, rows_with, with_fill, with_lots}
+use Rattle.view_laws.specs.declared.trades.Fill.{Fill}
+use Rattle.view_laws.specs.declared.trades.MakerRow.{MakerRow}
+use Rattle.view_laws.specs.Depth.{leg_of}
+use Rattle.view_laws.specs.Filled.{is_row_of, row_in, row_with, rows_with, with_fill, with_lots}
 
 pub same_name-sym : (a b : OrderName) → same_name a b ≡ same_name b a
 same_name-sym a b = go (same_name a b) (same_name b a) refl refl

@@ -40,11 +40,11 @@ use Rattle.market_laws.proofs.Uses.{IsWithinOffers, within_offers}
 use Rattle.market_laws.proofs.NamedByHour.{AreNamedByHour, history-named, named-more}
 use Rattle.market_laws.proofs.Restrict.{map-same}
 use Rattle.market_laws.proofs.LocalMoments.{hour-same, moment-more}
-use Rattle.plain_view.specs.Depth.{maker_of}
-use Rattle.plain_view.proofs.Kept.{IsAfter, IsKept, line-of_kind, placed_as}
-use Rattle.plain_view.proofs.NextLeg.{IsDepth, maker_now, taker_of}
-use Rattle.plain_view.proofs.Once.{hidden-in_line, hidden-none, hidden_of, withdrawn-hidden}
-use Rattle.plain_view.proofs.RowLemmas.{same_name-sym}
+use Rattle.view_laws.specs.Depth.{maker_of}
+use Rattle.view_laws.proofs.Kept.{IsAfter, IsKept, line-of_kind, placed_as}
+use Rattle.view_laws.proofs.NextLeg.{IsDepth, maker_now, taker_of}
+use Rattle.view_laws.proofs.Once.{hidden-in_line, hidden-none, hidden_of, withdrawn-hidden}
+use Rattle.view_laws.proofs.RowLemmas.{same_name-sym}
 
 -- an event that uses and offers no capacity keeps within the offers
 within-idle : (V : List Event) (e : Event) → IsWithinOffers V → ((q : Quarter) (arc : Arc) → allocated_by q arc e ≡ 0)

@@ -27,27 +27,24 @@ use Rattle.market_model.specs.Orders.{Standing, left}
 use Rattle.market_model.specs.Room.{room}
 use Rattle.market_model.specs.Taking.{next_leg, take}
 use Rattle.market_model.specs.View.{rows_of, trade_of, view}
-use Rattle.market_model.specs.WellFormed.{FitAfter}
+use Rattle.market_model.specs.WellFormed.{FitAfter, IsLegalOver}
 use Rattle.market_laws.proofs.Balances.{left-leg as left-after_leg, names-taker}
 use Rattle.market_laws.proofs.Placed.{all_are_sound}
 use Rattle.market_laws.proofs.Trades.{from_line}
 use Rattle.market_laws.proofs.Uses.{within_offers}
 use Rattle.market_laws.proofs.Restrict.{map-same}
 use Rattle.route_carrying.specs.Carrying.{FitTogether}
-use Rattle.plain_capacity.specs.Hour.{IsLegalOver}
-use Rattle.plain_orders.specs.Listed.{line_of, open_orders}
-use Rattle.plain_orders.proofs.LineLaws.{line-of_orders}
-use Rattle.plain_view.specs.declared.filling.Fill.{Fill}
-use Rattle.plain_view.specs.declared.maker.Maker.{Maker}
-use Rattle.plain_view.specs.declared.rows.MakerRow.{MakerRow}
-use Rattle.plain_view.specs.Depth.{AreInZones, Depth, after_fill, buyer_zone, depth_of, leg_of, maker_of, next_fill, seller_zone, taken_of}
-use Rattle.plain_view.specs.Filled.{AreRowsFilled, row_in, rows_with}
-use Rattle.plain_view.proofs.Fills.{IsFill, next_fill-is}
-use Rattle.plain_view.proofs.Kept.{IsAfter, after-leg, left-leg}
-use Rattle.plain_view.proofs.NextLeg.{IsDepth, leg_event, maker_now, next_leg-fill, taker_of}
+use Rattle.view_laws.specs.declared.trades.Fill.{Fill}
+use Rattle.view_laws.specs.declared.trades.Maker.{Maker}
+use Rattle.view_laws.specs.declared.trades.MakerRow.{MakerRow}
+use Rattle.view_laws.specs.Depth.{AreInZones, Depth, after_fill, buyer_zone, depth_of, leg_of, maker_of, next_fill, seller_zone, taken_of}
+use Rattle.view_laws.specs.Filled.{AreRowsFilled, row_in, rows_with}
+use Rattle.view_laws.proofs.Fills.{IsFill, next_fill-is}
+use Rattle.view_laws.proofs.Kept.{IsAfter, after-leg, left-leg}
+use Rattle.view_laws.proofs.NextLeg.{IsDepth, leg_event, maker_now, next_leg-fill, taker_of}
+use Rattle.view_laws.proofs.RowLemmas.{rows-are, same_name-sym}
+use Rattle.view_laws.proofs.Start.{after-start, depth-start, start, taker_name}
 use Rattle.market_laws.proofs.Rooms.{room-leg, rooms-together}
-use Rattle.plain_view.proofs.RowLemmas.{rows-are, same_name-sym}
-use Rattle.plain_view.proofs.Start.{after-start, depth-start, start, taker_name}
 
 map-map : {X Y Z : Type 0} (g : Y → Z) (f : X → Y) (xs : List X) → map g (map f xs) ≡ map (λ x. g (f x)) xs
 map-map g f [] = refl
@@ -198,13 +195,3 @@ module _ (graph : Graph) (is : IsGraph graph) (events : List Event) (legal : IsL
       let most = rooms-together events contract arc (within_offers legal.setup events legal.fit) in
       let own = are arc known in
       let back = are (opposite_arc arc) known in omega (arith, most, own, back)
-
--- the makers that are made of the orders of an hour are those of the line
-pub makers-made : (graph : Graph) (events : List Event) (legal : IsLegalOver graph events) (contract : Contract) (side : Side)
-    (orders orders_seen made made_seen : List Standing) (makers makers_seen : List Maker) → orders ≡ open_orders events contract.hour → orders_seen ≡ orders
-    → made ≡ line_of orders_seen contract side → made_seen ≡ made → makers ≡ map maker_of made_seen → makers_seen ≡ makers
-    → makers_seen ≡ map maker_of (line events contract side)
-makers-made graph events legal contract side orders orders_seen made made_seen makers makers_seen are seen line_is line_seen makers_are makers_are_seen =
-    makers_are_seen ∙ makers_are
-    ∙ ap (map maker_of) (line_seen ∙ line_is ∙ ap (λ os. line_of os contract side) (seen ∙ are)
-    ∙ line-of_orders events contract side (record { setup = legal.setup; fit = legal.fit }))

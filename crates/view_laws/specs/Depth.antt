@@ -16,10 +16,8 @@ use Rattle.zone_graph.specs.Route.{IsIn, best_route, carried}
 use Rattle.market_model.specs.declared.event.Leg.{Leg}
 use Rattle.market_model.specs.Orders.{Standing}
 use Rattle.market_model.specs.View.{any_price}
-use Rattle.plain_routes.specs.declared.reach.ReachedZones.{ReachedZones}
-use Rattle.plain_routes.specs.Reached.{has_zone}
-use Rattle.plain_view.specs.declared.filling.Fill.{Fill}
-use Rattle.plain_view.specs.declared.maker.Maker.{Maker}
+use Rattle.view_laws.specs.declared.trades.Fill.{Fill}
+use Rattle.view_laws.specs.declared.trades.Maker.{Maker}
 
 -- an order of a line as a maker, of which nothing is taken yet
 abbrev pub maker_of : Standing → Maker
@@ -58,10 +56,6 @@ crosses_any side maker = crosses (opposite side) (any_price (opposite side)) mak
 -- a taker in a zone can trade with a maker of a side
 abbrev pub can_fill : Graph → (Arc → ℕ) → Side → (zone : ℕ) → Maker → Bool
 can_fill graph room side zone maker = nat_lt 0 maker.left && crosses_any side maker && is_some (route_with graph room side zone maker)
-
--- the same, where a set has the zones in reach
-abbrev pub is_in_reach : ReachedZones → Side → Maker → Bool
-is_in_reach zones side maker = nat_lt 0 maker.left && crosses_any side maker && has_zone zones maker.zone
 
 -- the trade with a maker over a route
 abbrev pub fill_over : (Arc → ℕ) → (left : ℕ) → Maker → List Arc → Fill

@@ -22,11 +22,11 @@ use Rattle.zone_graph.proofs.Carrying.{carried-le, carried-room, carried-some, w
 use Rattle.cut_proof.specs.Cut.{HasRoomFor}
 use Rattle.market_laws.proofs.Repeats.{bind-some, map-some}
 use Rattle.route_carrying.proofs.Carrying.{after_leg}
-use Rattle.plain_view.specs.declared.filling.Fill.{Fill}
-use Rattle.plain_view.specs.declared.maker.Maker.{Maker}
-use Rattle.plain_view.specs.declared.rows.MakerRow.{MakerRow}
-use Rattle.plain_view.specs.Depth.{AreInZones, Depth, after_fill, buyer_zone, can_fill, crosses_any, depth_of, fill_over, fill_with, next_fill, route_with, seller_zone, taken_of}
-use Rattle.plain_view.specs.Filled.{AreRowsFilled, CanAdd, is_row_of, row_with, rows_with, with_fill, with_lots}
+use Rattle.view_laws.specs.declared.trades.Fill.{Fill}
+use Rattle.view_laws.specs.declared.trades.Maker.{Maker}
+use Rattle.view_laws.specs.declared.trades.MakerRow.{MakerRow}
+use Rattle.view_laws.specs.Depth.{AreInZones, Depth, after_fill, buyer_zone, can_fill, crosses_any, depth_of, fill_over, fill_with, next_fill, route_with, seller_zone, taken_of}
+use Rattle.view_laws.specs.Filled.{AreRowsFilled, CanAdd, is_row_of, row_with, rows_with, with_fill, with_lots}
 
 -- a trade as a leg of a pour
 abbrev pub carried_by : Fill → RouteLeg

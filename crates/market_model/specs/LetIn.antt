@@ -6,7 +6,7 @@ use Rattle.market_model.specs.declared.event.Event.{Event}
 use Rattle.market_model.specs.declared.setup.Setup.{Setup}
 use Rattle.market_model.specs.Grid.{graph_of}
 use Rattle.market_model.specs.Rules.{naming_refusal, numbers_refusal}
-use Rattle.plain_refusals.specs.State.{state_refusal}
+use Rattle.market_model.specs.StateRules.{state_refusal}
 
 -- a command breaks no rule by itself, and none on the state of orders, hours and capacity
 pub record IsLetIn (setup : Setup) (events : List Event) (caller : ℕ) (given : Command) : Type 0 where

@@ -8,9 +8,9 @@ use Rattle.zone_graph.specs.Graph.{Graph}
 use Rattle.zone_graph.specs.Route.{IsIn}
 use Rattle.zone_graph.specs.Steps.{IsRun}
 use Rattle.market_model.specs.declared.reply.ViewRow.{ViewRow}
-use Rattle.plain_view.specs.declared.filling.Fill.{Fill}
-use Rattle.plain_view.specs.declared.rows.MakerRow.{MakerRow}
-use Rattle.plain_view.specs.Depth.{Depth, after_fill, next_fill}
+use Rattle.view_laws.specs.declared.trades.Fill.{Fill}
+use Rattle.view_laws.specs.declared.trades.MakerRow.{MakerRow}
+use Rattle.view_laws.specs.Depth.{Depth, after_fill, next_fill}
 
 abbrev pub is_row_of : OrderName → MakerRow → Bool
 is_row_of maker row = same_name row.maker maker

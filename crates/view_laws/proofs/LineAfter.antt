@@ -16,10 +16,9 @@ use Rattle.market_model.specs.Lines.{line, priority_cmp, stands_in, time_cmp}
 use Rattle.market_model.specs.Orders.{Placed, Standing, is_open, left, placed, standing}
 use Rattle.market_laws.proofs.Lines.{priority_weak}
 use Rattle.market_laws.proofs.Members.{IsIn-in_order}
-use Rattle.market_laws.proofs.Restrict.{filter-filter, filter-same}
-use Rattle.plain_orders.proofs.LineLaws.{filter-map}
-use Rattle.plain_view.proofs.Kept.{IsAfter, line-of_kind, now, now-price}
-use Rattle.plain_view.proofs.Ordered.{filter-in_order, map-in_order}
+use Rattle.market_laws.proofs.Restrict.{filter-filter, filter-same, filter-map}
+use Rattle.view_laws.proofs.Kept.{IsAfter, line-of_kind, now, now-price}
+use Rattle.view_laws.proofs.Ordered.{filter-in_order, map-in_order}
 use Rattle.zone_graph.specs.InOrder.{in_order}
 
 opposed : (side : Side) → same_side (opposite side) side ≡ false

@@ -5,7 +5,7 @@ use Rattle.market_model.specs.Grid.{graph_of}
 use Rattle.market_model.specs.Refusals.{refusal_of_command}
 use Rattle.market_model.specs.Rules.{naming_refusal, numbers_refusal}
 use Rattle.market_model.specs.Sweep.{first_answer, or_else}
-use Rattle.plain_refusals.specs.State.{StateComesSecond, filling_rules, state_refusal, state_rules}
+use Rattle.market_model.specs.StateRules.{StateComesSecond, filling_rules, state_refusal, state_rules}
 
 -- the first answer of two lists is that of the first, or else that of the second
 pub first_answer-append : {X Y : Type 0} (ask : X → Option Y) (xs ys : List X) → first_answer ask (xs ++ ys) ≡ or_else (first_answer ask xs) (λ _. first_answer ask ys)

@@ -27,14 +27,13 @@ use Rattle.market_model.specs.View.{any_price, unlimited_taker}
 use Rattle.market_laws.proofs.Legs.{opposite-opposite}
 use Rattle.market_laws.proofs.Tests.{same_name-refl}
 use Rattle.market_laws.proofs.Restrict.{find-same}
-use Rattle.route_carrying.proofs.Carrying.{carried-rooms}
-use Rattle.plain_matching.proofs.SameRooms.{best_route-arcs}
-use Rattle.plain_matching.proofs.Zones.{on}
-use Rattle.plain_view.specs.declared.filling.Fill.{Fill}
-use Rattle.plain_view.specs.declared.maker.Maker.{Maker}
-use Rattle.plain_view.specs.Depth.{Depth, buyer_zone, can_fill, crosses_any, fill_over, fill_with, leg_of, next_fill, route_with, seller_zone}
-use Rattle.plain_view.proofs.Kept.{IsAfter, line-of_kind, now, now-price, now-shown}
-use Rattle.plain_view.proofs.LineAfter.{line-after}
+use Rattle.market_laws.proofs.Replaced.{on}
+use Rattle.route_carrying.proofs.Carrying.{carried-rooms, best_route-arcs}
+use Rattle.view_laws.specs.declared.trades.Fill.{Fill}
+use Rattle.view_laws.specs.declared.trades.Maker.{Maker}
+use Rattle.view_laws.specs.Depth.{Depth, buyer_zone, can_fill, crosses_any, fill_over, fill_with, leg_of, next_fill, route_with, seller_zone}
+use Rattle.view_laws.proofs.Kept.{IsAfter, line-of_kind, now, now-price, now-shown}
+use Rattle.view_laws.proofs.LineAfter.{line-after}
 
 -- ---- searches
 

@@ -26,9 +26,9 @@ use Rattle.market_laws.proofs.NamedByHour.{AreNamedByHour, IsNamedByHour, named-
 use Rattle.market_laws.proofs.Restrict.{filter-filter}
 use Rattle.market_laws.proofs.LocalStates.{Agree, agree-more, filled-agree}
 use Rattle.market_laws.proofs.LocalMoments.{moment-more}
-use Rattle.plain_view.proofs.Peaks.{peak-open, price-stays, rest-shows}
+use Rattle.view_laws.proofs.Peaks.{peak-open, price-stays, rest-shows}
+use Rattle.view_laws.proofs.RowLemmas.{same_name-sym}
 use Rattle.market_laws.proofs.Rooms.{within-leg}
-use Rattle.plain_view.proofs.RowLemmas.{same_name-sym}
 
 -- an order as it was placed, from it as it stands
 abbrev pub placed_as : Standing → Placed

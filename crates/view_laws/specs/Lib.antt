@@ -1,0 +1,3 @@
+-- What the lemmas of this crate speak of.
+pub mod Depth
+pub mod Filled
