@@ -14,7 +14,6 @@ use Rattle.order_pool.specs.Rings.{AreRings}
 use Rattle.order_pool.proofs.Chains.{Misses, contains_between, misses_absent}
 use Rattle.order_pool.proofs.MoveLemmas.{between_in}
 use Rattle.order_pool.proofs.OnceLemmas.{misses_contains, once_front}
-use Rattle.order_pool.proofs.PoolLemmas.{first_stands}
 use Rattle.zone_graph.specs.InOrder.{IsStrictlyInOrder}
 use Rattle.zone_graph.specs.Route.{IsIn}
 use Rattle.zone_graph.proofs.InOrder.{in_order-filter}
@@ -170,9 +169,6 @@ module _ (places : List (Option RestingBlock)) (ladder : Ladder) (sound : IsLadd
 
   -- the first of a line is met from the ring's first place on
   module _ (key : LineKey) (from : Option ℕ) (is : from ≡ first_in (line_at ladder.rings (key_ring key))) where
-    pub first-stands : ForSome from (StandsIn ladder.rings (key_ring key))
-    first-stands = λ place some. first_stands ladder.rings (key_ring key) place (ring-within key) (sym is ∙ some)
-
     pub first-met : AreKeyed number_of places → first_from ladder places key from ≡ first_of (line_by ladder.grain (book_in places) key)
     first-met keyed =
         let ring = line_at ladder.rings (key_ring key) in
@@ -259,9 +255,6 @@ module _ (places : List (Option RestingBlock)) (ladder : Ladder) (place : ℕ) (
 
   pub join-room : sum_by length ladder.rings < 4096
   join-room = omega (arith, sound.are.total, held_count-take places place block holds, held_count-most places, keyed.size)
-
-  join-low : place < 4096
-  join-low = omega (arith, low, keyed.size)
 
   -- what stands in the rings is held besides
   pub join-held : (at : ℕ) → StandsIn ladder.rings k at → IsSome (held_at places at)

@@ -77,10 +77,6 @@ module _ (graph : Graph) (room : Arc → ℕ) (book : List RestingBlock) (buy : 
 module _ (graph : Graph) (room : Arc → ℕ) (book : List RestingBlock) (last : ℕ) (sound : IsBook book) (found : Option RestingBlock)
     (stands : found ≡ first_of (from_block (line_of book last Buy) found))
     (onward : first_answer (deal_of_buy graph room book) (from_block (line_of book last Buy) found) ≡ first_answer (deal_of_buy graph room book) (line_of book last Buy)) where
-  -- no buy is left
-  pub buys-none : found ≡ None → first_answer (deal_of_buy graph room book) (line_of book last Buy) ≡ None
-  buys-none none = sym onward ∙ ap (λ o. first_answer (deal_of_buy graph room book) (from_block (line_of book last Buy) o)) none
-
   module _ (buy : RestingBlock) (is : found ≡ Some buy) where
     at : StandsAt (line_of book last Buy) buy
     at = stands-at (line_of book last Buy) found buy is stands

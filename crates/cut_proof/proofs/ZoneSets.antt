@@ -2,7 +2,7 @@
 use Rattle.std.proofs.Common.{◌≡◌, ◌∙◌, ◌+◌, ◌*◌, ◌%◌, ◌^◌, ◌<◌, ◌==◌, ◌||◌, ◌⊎◌, inl, inr, ℕ, Bool, true, false, List, [], ◌∷◌, ◌++◌, length, get_or, take, nat_eq, refl, sym, ap, eq-eqb}
 use Rattle.std.proofs.lemmas.Bool.{cases_eq, ne_eqb}
 use Rattle.std.proofs.lemmas.List.{take_more}
-use Rattle.std.proofs.lemmas.Nat.Bits.{bit_at-zero, bit_at_set_other, bit_at_set_same}
+use Rattle.std.proofs.lemmas.Nat.Bits.{bit_at_set_other, bit_at_set_same}
 use Rattle.std.specs.Int.{w64}
 use Rattle.std.specs.Int.RustNames.{bit_or}
 use Rattle.zone_graph.specs.Route.{has}
@@ -16,10 +16,6 @@ or_assoc false b c = refl
 has_push : (zone other : ℕ) (zones : List ℕ) → has zone (zones ++ other ∷ []) ≡ (has zone zones || nat_eq other zone)
 has_push zone other [] = or-false (nat_eq other zone)
 has_push zone other (first ∷ zones) = ap (λ b. nat_eq first zone || b) (has_push zone other zones) ∙ or_assoc (nat_eq first zone) (has zone zones) (nat_eq other zone)
-
--- no bit is set
-pub holds_none : HoldsZones 0 []
-holds_none zone within = ap (λ n. n == 1) (bit_at-zero zone)
 
 -- the bit of one more zone
 pub holds_more : (bits index : ℕ) (zones : List ℕ) → index < length zones → get_or zones index 0 < 64 → HoldsZones bits (take index zones)

@@ -1,7 +1,6 @@
 -- Deals are made one after the other.
-use Rattle.std.proofs.Common.{◌≡◌, ◌∙◌, ℕ, suc, ◌+◌, ◌<◌, List, [], ◌∷◌, ◌++◌, add-one, append_assoc, drop, get_or, length, take, None, sym, ap, subst}
+use Rattle.std.proofs.Common.{◌≡◌, ◌∙◌, ℕ, suc, ◌+◌, ◌<◌, List, [], ◌∷◌, ◌++◌, add-one, append_assoc, drop, get_or, length, None, sym, ap, subst}
 use Rattle.std.proofs.Math.Seq.{drop-cons}
-use Rattle.std.proofs.lemmas.List.{take_more}
 use Rattle.block_match.specs.declared.deal.BlockDeal.{BlockDeal}
 use Rattle.block_match.specs.Market.{deal_events}
 use Rattle.market_model.specs.declared.event.Event.{Event}
@@ -12,7 +11,6 @@ use Rattle.joint_laws.specs.MatchingBlocks.{legs_of}
 use Rattle.desk_changes.specs.Planned.{CanFollow, after_events}
 use Rattle.desk_changes.specs.State.{HourState, with_board, with_hand}
 use Rattle.desk_blocks.specs.Plans.{CloseInTurn}
-use Rattle.desk_blocks.proofs.Periods.{legs-more}
 
 -- some events, and then others
 pub after-both : (old now new : HourState) (events more : List Event) → now ≡ after_events old events → new ≡ after_events now more
@@ -26,14 +24,6 @@ module _ (first last : ℕ) (deals : List BlockDeal) (place : ℕ) (low : place 
   from-place : drop place deals ≡ deal ∷ drop (place + 1) deals
   from-place = drop-cons deals place default low ∙ ap (λ d. d ∷ drop (suc place) deals) (sym is) ∙ ap (λ n. deal ∷ drop n deals) (sym (add-one place))
 
-  -- one more of them is made
-  pub made-more : (old now new : HourState) → now ≡ after_events old (legs_of first last (take place deals)) → new ≡ after_events now (deal_events first last deal)
-      → new ≡ after_events old (legs_of first last (take (place + 1) deals))
-  made-more old now new now_is new_is =
-      after-both old now new (legs_of first last (take place deals)) (deal_events first last deal) now_is new_is
-      ∙ ap (after_events old) (sym (legs-more first last (take place deals) deal)
-      ∙ ap (λ d. legs_of first last (take place deals ++ d ∷ [])) is ∙ ap (legs_of first last) (sym (take_more deals place default low)))
-
   module _ (now : HourState) (follows : CanFollow now (legs_of first last (drop place deals))) where
     rest-follows : IsHourOf now.board.grid now.board.hour ((now.board.events ++ deal_events first last deal) ++ legs_of first last (drop (place + 1) deals))
     rest-follows =
@@ -44,12 +34,6 @@ module _ (first last : ℕ) (deals : List BlockDeal) (place : ℕ) (low : place 
     deal-follows =
         first_of_many now.board.grid now.board.hour (now.board.events ++ deal_events first last deal) (legs_of first last (drop (place + 1) deals)) rest-follows
 
-    pub others-follow : (new : HourState) → new ≡ after_events now (deal_events first last deal) → CanFollow new (legs_of first last (drop (place + 1) deals))
-    others-follow new new_is = subst (λ (h : HourState). CanFollow h (legs_of first last (drop (place + 1) deals))) (sym new_is) rest-follows
-
   module _ (events : List Event) (whole : CloseInTurn first last events (drop place deals)) where
     pub deal-closes : AreClosed first deal (events ++ deal_events first last deal)
     deal-closes = (subst (CloseInTurn first last events) from-place whole).0
-
-    pub others-close : CloseInTurn first last (events ++ deal_events first last deal) (drop (place + 1) deals)
-    others-close = (subst (CloseInTurn first last events) from-place whole).1

@@ -17,11 +17,11 @@ use Rattle.joint_laws.specs.EnteringBlocks.{AreClosed}
 use Rattle.joint_laws.specs.MatchingBlocks.{legs_of}
 use Rattle.desk_changes.specs.Planned.{CanFollow, after_events}
 use Rattle.desk_changes.specs.State.{HourState}
-use Rattle.desk_blocks.specs.Periods.{AreDealsOf, AreRoomsAfter, IsFirstOfPeriod, IsPeriodOf}
+use Rattle.desk_blocks.specs.Periods.{AreDealsOf, IsFirstOfPeriod, IsPeriodOf}
 use Rattle.desk_blocks.specs.Rooms.{CanCarryEach}
 use Rattle.desk_blocks.proofs.Fewer.{fewer-blocks}
 use Rattle.desk_blocks.proofs.Making.{after-both}
-use Rattle.desk_blocks.proofs.Periods.{FoundSoFar, all-found, deal-can, deal-closes, deal-follows, legs-more, one-so-far, rooms-fit, rooms-found, zones-known}
+use Rattle.desk_blocks.proofs.Periods.{FoundSoFar, all-found, deal-can, deal-closes, deal-follows, legs-more, one-so-far, rooms-fit, zones-known}
 
 module _ (graph : Graph) (old now : HourState) (first last : ℕ) (start rooms : List (ℕ × ℕ)) (deals : List BlockDeal) (over : graph ≡ old.board.grid) (first_is : first ≡ old.board.hour)
     (made : now ≡ after_events old (legs_of first last deals)) (so_far : FoundSoFar graph first last old.board.events start deals rooms) where
@@ -34,9 +34,6 @@ module _ (graph : Graph) (old now : HourState) (first last : ℕ) (start rooms :
   hour-is : now.board.hour ≡ first
   hour-is = ap (λ (h : HourState). h.board.hour) made ∙ sym first_is
 
-  grid-is : now.board.grid ≡ graph
-  grid-is = ap (λ (h : HourState). h.board.grid) made ∙ sym over
-
   -- the blocks of the hour are those after the events and the legs
   blocks-here : blocks_of now.board.events now.board.hour ≡ blocks_of (old.board.events ++ legs) first
   blocks-here = ap (λ es. blocks_of es now.board.hour) events-are ∙ ap (blocks_of (old.board.events ++ legs)) hour-is
@@ -46,12 +43,6 @@ module _ (graph : Graph) (old now : HourState) (first last : ℕ) (start rooms :
   all-here none =
       subst (λ f. AreDealsOf graph f last old.board.events start deals) first_is
       (all-found graph first last old.board.events start deals rooms so_far (none ∙ ap (λ b. deal_of_period graph (room_of rooms) b last) blocks-here))
-
-  pub rooms-here : AreRoomsAfter graph old.board.hour last old.board.events start deals rooms
-  rooms-here = subst (λ f. AreRoomsAfter graph f last old.board.events start deals rooms) first_is (rooms-found graph first last old.board.events start deals rooms so_far)
-
-  pub made-here : now ≡ after_events old (legs_of old.board.hour last deals)
-  made-here = made ∙ ap (λ f. after_events old (legs_of f last deals)) first_is
 
   module _ (premise : IsFirstOfPeriod graph old.board.hour last old.board.events start) where
     abbrev setup : Setup

@@ -38,7 +38,7 @@ use Rattle.joint_laws.specs.PeriodRooms.{hour_room, period_room}
 use Rattle.joint_laws.proofs.LeastRooms.{least_of_hours}
 use Rattle.joint_laws.proofs.PeriodDeals.{next_go_on}
 use Rattle.joint_laws.proofs.SharedEvents.{within-has}
-use Rattle.desk_blocks.specs.Periods.{AreDealsOf, AreRoomsAfter, IsPeriodOf}
+use Rattle.desk_blocks.specs.Periods.{AreDealsOf, IsPeriodOf}
 use Rattle.desk_blocks.specs.Rooms.{CanCarryEach}
 use Rattle.desk_blocks.proofs.Lowered.{fit-together, lowered}
 use Rattle.desk_blocks.proofs.SameRooms.{deal-rooms}
@@ -196,13 +196,6 @@ abbrev pub FoundSoFar : Graph → (first last : ℕ) → (events : List Event) �
 FoundSoFar graph first last events rooms deals now = (setup : Setup) (history : List Event) → IsPeriodOf graph setup history first last events rooms
     → AreSoFar graph setup history first last events deals now
 
-pub none-so-far : (graph : Graph) (first last : ℕ) (events : List Event) (rooms : List (ℕ × ℕ)) → FoundSoFar graph first last events rooms [] rooms
-none-so-far graph first last events rooms setup history period = record {
-  period = subst (λ es. IsPeriodOf graph setup es first last (events ++ []) rooms) (sym (append-nil history))
-      (subst (λ es. IsPeriodOf graph setup history first last es rooms) (sym (append-nil events)) period);
-  onward = λ rest are. subst (λ es. ArePeriodDeals (graph_of setup) first last (hour_events es) rest) (append-nil history) are;
-}
-
 pub one-so-far : (graph : Graph) (first last : ℕ) (events : List Event) (rooms : List (ℕ × ℕ)) (deals : List BlockDeal) (now new : List (ℕ × ℕ)) (deal : BlockDeal)
     → FoundSoFar graph first last events rooms deals now
     → Some deal ≡ deal_of_period graph (room_of now) (blocks_of (events ++ legs_of first last deals) first) last
@@ -231,7 +224,3 @@ all-found graph first last events rooms deals now so_far none setup history peri
     let legs : List Event = legs_of first last deals in
     subst (ArePeriodDeals (graph_of setup) first last (hour_events history)) (append-nil deals)
     (before.onward [] (none-more graph setup (history ++ legs) first last (events ++ legs) now before.period none))
-
-pub rooms-found : (graph : Graph) (first last : ℕ) (events : List Event) (rooms : List (ℕ × ℕ)) (deals : List BlockDeal) (now : List (ℕ × ℕ))
-    → FoundSoFar graph first last events rooms deals now → AreRoomsAfter graph first last events rooms deals now
-rooms-found graph first last events rooms deals now so_far setup history period = (so_far setup history period).period

@@ -1,18 +1,16 @@
 -- What an hour has planned after some events and the sweep behind them.
-use Rattle.std.proofs.Common.{◌≡◌, ◌∙◌, ℕ, List, [], ◌∷◌, ◌++◌, append_assoc, None, refl, sym, ap, subst}
+use Rattle.std.proofs.Common.{◌≡◌, ◌∙◌, ℕ, [], ◌∷◌, ◌++◌, append_assoc, None, refl, sym, ap, subst}
 use Rattle.std.proofs.lemmas.List.{append-nil}
-use Rattle.zone_graph.specs.Graph.{Graph}
 use Rattle.market_model.specs.declared.event.Event.{Event}
 use Rattle.market_model.specs.Board.{with_events}
-use Rattle.market_model.specs.Sweep.{all_parts, sweep}
 use Rattle.desk_laws.specs.Settled.{IsSettled}
 use Rattle.sweep_core.specs.Sweeping.{swept}
 use Rattle.block_match.specs.declared.deal.BlockDeal.{BlockDeal}
 use Rattle.block_match.specs.Market.{deal_events}
 use Rattle.joint_laws.specs.EnteringBlocks.{AreClosed}
 use Rattle.desk_changes.specs.Deals.{ClosesBoth, with_entry}
-use Rattle.desk_changes.specs.Planned.{CanFollow, IsUnplanned, after_events, with_planned}
-use Rattle.desk_changes.specs.State.{HourState, after_event, block_entry_of, undone, with_board, with_hand}
+use Rattle.desk_changes.specs.Planned.{CanFollow, IsUnplanned, with_planned}
+use Rattle.desk_changes.specs.State.{HourState, after_event, block_entry_of, with_board, with_hand}
 use Rattle.order_kinds.specs.declared.order.BlockOrder.{BlockOrder}
 use Rattle.desk_changes.specs.Quiet.{HasNoLeg}
 use Rattle.desk_changes.proofs.Planning.{settled-quiet}
@@ -24,22 +22,6 @@ pub swept-still : (hour : HourState) → hour.board.hand ≡ None → HasNoLeg h
 swept-still hour free quiet =
     ap (λ es. with_board hour (with_events hour.board es))
     (sym (append-nil hour.board.events) ∙ ap (λ legs. hour.board.events ++ legs) (sym (no-sweep hour.board.grid hour.board.hour hour.board.events quiet)))
-
--- an hour with nothing planned is as it is undone
-pub undone-same : (hour : HourState) → IsUnplanned hour → undone hour ≡ hour
-undone-same hour unplanned =
-    ap (λ es. with_board hour (with_hand (with_events hour.board es) None)) (sym unplanned.events)
-    ∙ ap (λ h. with_board hour (with_hand hour.board h)) (sym unplanned.free)
-
--- some events behind the settled ones, and then the sweep
-pub swept-planned : (graph : Graph) (old mid new : HourState) (events : List Event) → graph ≡ old.board.grid → IsUnplanned old → mid ≡ after_events old events
-    → new ≡ with_board mid (swept mid.board) → new ≡ with_planned old (then_sweep_all graph old events)
-swept-planned graph old mid new events over unplanned mid_is new_is =
-    new_is ∙ ap (λ (h : HourState). with_board h (swept h.board)) mid_is
-    ∙ ap (λ es. with_board old (with_hand (with_events old.board ((es ++ events) ++ sweep all_parts old.board.grid old.board.hour (es ++ events))) None)) unplanned.events
-    ∙ ap (λ g. with_board old (with_hand (with_events old.board ((old.settled ++ events) ++ sweep all_parts g old.board.hour (old.settled ++ events))) None)) (sym over)
-    ∙ ap (λ es. with_board old (with_hand (with_events old.board es) None))
-    (append_assoc old.settled events (sweep all_parts graph old.board.hour (old.settled ++ events)))
 
 -- the entry of a block that rests, behind which nothing is swept
 pub rest-planned : (old new : HourState) (caller : ℕ) (order : BlockOrder) → IsUnplanned old → CanFollow old (entry_events old caller order None)

@@ -1,5 +1,5 @@
 -- The certificate of an order that is not filled, from the book and the rooms of its hour.
-use Rattle.std.proofs.Common.{◌≡◌, ◌∙◌, inl, ℕ, ◌+◌, ◌<◌, true, List, [], ◌∷◌, Result, Ok, Err, IfOk, refl, sym, ap, ap₂, subst, arith}
+use Rattle.std.proofs.Common.{◌≡◌, ◌∙◌, ℕ, ◌+◌, ◌<◌, true, List, [], ◌∷◌, Result, Ok, Err, IfOk, refl, sym, ap, ap₂, subst, arith}
 use Rattle.order_kinds.specs.declared.contract.Contract.{Contract}
 use Rattle.order_kinds.specs.declared.contract.Quarter.{Quarter}
 use Rattle.order_kinds.specs.declared.order.Order.{Order}
@@ -16,7 +16,6 @@ use Rattle.contract_book.specs.declared.resting.Resting.{Resting}
 use Rattle.contract_book.specs.Book.{line_of, parts_of}
 use Rattle.market_model.specs.declared.event.Event.{Event}
 use Rattle.market_model.specs.declared.setup.Setup.{Setup}
-use Rattle.market_model.specs.Board.{IsHourOf}
 use Rattle.market_model.specs.Certificate.{bound_of, crossing_inside, room_across, unfilled_zones, zones_in_reach}
 use Rattle.market_model.specs.Entering.{after_taking}
 use Rattle.market_model.specs.Grid.{graph_of}
@@ -26,12 +25,9 @@ use Rattle.market_laws.proofs.LocalLines.{contract-hours, line-agree}
 use Rattle.market_laws.proofs.LocalStates.{Agree, room-agree}
 use Rattle.book_lines.specs.BookOf.{book_of, resting_line}
 use Rattle.book_lines.proofs.PartLines.{line_of-book, parts_of-book}
-use Rattle.board_laws.proofs.Shared.{hour-agrees}
-use Rattle.kept_certificate.specs.CertificateLaws.{HaveAtMost}
 use Rattle.kept_certificate.specs.Crossing.{bound_in}
 use Rattle.kept_certificate.proofs.Entries.{entries-leave}
 use Rattle.kept_certificate.proofs.Records.{bounds-are}
-use Rattle.kept_certificate.proofs.RoomBounds.{rooms-fit}
 use Rattle.certified_maximum.proofs.SameRooms.{reach-same}
 use Rattle.match_core.specs.Walks.{AreRoomsOf}
 use Rattle.hour_changes.specs.OrderEvents.{without_hand}
@@ -52,15 +48,6 @@ pub reach-by : (graph : Graph) (made rooms : Arc → ℕ) → ((arc : Arc) → H
     → zones_in_reach graph made side zone ≡ zones_in_reach graph rooms side zone
 reach-by graph made rooms same is side zone =
     sym (reach-same graph made made (λ arc has. refl) is side zone) ∙ reach-same graph made rooms same is side zone
-
--- the rooms of an hour are no more than a bound asks
-pub rooms-most : (graph : Graph) (hour : ℕ) (events : List Event) (order : Order) (rooms : List (ℕ × ℕ)) → IsHourOf graph hour events → order.contract.hour ≡ hour
-    → ((arc : Arc) → HasArc graph arc → room_of rooms arc ≡ room events (contract_quarters order.contract) arc) → HaveAtMost 4294967295 graph (room_of rooms)
-rooms-most graph hour events order rooms stands in_hour same =
-    let quarters : List Quarter = contract_quarters order.contract in
-    let agree = hour-agrees graph hour events stands in
-    rooms-fit stands.setup stands.history quarters graph rooms stands.fit (λ arc has.
-    same arc has ∙ ap (λ (r : Arc → ℕ). r arc) (room-agree (hour ∷ []) events stands.history agree quarters (contract-hours (hour ∷ []) order.contract (inl in_hour))))
 
 module _ (graph : Graph) (hour : ℕ) (events : List Event) (caller : ℕ) (order : Order) (can : Enters graph hour events caller order) where
   abbrev setup : Setup

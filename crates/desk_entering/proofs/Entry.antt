@@ -3,7 +3,7 @@ use Rattle.std.proofs.Common.{◌≡◌, ◌∙◌, inl, ℕ, ◌≤◌, List, [
 use Rattle.std.proofs.lemmas.List.{append-nil}
 use Rattle.order_kinds.specs.declared.order.Order.{Order}
 use Rattle.order_kinds.specs.declared.order.OrderName.{OrderName}
-use Rattle.zone_graph.specs.Graph.{Graph, HasZone, IsGraph}
+use Rattle.zone_graph.specs.Graph.{Graph, HasZone}
 use Rattle.zone_graph.specs.Route.{IsIn}
 use Rattle.market_model.specs.declared.event.Event.{Event}
 use Rattle.market_model.specs.declared.event.Event.TheVariants as event
@@ -68,9 +68,6 @@ module _ (graph : Graph) (hour : ℕ) (events : List Event) (caller : ℕ) (orde
     in_zone = next_event.fits.in_zone;
     sound = next_event.fits.sound;
   }
-
-  pub is_graph : IsGraph graph
-  is_graph = subst IsGraph next_event.over_grid next_event.is_setup
 
   pub in_zone : HasZone graph order.zone
   in_zone = subst (λ g. HasZone g order.zone) next_event.over_grid enters_here.in_zone

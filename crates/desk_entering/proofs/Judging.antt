@@ -24,12 +24,6 @@ abbrev chain : Kind → (unfilled full : Option Refusal) → Option Refusal
 chain given unfilled full =
     or_else (if is_fill_or_kill given then unfilled else None) (λ _. or_else None (λ _. or_else (if can_rest given then full else None) (λ _. None)))
 
-chain-none : (given : Kind) → chain given None None ≡ None
-chain-none kind.Limit = refl
-chain-none kind.Ioc = refl
-chain-none kind.Fok = refl
-chain-none (kind.Iceberg peak delta) = refl
-
 last-of : (o : Option Refusal) → or_else o (λ _. None) ≡ o
 last-of None = refl
 last-of (Some x) = refl
@@ -68,23 +62,8 @@ module _ (graph : Graph) (events : List Event) (caller : ℕ) (order : Order) wh
   abbrev pub has_room : Bool
   has_room = has_desk_room (after_taking graph events caller order) (name_of_next events order)
 
-  refused-is : refused ≡ chain order.kind unfilled full
-  refused-is = refl
-
-  none-full : rest ≡ 0 → full ≡ None
-  none-full e = rw e refl
-
   some-full : (more : ℕ) → rest ≡ suc more → full ≡ unless has_room refusal.DeskFull
   some-full more e = rw e refl
-
-  -- an order that is filled is not refused
-  pub filled-passes : rest ≡ 0 → refused ≡ None
-  filled-passes e =
-      ap (λ n. chain order.kind (unless (n == 0) certified) full) e ∙ ap (λ f. chain order.kind None f) (none-full e) ∙ chain-none order.kind
-
-  -- nor is an immediate-or-cancel order
-  pub ioc-passes : order.kind ≡ kind.Ioc → refused ≡ None
-  ioc-passes e = ap (λ k. chain k unfilled full) e
 
   -- a fill-or-kill order is where something is left of it
   pub fok-refused : order.kind ≡ kind.Fok → 0 < rest → refused ≡ Some certified

@@ -166,18 +166,8 @@ module _ (setup : Setup) (is_setup : IsMarketSetup setup) (before : List Event) 
   rest-quiet kind.Fok rest contract is quiet = subst (λ es. IsQuiet setup es contract) (sym (append-nil taken)) quiet
   rest-quiet (kind.Iceberg peak delta) rest contract is quiet = subst (λ es. IsQuiet setup es contract) (sym (append-nil taken)) quiet
 
-  rest-fits : (given : Kind) (rest : ℕ) → rest ≡ left taken name → FitAfter setup [] (taken ++ rest_withdrawn given name rest)
-  rest-fits kind.Ioc zero is = subst (FitAfter setup []) (sym (append-nil taken)) fit-taken
-  rest-fits kind.Ioc (suc more) is = fit-more setup taken (event.Withdrawn name (suc more)) fit-taken (record { some = omega arith; all_left = is })
-  rest-fits kind.Limit rest is = subst (FitAfter setup []) (sym (append-nil taken)) fit-taken
-  rest-fits kind.Fok rest is = subst (FitAfter setup []) (sym (append-nil taken)) fit-taken
-  rest-fits (kind.Iceberg peak delta) rest is = subst (FitAfter setup []) (sym (append-nil taken)) fit-taken
-
   abbrev ended : List Event
   ended = taken ++ rest_withdrawn order.kind name (rest_of graph before caller order)
-
-  pub fit-ended : FitAfter setup [] ended
-  fit-ended = rest-fits order.kind (rest_of graph before caller order) refl
 
   -- ---- both
 

@@ -24,7 +24,7 @@ use Rattle.match_core.specs.Takings as takings
 use Rattle.match_core.proofs.Orders.{hour-whole}
 use Rattle.sweep_core.specs.Sweeping.{hour_sweep, swept}
 use Rattle.kept_hour.specs.Planned.{IsUnplanned, with_planned}
-use Rattle.kept_hour.specs.State.{CanBeNext, HourState, after_event, entry_of, undone, with_board, with_hand}
+use Rattle.kept_hour.specs.State.{CanBeNext, HourState, after_event, entry_of, with_board, with_hand}
 use Rattle.kept_hour.proofs.Entering.{free-count}
 use Rattle.desk_entering.specs.Entries.{Enters, HasEnded, HasTaken, IsSettledAs, ended_events, placed_next}
 use Rattle.desk_entering.proofs.Entry as entries
@@ -33,24 +33,8 @@ use Rattle.desk_entering.proofs.Parts.{ended-is, own_events}
 
 -- ---- the hour as it is settled
 
--- an hour without planned events is as it is settled
-pub unplanned-undone : (hour : HourState) → IsUnplanned hour → undone hour ≡ hour
-unplanned-undone hour is =
-    let of : List Event → Option ℕ → HourState = λ es hand. with_board hour (with_hand (with_events hour.board es) hand) in
-    ap (λ es. of es None) (sym is.events) ∙ ap (of hour.board.events) (sym is.free)
-
--- another board of the same hour is settled as well
-pub settled-on : (old : HourState) (events : List Event) (hand : Option ℕ) → IsSettledAs old (with_board old (with_hand (with_events old.board events) hand))
-settled-on old events hand = refl
-
 pub settled-then : (old mid new : HourState) → IsSettledAs old mid → IsSettledAs mid new → IsSettledAs old new
 settled-then old mid new first second = second ∙ first
-
--- a board that has other events, with the same settled ones
-pub settled-board : (old new : HourState) (events : List Event) → new.board ≡ with_events old.board events → new.settled ≡ old.settled → IsSettledAs old new
-settled-board old new events board settled =
-    let of : BoardState → List Event → HourState = λ b s. record { board = with_hand (with_events b s) None; settled = s } in
-    ap (λ b. of b new.settled) board ∙ ap (of (with_events old.board events)) settled
 
 -- ---- entry and taking
 

@@ -111,9 +111,6 @@ module _ (hour : HourState) (caller : ℕ) (order : Order) (taker : Taker) (take
   pub ended-filled : taker.left ≡ 0 → HasEnded (without_hand hour) caller order
   ended-filled none = ended-bare (ap (rest_withdrawn order.kind name) (sym left-is ∙ none) ∙ no-rest order.kind name)
 
-  pub ended-limit : order.kind ≡ kind.Limit → HasEnded (without_hand hour) caller order
-  ended-limit is = ended-bare (ap (λ given. rest_withdrawn given name rest) is)
-
   -- ---- an immediate-or-cancel order's rest is withdrawn
 
   pub can-withdraw : taker.left ≢ 0 → (number : ℕ) → hour.board.hand ≡ Some number → CanBeNext hour (withdrawal_of hour number taker.left)

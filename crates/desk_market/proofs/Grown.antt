@@ -1,5 +1,5 @@
 -- A market after a command: with one more entry, or as it was.
-use Rattle.std.proofs.Common.{◌≡◌, ◌∙◌, ℕ, ◌+◌, ◌<◌, false, List, [], ◌∷◌, ◌++◌, length, map, slice_index, slice_set, sym, ap, subst, arith}
+use Rattle.std.proofs.Common.{◌≡◌, ◌∙◌, ℕ, ◌+◌, ◌<◌, false, List, [], ◌∷◌, ◌++◌, length, map, slice_index, slice_set, ap, arith}
 use Rattle.std.proofs.lemmas.List.{length-set}
 use Rattle.zone_graph.specs.Graph.{Graph}
 use Rattle.zone_graph.specs.Route.{has}
@@ -53,7 +53,3 @@ module _ (graph : Graph) (setup : Setup) (entries : List Entry) (desks : List De
     callers = is.callers;
     counted = is.counted;
   }
-
-  -- nothing was planned
-  pub as_it_was : (now : List DeskState) → now ≡ desks → IsMarket graph setup entries now given
-  as_it_was now same = subst (λ (ds : List DeskState). IsMarket graph setup entries ds given) (sym same) is

@@ -1,5 +1,5 @@
 -- Where among the desks of a day a chosen one stands, looked for from the first hour on.
-use Rattle.std.proofs.Common.{◌≡◌, ◌≢◌, ◌∙◌, ℕ, zero, suc, ◌+◌, ◌-◌, ◌<◌, ◌≤◌, Bool, true, false, if◌then◌else◌, List, [], ◌∷◌, length, drop, Some, refl, sym, ap, subst, arith, add-one, get_or, slice_get, slice_set}
+use Rattle.std.proofs.Common.{◌≡◌, ◌≢◌, ◌∙◌, ℕ, zero, suc, ◌+◌, ◌-◌, ◌<◌, Bool, true, false, if◌then◌else◌, List, [], ◌∷◌, length, drop, Some, refl, sym, ap, subst, arith, add-one, get_or, slice_get, slice_set}
 use Rattle.std.proofs.lemmas.Option.{slice_get-get_or}
 use Rattle.market_model.specs.declared.hours.Hours.{Hours}
 use Rattle.market_model.specs.HourSet.{has_hour}
@@ -20,12 +20,6 @@ begins-suc (desk ∷ desks) (suc i) within = begins-suc desks i (omega arith)
 begins : (desks : List DeskState) (i : ℕ) → i < length desks → BeginsAt desks i
 begins desks i within = let found = begins-suc desks i within in record { desk = found.0; rest = rw add-one found.1; there = found.2 }
 
-none-left : (desks : List DeskState) (i : ℕ) → length desks ≤ i → drop i desks ≡ []
-none-left [] zero end = refl
-none-left [] (suc i) end = refl
-none-left (desk ∷ desks) zero end = absurd (omega arith)
-none-left (desk ∷ desks) (suc i) end = none-left desks i (omega arith)
-
 -- the chosen desk at a place is the one that so many chosen ones are before, of those that are left
 pub record IsSought (takes : ℕ → Bool) (desks : List DeskState) (place i before : ℕ) : Type 0 where
   pub within : before < length (chosen_from takes (i + 1) (drop i desks))
@@ -44,13 +38,6 @@ place-skip takes hour desk desks zero out = rw out refl
 place-skip takes hour desk desks (suc before) out = rw out refl
 
 module _ (takes : ℕ → Bool) (desks : List DeskState) (place : ℕ) where
-  pub sought-first : place < length (chosen_from takes 1 desks) → IsSought takes desks place 0 place
-  sought-first within = record { within = within; place_is = omega arith; desk_is = refl }
-
-  pub sought-end : (i before : ℕ) → IsSought takes desks place i before → length desks ≤ i → ⊥
-  sought-end i before so_far end =
-      let none = ap (λ ds. length (chosen_from takes (i + 1) ds)) (none-left desks i end) in omega (arith, so_far.within, none)
-
   -- a desk that is not chosen is passed over
   pub sought-skip : (i before : ℕ) → IsSought takes desks place i before → i < length desks → takes (i + 1) ≡ false → IsSought takes desks place (i + 1) before
   sought-skip i before so_far within out =
@@ -118,10 +105,6 @@ counted-next takes desks i count so_far within chosen =
     let left = ap length (ap (chosen_from takes (i + 1)) at.rest
     ∙ ap (λ b. if b then at.desk ∷ chosen_from takes (i + 1 + 1) (drop (i + 1) desks) else chosen_from takes (i + 1 + 1) (drop (i + 1) desks)) chosen) in
     omega (arith, so_far, left)
-
-pub counted-end : (takes : ℕ → Bool) (desks : List DeskState) (i count : ℕ) → IsCounted takes desks i count → length desks ≤ i → count ≡ length (chosen_from takes 1 desks)
-counted-end takes desks i count so_far end =
-    let none = ap (λ ds. length (chosen_from takes (i + 1) ds)) (none-left desks i end) in omega (arith, so_far, none)
 
 -- ---- a desk put in at its place
 

@@ -1,19 +1,17 @@
 -- What the books of an hour have for a number, and what is open.
-use Rattle.std.proofs.Common.{◌≡◌, ◌∙◌, inl, ℕ, ◌&&◌, ◌==◌, Bool, true, false, List, [], ◌∷◌, Option, Some, None, IfSome, if◌then◌else◌, option_map, refl, sym, ap, subst}
+use Rattle.std.proofs.Common.{◌≡◌, ◌∙◌, inl, ℕ, ◌&&◌, true, List, [], ◌∷◌, Option, Some, None, IfSome, option_map, refl, sym, ap, subst}
 use Rattle.std.proofs.lemmas.Bool.{and_parts}
 use Rattle.order_kinds.specs.declared.order.OrderName.{OrderName}
 use Rattle.order_kinds.specs.Contract.{is_known, part_number}
 use Rattle.order_kinds.specs.Same.{same_name}
 use Rattle.zone_graph.specs.Graph.{Graph}
 use Rattle.zone_graph.specs.Route.{IsIn}
-use Rattle.zone_graph.proofs.Finding.{from_find, map-none}
+use Rattle.zone_graph.proofs.Finding.{from_find}
 use Rattle.contract_book.specs.declared.resting.Resting.{Resting}
 use Rattle.contract_book.specs.Book.{order_of}
-use Rattle.block_book.specs.declared.block.RestingBlock.{RestingBlock}
 use Rattle.block_book.specs.Book.{block_of}
 use Rattle.market_model.specs.declared.event.Event.{Event}
 use Rattle.market_model.specs.Board.{IsHourOf}
-use Rattle.market_model.specs.Refusals.{if_own, if_own_block}
 use Rattle.market_model.specs.Orders.{Placed, PlacedBlock, blocks_placed, is_open, moment, open_block, open_order, placed, standing}
 use Rattle.market_laws.proofs.Legs.{open_order-is}
 use Rattle.market_laws.proofs.Placed.{OrderIsSound, all_are_sound}
@@ -30,7 +28,7 @@ use Rattle.book_lines.proofs.BlocksKept.{resting-same}
 use Rattle.book_lines.proofs.WholeBlockBooks as blocks
 use Rattle.hour_changes.proofs.NextEvents.{agrees, blocks-are, book-is, placed-too}
 use Rattle.hour_store.specs.Contents.{IsOfPart}
-use Rattle.desk_refusals.specs.Found.{own_block, own_order, record_of}
+use Rattle.desk_refusals.specs.Found.{record_of}
 use Rattle.desk_refusals.specs.Told.{Tells}
 use Rattle.desk_refusals.proofs.Moments.{tells}
 
@@ -141,42 +139,3 @@ found-number events name o same = subst (λ held. IfSome held (λ order. order.n
     go (Some placed) is = ap (λ (n : OrderName). n.number) (open_order-is events name placed is).is_named
 
 -- ---- what is a caller's
-
-module _ (events : List Event) (caller : ℕ) (name : OrderName) where
-  pub own-none : option_map (record_of events) (open_order events name) ≡ None → own_order events caller name ≡ None
-  own-none none = ap (λ o. option_map (record_of events) (if_own caller o)) (map-none (record_of events) (open_order events name) none)
-
-  pub own-is : (order : Resting) → option_map (record_of events) (open_order events name) ≡ Some order
-      → own_order events caller name ≡ (if order.caller == caller then Some order else None)
-  own-is order = go (open_order events name)
-    where
-      go : (o : Option Placed) → option_map (record_of events) o ≡ Some order
-          → option_map (record_of events) (if_own caller o) ≡ (if order.caller == caller then Some order else None)
-      go None none = absurd (cc)
-      go (Some placed) is =
-          let same : record_of events placed ≡ order = cc in
-          subst (λ (r : Resting). option_map (record_of events) (if_own caller (Some placed)) ≡ (if r.caller == caller then Some r else None)) same
-          (by (placed.caller == caller))
-        where
-          by : (b : Bool) → option_map (record_of events) (if b then Some placed else None) ≡ (if b then Some (record_of events placed) else None)
-          by true = refl
-          by false = refl
-
-  pub own_block-none : option_map (resting_block events) (open_block events name) ≡ None → own_block events caller name ≡ None
-  own_block-none none = ap (λ o. option_map (resting_block events) (if_own_block caller o)) (map-none (resting_block events) (open_block events name) none)
-
-  pub own_block-is : (block : RestingBlock) → option_map (resting_block events) (open_block events name) ≡ Some block
-      → own_block events caller name ≡ (if block.caller == caller then Some block else None)
-  own_block-is block = go (open_block events name)
-    where
-      go : (o : Option PlacedBlock) → option_map (resting_block events) o ≡ Some block
-          → option_map (resting_block events) (if_own_block caller o) ≡ (if block.caller == caller then Some block else None)
-      go None none = absurd (cc)
-      go (Some placed) is =
-          let same : resting_block events placed ≡ block = cc in
-          subst (λ (r : RestingBlock). option_map (resting_block events) (if_own_block caller (Some placed)) ≡ (if r.caller == caller then Some r else None)) same
-          (by (placed.caller == caller))
-        where
-          by : (b : Bool) → option_map (resting_block events) (if b then Some placed else None) ≡ (if b then Some (resting_block events placed) else None)
-          by true = refl
-          by false = refl

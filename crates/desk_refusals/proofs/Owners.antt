@@ -1,9 +1,8 @@
 -- What a caller has open under a number of an hour.
-use Rattle.std.proofs.Common.{◌≡◌, ◌∙◌, inl, ℕ, ◌==◌, ◌&&◌, not, Bool, true, false, List, [], ◌∷◌, Option, Some, None, IfSome, is_some, is_none, option_map, refl, sym, ap, ap₂, subst, if◌then◌else◌}
+use Rattle.std.proofs.Common.{◌≡◌, ◌∙◌, inl, ℕ, ◌==◌, ◌&&◌, Bool, true, false, List, [], ◌∷◌, Option, Some, None, IfSome, option_map, refl, sym, ap, ap₂, subst, if◌then◌else◌}
 use Rattle.std.proofs.lemmas.Bool.{and_parts}
 use Rattle.order_kinds.specs.declared.order.OrderName.{OrderName}
 use Rattle.order_kinds.specs.Contract.{part_number}
-use Rattle.order_kinds.specs.Order.{is_limit}
 use Rattle.order_kinds.specs.Same.{same_name}
 use Rattle.zone_graph.specs.Graph.{Graph}
 use Rattle.zone_graph.proofs.Finding.{from_find, map-none}
@@ -13,7 +12,7 @@ use Rattle.block_book.specs.declared.block.RestingBlock.{RestingBlock}
 use Rattle.market_model.specs.declared.event.Event.{Event}
 use Rattle.market_model.specs.Board.{IsHourOf}
 use Rattle.market_model.specs.Orders.{Placed, PlacedBlock, blocks_placed, is_open, open_block, open_order}
-use Rattle.market_model.specs.Refusals.{has_own, if_limit, if_own, if_own_block}
+use Rattle.market_model.specs.Refusals.{if_own, if_own_block}
 use Rattle.market_laws.proofs.Legs.{open_order-is}
 use Rattle.market_laws.proofs.Names.{names-once}
 use Rattle.market_laws.proofs.Tests.{same_name-eq}
@@ -26,7 +25,7 @@ use Rattle.hour_changes.proofs.NextEvents.{agrees}
 use Rattle.hour_store.specs.Contents.{IsOfPart}
 use Rattle.desk_refusals.specs.declared.owning.Own.{Own}
 use Rattle.desk_refusals.specs.declared.owning.Own.TheVariants as own
-use Rattle.desk_refusals.specs.Found.{own_block, own_limit_order, own_order, record_of}
+use Rattle.desk_refusals.specs.Found.{own_block, own_order, record_of}
 use Rattle.desk_refusals.specs.Owned.{of_block, of_order, own_of, part_of}
 use Rattle.desk_refusals.proofs.Books.{in-part, order-found}
 
@@ -80,18 +79,6 @@ module _ (events : List Event) (caller : ℕ) (name : OrderName) where
       → own_of events caller name ≡ option_map (of_block events) block
   told-block block none is = rw (none, is, own_of) refl
 
-  -- there is an order or a block exactly where the market finds one
-  pub known-is : is_some (own_of events caller name) ≡ has_own events caller name
-  known-is = go (if_own caller (open_order events name)) (if_own_block caller (open_block events name)) refl refl
-    where
-      go : (o : Option Placed) (b : Option PlacedBlock) → if_own caller (open_order events name) ≡ o → if_own_block caller (open_block events name) ≡ b
-          → is_some (own_of events caller name) ≡ has_own events caller name
-      go (Some order) b is block = ap is_some (told-order order is) ∙ sym (ap (λ o. not (is_none o && is_none (if_own_block caller (open_block events name)))) is)
-      go None (Some own) is block =
-          ap is_some (told-block (Some own) is block) ∙ sym (ap (λ o. not (is_none o && is_none (if_own_block caller (open_block events name)))) is ∙ ap (λ b. not (is_none b)) block)
-      go None None is block =
-          ap is_some (told-block None is block) ∙ sym (ap (λ o. not (is_none o && is_none (if_own_block caller (open_block events name)))) is ∙ ap (λ b. not (is_none b)) block)
-
   -- what is told of the records
   pub own-order : (order : Resting) (part : ℕ) → own_order events caller name ≡ Some order
       → ((placed : Placed) → open_order events name ≡ Some placed → part ≡ part_number placed.order.contract.part)
@@ -109,29 +96,6 @@ module _ (events : List Event) (caller : ℕ) (name : OrderName) where
       same : (o : Option PlacedBlock) → option_map (λ (b : RestingBlock). own.Block b.quantity) (option_map (resting_block events) o) ≡ option_map (of_block events) o
       same None = refl
       same (Some placed) = refl
-
-  pub own-neither : own_order events caller name ≡ None → own_block events caller name ≡ None → None ≡ own_of events caller name
-  own-neither none is =
-      sym (told-block None (map-none (record_of events) (if_own caller (open_order events name)) none) (map-none (resting_block events) (if_own_block caller (open_block events name)) is))
-
--- a limit order of the caller's, and none
-module _ (events : List Event) (caller : ℕ) (name : OrderName) where
-  pub no_limit-none : own_order events caller name ≡ None → own_limit_order events caller name ≡ None
-  no_limit-none none =
-      ap (λ o. option_map (record_of events) (if_limit o)) (map-none (record_of events) (if_own caller (open_order events name)) none)
-
-  pub limit-is : (order : Resting) (limit : Bool) → own_order events caller name ≡ Some order
-      → ((placed : Placed) → open_order events name ≡ Some placed → limit ≡ is_limit placed.order.kind)
-      → own_limit_order events caller name ≡ (if limit then Some order else None)
-  limit-is order limit is tells =
-      let own = from_own events caller name order is in
-      ap (λ o. option_map (record_of events) (if_limit o)) own.own
-      ∙ by own.placed order own.is (is_limit own.placed.order.kind)
-      ∙ ap (λ (b : Bool). if b then Some order else None) (sym (tells own.placed own.found))
-    where
-      by : (placed : Placed) (r : Resting) → r ≡ record_of events placed → (b : Bool) → option_map (record_of events) (if b then Some placed else None) ≡ (if b then Some r else None)
-      by placed r same true = ap Some (sym same)
-      by placed r same false = refl
 
 -- ---- in an hour
 

@@ -1,11 +1,10 @@
 -- Rows in a list that grows, and of which one is set.
-use Rattle.std.proofs.Common.{◌≡◌, ◌≢◌, ◌∙◌, ◌+◌, ◌<◌, ◌||◌, ◌&&◌, ◌==◌, inl, inr, ℕ, zero, suc, Bool, true, false, List, [], ◌∷◌, ◌++◌, get_or, length, set, refl, sym, ap, subst, arith}
+use Rattle.std.proofs.Common.{◌≡◌, ◌≢◌, ◌∙◌, ◌+◌, ◌<◌, ◌||◌, inl, inr, ℕ, zero, suc, Bool, List, [], ◌∷◌, ◌++◌, get_or, length, set, sym, ap, subst, arith}
 use Rattle.std.proofs.lemmas.Bool.{cases_eq}
 use Rattle.std.proofs.lemmas.List.{get_or-set_other, get_or-set_same}
 use Rattle.std.proofs.lemmas.List.Folds.{list_any-append}
 use Rattle.std.specs.List.{list_any, range_with_len}
 use Rattle.cut_proof.proofs.ArcSums.{range_more}
-use Rattle.cut_proof.specs.ZoneSet.{holds}
 use Rattle.zone_graph.proofs.Again.{or-false}
 
 -- what holds of each item and of one more behind them
@@ -31,18 +30,3 @@ any-range-more p n =
     ∙ ap (λ k. range_with_len 0 n ++ k ∷ []) (let plain : 0 + n ≡ n = omega arith in plain))
     ∙ list_any-append p (range_with_len 0 n) (n ∷ [])
     ∙ ap (λ b. list_any p (range_with_len 0 n) || b) (or-false (p n))
-
-or_assoc : (a b c : Bool) → ((a || b) || c) ≡ (a || (b || c))
-or_assoc true b c = refl
-or_assoc false b c = refl
-
--- both ends of a border that moved are put to some zones, or none is
-pub ends-put : (zones first_put both_put zone first second : ℕ) (has : Bool) → has ≡ true
-    → holds first_put zone ≡ (holds zones zone || (first == zone)) → holds both_put zone ≡ (holds first_put zone || (second == zone))
-    → holds both_put zone ≡ (holds zones zone || (has && ((first == zone) || (second == zone))))
-ends-put zones first_put both_put zone first second has moved one two =
-    two ∙ ap (λ b. b || (second == zone)) one ∙ or_assoc (holds zones zone) (first == zone) (second == zone)
-    ∙ ap (λ b. holds zones zone || (b && ((first == zone) || (second == zone)))) (sym moved)
-
-pub none-put : (old : Bool) (has ends : Bool) → has ≡ false → old ≡ (old || (has && ends))
-none-put old has ends none = sym (ap (λ b. old || (b && ends)) none ∙ or-false old)

@@ -39,11 +39,6 @@ module _ (one other : Views) (same : views_forgotten one ≡ views_forgotten oth
   pub same-count : length one.lines ≡ length other.lines
   same-count = sym (length-map one.lines part_forgotten) ∙ ap (λ (v : Views). length v.lines) same ∙ length-map other.lines part_forgotten
 
-  pub same-kept : (part : ℕ) (side : Side) → (line_of one part side).kept ≡ (line_of other part side).kept
-  same-kept part side =
-      ap (λ (l : LineRows). l.kept) (sym (forgotten-line one part side)) ∙ ap (λ v. (line_of v part side).kept) same
-      ∙ ap (λ (l : LineRows). l.kept) (forgotten-line other part side)
-
 -- where nothing was next
 pub none-next : (views : Views) → views_forgotten views ≡ views → (part : ℕ) (side : Side) → (line_of views part side).next ≡ None
 none-next views none part side = ap (λ v. (line_of v part side).next) (sym none) ∙ ap (λ (l : LineRows). l.next) (forgotten-line views part side)

@@ -7,10 +7,6 @@ use Rattle.disk_model.specs.Moments.{MayLeave, Elapses, LeavesOnly}
 pub told_image : (contents : Option Contents) (told : Contents) → contents ≡ Some told → (image : List ℕ) → MayLeave contents image → IsImage told image
 told_image contents told tells image leaves = subst (λ (o : Option Contents). MayLeave o image) tells leaves
 
--- no time goes by
-pub elapses_none : (now : ℕ) (since : ℕ → List ℕ → Type 0) (contents : Option Contents) → Elapses now now since since contents
-elapses_none now since contents = record { later = omega arith; nothing_else = λ t image le left. inl left; keeps = λ t image le left. left }
-
 module _ {D : Type 0} (moment : D → ℕ) (left_since : D → ℕ → List ℕ → Type 0) where
   -- before the first call
   pub started : (old : D) (P : List ℕ → Type 0) → ((image : List ℕ) → left_since old (moment old) image → P image) → LeavesOnly moment left_since old old P

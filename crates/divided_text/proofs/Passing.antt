@@ -1,7 +1,7 @@
 -- Lines that were passed on the way to the dividing one.
-use Rattle.std.proofs.Common.{◌≡◌, ℕ, ◌+◌, List, [], ◌∷◌, ◌++◌, length, take, refl, sym, ap, ◌∙◌, subst, arith, All, None, append_assoc, length-append}
+use Rattle.std.proofs.Common.{◌≡◌, ℕ, ◌+◌, List, [], ◌∷◌, ◌++◌, length, take, sym, ap, ◌∙◌, subst, arith, All, None, append_assoc, length-append}
 use Rattle.std.proofs.lemmas.List.{length_push, take_at}
-use Rattle.std.proofs.lemmas.List.Elements.{All-push, All-nil}
+use Rattle.std.proofs.lemmas.List.Elements.{All-push}
 use Rattle.text_grammar.specs.Lines.{IsLine, text_of_lines}
 use Rattle.text_grammar.proofs.TextLines.{line_before, text_append}
 use Rattle.divided_text.specs.Dividing.{division_of}
@@ -15,16 +15,6 @@ pub record HasPassed (word bytes : List ℕ) (start : ℕ) (rest : List ℕ) : T
   pub others : All (λ line. ¬ (line ≡ word)) lines
   pub is : bytes ≡ text_of_lines lines ++ rest
   pub size : start ≡ length (text_of_lines lines)
-
--- at first none is passed
-pub none_passed : (word bytes : List ℕ) → HasPassed word bytes 0 bytes
-none_passed word bytes = record {
-  lines = [];
-  are_lines = All-nil IsLine;
-  others = All-nil (λ line. ¬ (line ≡ word));
-  is = refl;
-  size = refl;
-}
 
 -- the text of one line more
 one_more : (lines : List (List ℕ)) (line after : List ℕ) → text_of_lines lines ++ (line ++ 10 ∷ after) ≡ text_of_lines (lines ++ line ∷ []) ++ after

@@ -1,6 +1,6 @@
 -- Numbers in eight bytes.
 use Rattle.std.proofs.Common.{◌≡◌, ℕ, ◌<◌, ◌^◌, List, length, get_or, refl, sym, ◌∙◌, ap}
-use Rattle.std.specs.Int.{w64, to_be_bytes, from_be_bytes}
+use Rattle.std.specs.Int.{w64, from_be_bytes}
 use Rattle.std.proofs.lemmas.Nat.{be_bytes_8, from_be_bytes-to_be_bytes_8}
 use Rattle.durable_journal.specs.Stored.{number_bytes}
 
@@ -19,7 +19,3 @@ same_number n m small_n small_m same = sym (number_of n small_n) ∙ ap (λ (l :
 pub bytes_of_number : (bytes : List ℕ) (n : ℕ) → length bytes ≡ 8 → ((i : ℕ) → get_or bytes i 0 < 256) → n ≡ from_be_bytes w64 bytes → number_bytes n ≡ bytes
 unfolding number_bytes
 bytes_of_number bytes n long small is = be_bytes_8 bytes n long small is
-
-pub number_bytes_are : (n : ℕ) → number_bytes n ≡ to_be_bytes w64 n
-unfolding number_bytes
-number_bytes_are n = refl

@@ -1,11 +1,9 @@
 -- What a desk always keeps is kept by what is planned, carried and dropped.
 use Rattle.std.proofs.Common.{◌≡◌, ◌∙◌, ℕ, Bool, true, false, not, List, [], ◌++◌, filter, length, Some, None, refl, sym, ap, subst}
-use Rattle.std.proofs.lemmas.Bool.{true≢false}
 use Rattle.market_model.specs.declared.event.Event.{Event}
 use Rattle.zone_graph.specs.Graph.{Graph}
 use Rattle.market_model.specs.Board.{BoardState, is_in_hand, resting_names}
 use Rattle.market_model.specs.Orders.{open_names}
-use Rattle.desk_blocks.specs.Planned.{IsUnplanned, with_planned}
 use Rattle.desk_blocks.specs.State.{HourState, empty_board, settled_board, settled_now, undone, with_hand}
 use Rattle.desk_views.specs.Desk as views
 use Rattle.desk_views.specs.Standing.{IsNext, StandAt}
@@ -18,10 +16,6 @@ use Rattle.hour_desk.proofs.Views.{adopted-forgotten, forgotten-again, forgotten
 not-planned : (is_planned : Bool) (events : List Event) → planned_if is_planned events ≡ None → is_planned ≡ false
 not-planned true events none = absurd (cc)
 not-planned false events none = refl
-
--- an hour with what it planned dropped has nothing planned
-pub dropped-unplanned : (kept : HourState) → IsUnplanned (undone kept)
-dropped-unplanned kept = record { events = refl; free = refl }
 
 module _ (kept : HourState) (shown : views.DeskState) (is_planned : Bool) (inside : IsInside kept shown is_planned) where
   -- dropped
@@ -48,30 +42,6 @@ module _ (kept : HourState) (shown : views.DeskState) (is_planned : Bool) (insid
         unplanned = λ none. refl;
         none_next = λ none. adopted-forgotten shown;
       }
-
-  -- planned, and what is next with it
-  pub planned-inside : (new : HourState) (seen : views.DeskState) (events : List Event) → new ≡ with_planned (undone kept) events
-      → StandAt (settled_board (undone kept)) seen → IsNext new.board seen → IsInside new seen true
-  planned-inside new seen events is stands next = record {
-    seven = ap (λ (h : HourState). h.board.parts) is ∙ inside.seven;
-    free = ap (λ (h : HourState). h.board.hand) is;
-    stands = subst (λ (h : HourState). StandAt (settled_board h) seen) (sym is) stands;
-    next = next;
-    unplanned = λ planned. absurd (true≢false planned);
-    none_next = λ planned. absurd (true≢false planned);
-  }
-
-  -- not planned, for want of memory
-  pub failed-inside : (new : HourState) (seen : views.DeskState) → new ≡ undone kept → StandAt (settled_board (undone kept)) seen → views.forgotten seen ≡ seen
-      → IsInside new seen false
-  failed-inside new seen is stands none = record {
-    seven = ap (λ (h : HourState). h.board.parts) is ∙ inside.seven;
-    free = ap (λ (h : HourState). h.board.hand) is;
-    stands = subst (λ (h : HourState). StandAt (settled_board h) seen) (sym is) stands;
-    next = subst (λ (h : HourState). IsNext h.board seen) (sym is) (next-kept (settled_board kept) seen none stands);
-    unplanned = λ no. ap (λ (h : HourState). h.board.events) is ∙ ap (λ (h : HourState). h.settled) (sym is);
-    none_next = λ no. none;
-  }
 
   -- so many are open where nothing is planned
   pub open-count : (seen : DeskState) → desk_of kept is_planned ≡ seen → seen.planned ≡ None

@@ -68,10 +68,6 @@ offers-offered arc number lots old new range most offered = λ other quarter fir
     by true offer offer' low is = omega (arith, most, is)
     by false offer offer' low is = omega (arith, low, is)
 
--- the lots that are offered, of what remains and what flows
-pub offered-is : (offer : ℕ) (flow : ℤ) → remaining_of offer flow +ℤ flow ≡ pos offer
-offered-is offer flow = omega (arith, ints)
-
 -- where nothing is offered and nothing flows
 nothing_remains : (offer : ℕ) (flow : ℤ) → offer ≡ 0 → flow ≡ pos 0 → pos 0 ≤ℤ remaining_of offer flow
 nothing_remains offer flow none still = omega (arith, ints)

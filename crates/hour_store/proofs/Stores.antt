@@ -1,10 +1,10 @@
 -- What a store leads back to, after a change that was noted, and after several.
 use Rattle.std.proofs.Common.{◌≡◌, List, [], ◌∷◌, ◌++◌, sym, subst}
 use Rattle.hour_store.specs.declared.change.Change.{Change}
-use Rattle.hour_store.specs.Contents.{AreSame, Contents}
+use Rattle.hour_store.specs.Contents.{Contents}
 use Rattle.hour_store.specs.Inside.{CanGoBack, LogLeadsBack}
-use Rattle.hour_store.specs.Store.{GoesBackTo, StillLeadsBack, Store}
-use Rattle.hour_store.proofs.Leads.{IsUndoneBy, leads-noted, leads-none, led-none}
+use Rattle.hour_store.specs.Store.{StillLeadsBack, Store}
+use Rattle.hour_store.proofs.Leads.{IsUndoneBy, leads-noted, leads-none}
 
 module _ (records noted : List Change) (record_of : Change) (old now : Contents) (is : noted ≡ records ++ record_of ∷ []) (undone : IsUndoneBy record_of old now) where
   -- with a change noted that is taken back, the log leads back to the same
@@ -20,10 +20,3 @@ still-through old mid new one two target leads = two target (one target leads)
 -- with no record it leads to what is
 pub goes-nowhere : (changes : List Change) (now : Contents) → changes ≡ [] → CanGoBack changes now
 goes-nowhere changes now none = record { target = now; leads = subst (λ list. LogLeadsBack list now now) (sym none) (leads-none now) }
-
--- a store with no change noted goes back to what it has, and to nothing else
-pub settled-goes : (store : Store) → store.changes ≡ [] → GoesBackTo store store.contents
-settled-goes store none = subst (λ list. LogLeadsBack list store.contents store.contents) (sym none) (leads-none store.contents)
-
-pub settled-gone : (store : Store) (target : Contents) → store.changes ≡ [] → GoesBackTo store target → AreSame target store.contents
-settled-gone store target none leads = led-none store.contents target (subst (λ list. LogLeadsBack list store.contents target) none leads)

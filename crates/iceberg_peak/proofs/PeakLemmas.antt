@@ -18,9 +18,6 @@ peak_shown-pos peak filled left some more = omega (arith, mod_below filled peak 
 pub peak_shown-le_left : (peak filled left : ℕ) → peak_shown peak filled left ≤ left
 peak_shown-le_left peak filled left = omega arith
 
-pub peak_shown-le_rest : (peak filled left : ℕ) → peak_shown peak filled left ≤ peak - filled % peak
-peak_shown-le_rest peak filled left = omega arith
-
 pub peak_shown-le_peak : (peak filled left : ℕ) → peak_shown peak filled left ≤ peak
 peak_shown-le_peak peak filled left = omega arith
 

@@ -1,5 +1,5 @@
 -- Desks of which what is planned is dropped.
-use Rattle.std.proofs.Common.{◌≡◌, ◌∙◌, ℕ, zero, suc, ◌-◌, ◌<◌, ◌^◌, List, [], ◌∷◌, map, count_by, None, Some, refl, sym, ap, subst, set, slice_get}
+use Rattle.std.proofs.Common.{◌≡◌, ◌∙◌, ℕ, zero, suc, ◌-◌, ◌<◌, ◌^◌, List, [], ◌∷◌, count_by, None, Some, refl, sym, ap, subst, set, slice_get}
 use Rattle.zone_graph.specs.Route.{IsIn}
 use Rattle.zone_graph.proofs.Membership.{from_map}
 use Rattle.zone_graph.specs.Graph.{Graph}
@@ -23,10 +23,6 @@ dropped-set (d ∷ desks) zero desk other at same =
 dropped-set (d ∷ desks) (suc i) desk other at same = ap (λ l. with_nothing_planned d ∷ l) (dropped-set desks i desk other at same)
 
 module _ (f : DeskState → DeskState) (same : (desk : DeskState) → with_nothing_planned (f desk) ≡ with_nothing_planned desk) where
-  pub dropped-map : (desks : List DeskState) → dropped (map f desks) ≡ dropped desks
-  dropped-map [] = refl
-  dropped-map (desk ∷ desks) = ap (λ (d : DeskState). d ∷ dropped (map f desks)) (same desk) ∙ ap (λ l. with_nothing_planned desk ∷ l) (dropped-map desks)
-
   pub dropped-changed : (i : ℕ) (desks : List DeskState) → dropped (changed f i desks) ≡ dropped desks
   dropped-changed zero [] = refl
   dropped-changed zero (desk ∷ desks) = refl

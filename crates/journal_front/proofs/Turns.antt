@@ -58,11 +58,6 @@ making setup = (
 -- ---- a view is changed, and the journal perhaps
 
 module _ (setup : Setup) (journal : List Entry) where
-  -- a standing, after the journal's length has been loaded for it
-  told-holds : (standing : Standing) → Holds setup journal standing
-      → Holds setup journal (record { who = standing.who; entries = standing.entries; known = length journal })
-  told-holds standing holds = record { current = holds.current; known = omega arith }
-
   module _ (state : State ℕ View) (stands : Stands setup journal state) (id : ℕ) (view changed : View) (at : get_elem? state.views id ≡ some view) where
     -- the sums over all views stay where they stay for the one that is changed
     still-leader : is_leading changed ≡ is_leading view → count_by is_leading (set state.views id changed) ≡ 1

@@ -65,14 +65,6 @@ module _ (order : Resting) (ice : Ice) (iceberg : IsIceberg order ice) (some : 0
       let parts = div-mul-le_self (ice.filled + order.left - 1) ice.peak in
       omega (arith, all, parts, turned ice.peak ((ice.filled + order.left - 1) / ice.peak))
 
-  -- there are no more peaks than lots
-  pub peaks-few : peak_count (ice.filled + order.left) ice.peak ≤ ice.filled + order.left
-  peaks-few =
-      let last : ℕ = (ice.filled + order.left - 1) / ice.peak in
-      let parts = div-mul-le_self (ice.filled + order.left - 1) ice.peak in
-      let more : last * 1 ≤ last * ice.peak = mul-le-mul_left last iceberg.some in
-      omega (arith, parts, more, some)
-
   -- the showing peak is one of them
   pub showing-within : peak_number ice.peak ice.filled < peak_count (ice.filled + order.left) ice.peak
   showing-within =

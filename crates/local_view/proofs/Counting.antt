@@ -1,8 +1,6 @@
 -- Zones that pass a test, one after the other.
-use Rattle.std.proofs.Common.{◌≡◌, ◌∙◌, ◌⊎◌, ℕ, zero, suc, ◌+◌, ◌<◌, ◌≤◌, ◌||◌, Bool, true, false, cond, List, [], ◌∷◌, ◌++◌, filter, get_or, inl, inr, length, slice_set, refl, sym, ap, arith}
+use Rattle.std.proofs.Common.{◌≡◌, ◌∙◌, ◌⊎◌, ℕ, zero, suc, ◌+◌, ◌<◌, ◌≤◌, ◌||◌, Bool, true, false, cond, List, [], ◌∷◌, ◌++◌, filter, inl, inr, length, refl, sym, ap, arith}
 use Rattle.std.proofs.lemmas.Bool.{cases_lt}
-use Rattle.std.proofs.lemmas.Bool.Decides.{eqb_tells}
-use Rattle.std.proofs.lemmas.List.{get_or-set_other, get_or-set_same}
 use Rattle.std.specs.List.{list_any, range_with_len}
 use Rattle.cut_proof.proofs.ArcSums.{range_more}
 
@@ -57,11 +55,3 @@ count_more p n count are =
 pub few_more : (b : Bool) (count n : ℕ) → count ≤ n → count + cond b 1 0 ≤ n + 1
 few_more true count n few = omega (arith, few)
 few_more false count n few = omega (arith, few)
-
--- one more flag is set as a test says
-pub flag_set : (q : ℕ → Bool) (flags : List Bool) (n : ℕ) (b : Bool) → n < length flags → ((k : ℕ) → k < n → get_or flags k false ≡ q k) → b ≡ q n
-    → (k : ℕ) → k < n + 1 → get_or (slice_set flags n b) k false ≡ q k
-flag_set q flags n b within told is k less = elim (eqb_tells k n) [
-  | inl same ↦ ap (λ j. get_or (slice_set flags n b) j false) same.1 ∙ get_or-set_same flags n b false within ∙ is ∙ ap q (sym same.1)
-  | inr other ↦ get_or-set_other flags n k b false other.1 ∙ told k (let apart = other.1 in omega (arith, less, apart))
-]

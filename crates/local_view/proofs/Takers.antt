@@ -1,5 +1,5 @@
 -- What a taker takes over one best route after the other, and what it knows after that.
-use Rattle.std.proofs.Common.{◌≡◌, ◌∙◌, ◌+◌, ◌-◌, ◌<◌, ℕ, true, List, [], ◌∷◌, ◌++◌, length, not, Option, is_some, IfNone, IfSome, Some, None, take, refl, sym, ap, subst, arith}
+use Rattle.std.proofs.Common.{◌≡◌, ◌∙◌, ◌+◌, ◌-◌, ◌<◌, ℕ, true, List, [], ◌∷◌, ◌++◌, length, not, Option, is_some, Some, None, refl, sym, ap, subst, arith}
 use Rattle.std.specs.List.{list_all}
 use Rattle.std.specs.Option.{option_map}
 use Rattle.order_kinds.specs.declared.side.Side.{Side}
@@ -17,61 +17,20 @@ use Rattle.route_choice.specs.declared.route_search.RouteSearch.{RouteSearch}
 use Rattle.route_choice.specs.Freshness.{IsFresh, is_known, directed_route, has_room}
 use Rattle.route_choice.specs.Poured.{AreRoomsAfter, lots_of, rooms_after}
 use Rattle.route_choice.proofs.Fresh.{known_is_reached, searched_arcs}
-use Rattle.route_choice.proofs.Pours.{IsPoured, IsPourLeg, ended, leg_over_route, no_leg_without_route, one_more, over_route, pour_leg-is}
-use Rattle.route_tree.specs.Tree.{TellsRoutes, Tree, told_route}
+use Rattle.route_choice.proofs.Pours.{IsPoured, IsPourLeg, ended, leg_over_route, one_more, over_route, pour_leg-is}
+use Rattle.route_tree.specs.Tree.{TellsRoutes, Tree}
 use Rattle.route_tree.proofs.Told.{routes_stay, stays_told}
 use Rattle.local_view.specs.Nearness.{is_joined}
 use Rattle.local_view.specs.Poured.{CarriesNext, leg_with, legs_with, room_after_next, sent_from, sent_to}
 use Rattle.local_view.specs.Takers.{IsOwn, IsTaker, best_between}
-use Rattle.local_view.specs.Trees.{TellsTakers}
 
 -- ---- routes between the taker and an order
-
--- the tree of the order's zone tells the best one
-pub shared-tells : (graph : Graph) (room : Arc → ℕ) (side : Side) (zone other : ℕ) (tree : Tree) → HasZone graph zone → TellsTakers graph room side other tree
-    → told_route tree zone ≡ best_between graph room side zone other
-shared-tells graph room side zone other tree there t =
-    t.told.routes zone there
-    ∙ ap (λ z. directed_route graph room z zone tree.towards) t.here
-    ∙ ap (directed_route graph room other zone) t.towards
-    ∙ by side
-  where
-    by : (s : Side) → directed_route graph room other zone (not (same_side s Sell)) ≡ best_between graph room s zone other
-    by Buy = refl
-    by Sell = refl
 
 between : (graph : Graph) (room : Arc → ℕ) (side : Side) (zone other : ℕ) → directed_route graph room zone other (same_side side Sell) ≡ best_between graph room side zone other
 between graph room Buy zone other = refl
 between graph room Sell zone other = refl
 
--- and the taker's own tree does
-pub own-tells : (graph : Graph) (room : Arc → ℕ) (side : Side) (zone other : ℕ) (tree : Tree) → HasZone graph other → IsOwn graph room side zone tree
-    → told_route tree other ≡ best_between graph room side zone other
-own-tells graph room side zone other tree there own =
-    own.told.routes other there
-    ∙ ap (λ z. directed_route graph room z other tree.towards) own.here
-    ∙ ap (directed_route graph room zone other) own.towards
-    ∙ between graph room side zone other
-
-pub some-told : (found : Option ℕ) (told best : Option (List Arc)) (route : List Arc) → told ≡ best → IfSome found (λ count. told ≡ Some (take count route))
-    → IfSome found (λ count. best ≡ Some (take count route))
-some-told None told best route same is = tt
-some-told (Some count) told best route same is = sym same ∙ is
-
-pub none-told : (found : Option ℕ) (told best : Option (List Arc)) → told ≡ best → IfNone found (told ≡ None) → IfNone found (best ≡ None)
-none-told None told best same is = sym same ∙ is
-none-told (Some count) told best same is = tt
-
 -- ---- one leg
-
-pub none_over : (graph : Graph) (room : Arc → ℕ) (side : Side) (zone other left : ℕ) → best_between graph room side zone other ≡ None → leg_with graph room side zone other left ≡ None
-none_over graph room side zone other left none = no_leg_without_route graph room (sent_from side zone other) (sent_to side zone other) left none
-
-pub carries_none : (room : Arc → ℕ) (next : Option RouteLeg) → next ≡ None → CarriesNext room room next None
-carries_none room next none = record {
-  lots_are = ap (option_map (λ (leg : RouteLeg). leg.lots)) (sym none);
-  rooms = λ arc. ap (λ n. room_after_next room n arc) (sym none);
-}
 
 module _ (graph : Graph) (is : IsGraph graph) (rooms : List (ℕ × ℕ)) (size : length rooms ≡ border_count graph) (fit : FitTogether graph (room_of rooms)) (side : Side)
     (zone other left : ℕ) (some : 0 < left) (route : List Arc) (found : best_between graph (room_of rooms) side zone other ≡ Some route) where
@@ -171,12 +130,6 @@ taker-first graph start room side zone there same = record {
 pub record IsTaken (graph : Graph) (start : Arc → ℕ) (side : Side) (zone other most : ℕ) (room : Arc → ℕ) (left : ℕ) : Type 0 where
   pub legs : List RouteLeg
   pub poured : IsPoured graph start (sent_from side zone other) (sent_to side zone other) most room left legs
-
-pub nothing_taken : (graph : Graph) (start : Arc → ℕ) (side : Side) (zone other most : ℕ) → IsTaken graph start side zone other most start most
-nothing_taken graph start side zone other most = record {
-  legs = [];
-  poured = record { rooms = refl; lots = omega arith; onward = λ rest run. run };
-}
 
 -- one more of them
 pub record TakesMore (graph : Graph) (start : Arc → ℕ) (side : Side) (zone other most : ℕ) (after : Arc → ℕ) (left lots : ℕ) : Type 0 where

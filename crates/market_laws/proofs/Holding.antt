@@ -25,11 +25,6 @@ hold-at P before [] e back holds = subst (λ b. P b e) (sym (append-nil before))
 hold-at P before (first ∷ front) e back holds =
     subst (λ b. P b e) (append_snoc before first front) (hold-at P (and_then before first) front e back holds.1)
 
--- what holds anyway
-pub hold-all : (P : List Event → Event → Type 0) (before events : List Event) → ((b : List Event) (e : Event) → P b e) → HoldAfter P before events
-hold-all P before [] each = tt
-hold-all P before (e ∷ events) each = (each before e, hold-all P (and_then before e) events each)
-
 -- what follows after fitting events
 pub hold-fit : (setup : Setup) (P Q : List Event → Event → Type 0) → ((b : List Event) (e : Event) → FitAfter setup [] b → P b e → Q b e)
     → (before events : List Event) → FitAfter setup [] before → FitAfter setup before events → HoldAfter P before events → HoldAfter Q before events

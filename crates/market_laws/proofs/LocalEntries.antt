@@ -18,13 +18,6 @@ use Rattle.market_laws.proofs.LocalLines.{sweep-agree, sweep-named, take-agree, 
 use Rattle.market_laws.proofs.NamedByHour.{AreNamedByHour, IsNamedByHour, named-append}
 use Rattle.market_laws.proofs.LocalStates.{Agree, agree-append, agree-more, left-agree, next_name-agree}
 
-pub sweeps-named : (parts : List Part) (graph : Graph) (swept : List ℕ) (events : List Event) → AreNamedByHour events → AreNamedByHour (sweeps parts graph swept events)
-sweeps-named parts graph [] events named = λ e h. absurd h
-sweeps-named parts graph (hour ∷ swept) events named =
-    let legs : List Event = sweep parts graph hour events in
-    let own = sweep-named parts graph hour events named in
-    named-append legs (sweeps parts graph swept (events ++ legs)) own (sweeps-named parts graph swept (events ++ legs) (named-append events legs named own))
-
 pub sweeps-agree : (hours : List ℕ) (parts : List Part) (graph : Graph) (swept : List ℕ) (a b : List Event) → Agree hours a b
     → ((hour : ℕ) → IsIn hour swept → IsIn hour hours) → sweeps parts graph swept a ≡ sweeps parts graph swept b
 sweeps-agree hours parts graph [] a b agree within = refl

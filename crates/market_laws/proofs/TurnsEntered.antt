@@ -37,20 +37,6 @@ unfolding sweep
 sweep-turns graph parts hour events =
     hold-steps (IsFirstTurn graph) (left_in_hour events hour) (sweep_leg parts graph hour) (λ before e is. sweep_leg-turn graph before parts hour e is) events
 
--- a leg of the first buy is in its turn
-first_turn-turn : (graph : Graph) (events : List Event) (e : Event) → IsFirstTurn graph events e → IsTurn graph events e
-first_turn-turn graph events (event.Leg contract leg) is = is.in_turn
-first_turn-turn graph events (event.Entered given caller order) is = tt
-first_turn-turn graph events (event.EnteredBlock given caller order) is = tt
-first_turn-turn graph events (event.BlockLeg first last leg) is = tt
-first_turn-turn graph events (event.Granted arc first last lots) is = tt
-first_turn-turn graph events (event.Offered arc first last lots) is = tt
-first_turn-turn graph events (event.Halted border first last) is = tt
-first_turn-turn graph events (event.Resumed border first last) is = tt
-first_turn-turn graph events (event.Gated gated asked) is = tt
-first_turn-turn graph events (event.Withdrawn given lots) is = tt
-first_turn-turn graph events (event.Reduced given by) is = tt
-
 -- what is made by a taking or a sweep is in its turn
 made-turn : (parts : List Part) (graph : Graph) (start before : List Event) (e : Event) → IsMade parts graph start before e → IsTurn graph before e
 made-turn parts graph start before (event.Leg contract leg) made = elim made [

@@ -169,28 +169,6 @@ with_turns reader caller commands r there few =
       counted = λ k lt. counted_with_commands reader.commands reader.turns caller commands r.counted among k (omega arith);
     }
 
--- another last clock line of a caller
-pub with_clock : (reader : Reader) (caller : ℕ) (instant : Option ℤ) → IsReading reader
-    → IsReading (record reader { clocks = slice_set reader.clocks caller instant })
-with_clock reader caller instant r =
-    let same : length (slice_set reader.clocks caller instant) ≡ length reader.clocks = length-set reader.clocks caller instant in
-    record {
-      range = r.range;
-      some_zone = r.some_zone;
-      few_zones = r.few_zones;
-      few_borders = r.few_borders;
-      few_callers = r.few_callers;
-      few_turns = r.few_turns;
-      zone_names = r.zone_names;
-      caller_names = r.caller_names;
-      ends = r.ends;
-      known = r.known;
-      matched_roles = r.matched_roles;
-      matched = r.matched;
-      clocked = same ∙ r.clocked;
-      counted = r.counted;
-    }
-
 -- the hours of the day that was read
 hours_in_range : (day : Option DeliveryDay) (hours : ℕ) → IfSome day (λ day. (23 ≤ day.hours) × (day.hours ≤ 25))
     → IfSome day (λ day. hours ≡ day.hours) → IsSome day → (23 ≤ hours) × (hours ≤ 25)

@@ -1,5 +1,5 @@
 -- What a pool keeps while places move between its rings.
-use Rattle.std.proofs.Common.{◌≡◌, ◌≢◌, inl, inr, ℕ, zero, suc, ◌+◌, ◌<◌, ◌≤◌, List, [], ◌∷◌, ◌++◌, length, map, get_or, set, drop, sum_by, Contains, Option, Some, None, IsSome, refl, sym, ap, ◌∙◌, subst, arith}
+use Rattle.std.proofs.Common.{◌≡◌, ◌≢◌, inl, inr, ℕ, zero, suc, ◌+◌, ◌<◌, ◌≤◌, List, [], ◌∷◌, ◌++◌, length, get_or, set, drop, sum_by, Contains, Option, Some, None, IsSome, refl, sym, ap, ◌∙◌, subst, arith}
 use Rattle.std.proofs.lemmas.Bool.{cases_eq, cases_lt}
 use Rattle.std.proofs.lemmas.List.{get_or-set_same, get_or-set_other, length-set, get_or-drop, length-drop, drop-set-add, drop-set-lt, get_or_past}
 use Rattle.std.proofs.lemmas.List.Sums.{sum_by-cons}
@@ -7,7 +7,6 @@ use Rattle.order_pool.specs.Lines.{line_at, first_in, StandsIn, StandsBetween, I
 use Rattle.order_pool.specs.Rings.{AreRings}
 use Rattle.order_pool.specs.Pool.{PoolState, IsLive, with_item, IsSound}
 use Rattle.order_pool.specs.Slots.{IsPool}
-use Rattle.order_pool.proofs.Chains.{Misses}
 use Rattle.order_pool.proofs.OnceLemmas.{insertion_split}
 use Rattle.order_pool.proofs.MoveLemmas.{IsShifted, between_in}
 
@@ -137,16 +136,6 @@ module _ {T : Type 0} (places : List (Option T)) (rings : List (List ℕ)) (used
           let P : ℕ → Type 0 = λ k. StandsIn rings k place in
           pool.held line place (subst P e stands)
 
-  pub not_full_where_one_free : (place : ℕ) → first_in (line_at rings 0) ≡ Some place → sum_by length (drop 1 rings) ≢ 4096
-  not_full_where_one_free place is =
-      λ full.
-      let has = first_in_some (line_at rings 0) place is in
-      omega (arith, has.1, full, total_behind rings (omega (arith, pool.two)), pool.total, pool.within)
-
-  pub not_full_where_one_unused : used < 4096 → sum_by length (drop 1 rings) ≢ 4096
-  not_full_where_one_unused more =
-      λ full. omega (arith, more, full, total_behind rings (omega (arith, pool.two)), pool.total)
-
   -- a place moves or joins, and holds what belongs where it goes
   pub IsPool-shifted : (new : List (List ℕ)) (place ring grown : ℕ) (slot : Option T) → IsShifted rings new place ring grown → AreRings new → place < used + grown → used + grown ≤ 4096 → ((other : ℕ) → other < used + grown → other ≢ place → other < used)
       → (ring ≡ 0 → slot ≡ None) → (0 < ring → IsSome slot) → IsPool (set places place slot) new (used + grown)
@@ -248,10 +237,3 @@ IsSound-with_item {T} pool place item live sound =
       once = sound.once;
       few = sound.few;
     }
-
--- the items of places that a change of another place leaves
-pub items_elsewhere : {T : Type 0} (places : List (Option T)) (place : ℕ) (slot : Option T) (line : List ℕ) → Misses place line → map (λ p. get_or (set places place slot) p None) line ≡ map (λ p. get_or places p None) line
-items_elsewhere places place slot [] misses = refl
-items_elsewhere places place slot (x ∷ line) misses =
-    let head : get_or (set places place slot) x None ≡ get_or places x None = get_or-set_other places place x slot None misses.0 in
-    cc (head, items_elsewhere places place slot line misses.1)

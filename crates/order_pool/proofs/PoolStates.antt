@@ -1,5 +1,5 @@
 -- What the calls of a pool ask and what they leave, said of what callers see.
-use Rattle.std.proofs.Common.{◌≡◌, ◌≢◌, ℕ, ◌+◌, ◌<◌, List, [], ◌∷◌, ◌++◌, length, get_or, set, drop, sum_by, Option, Some, None, IsSome, sym, ap, ◌∙◌, subst, arith, length-append}
+use Rattle.std.proofs.Common.{◌≡◌, ◌≢◌, ℕ, ◌+◌, ◌<◌, List, [], ◌∷◌, ◌++◌, length, get_or, set, drop, Option, Some, None, IsSome, sym, ap, ◌∙◌, subst, arith, length-append}
 use Rattle.std.proofs.lemmas.List.{length-set, get_or-map}
 use Rattle.order_pool.specs.Lines.{line_at, first_in, StandsIn, IsInserted, IsRemoved, IsMoved}
 use Rattle.order_pool.specs.Rings.{AreRings}
@@ -8,7 +8,7 @@ use Rattle.order_pool.specs.declared.slots.Slot.{Slot}
 use Rattle.order_pool.specs.declared.slots.Slot.TheVariants.{Free, Held}
 use Rattle.order_pool.specs.Slots.{item_in, places_in, IsPool}
 use Rattle.order_pool.proofs.FilledLemmas.{filled_at, filled-set, filled-push}
-use Rattle.order_pool.proofs.PoolLemmas.{pool_is_sound, full_where_none_free, not_full_where_one_free, not_full_where_one_unused, live_low, IsPool-rewritten}
+use Rattle.order_pool.proofs.PoolLemmas.{pool_is_sound, full_where_none_free, live_low, IsPool-rewritten}
 use Rattle.order_pool.proofs.PoolCalls.{insert_free, insert_apart, insert_pool, insert_lines, insert_stands, insert_count, insert_holds, fresh_absent, fresh_pool, fresh_lines, fresh_stands, fresh_count, fresh_holds, take_pool, take_lines, take_count}
 
 -- the pool of these slots and rings
@@ -55,16 +55,6 @@ module _ {T : Type 0} (slots : List (Slot T)) (rings : List (List ℕ)) (state :
   none_free empty all place low =
       let P : List (Option T) → Type 0 = λ l. IsSome (get_or l place None) in
       subst P places_are ((full_where_none_free (places_in slots) rings (length slots) pool empty all).1 place low)
-
-  pub count_full : first_in (line_at rings 0) ≡ None → length slots ≡ 4096 → sum_by length state.lines ≡ 4096
-  count_full empty all = ap (sum_by length) (sym lines_are) ∙ (full_where_none_free (places_in slots) rings (length slots) pool empty all).0
-
-  -- a pool with a free place is not full
-  pub not_full_free : (place : ℕ) → first_in (line_at rings 0) ≡ Some place → sum_by length state.lines ≢ 4096
-  not_full_free place is = λ full. not_full_where_one_free (places_in slots) rings (length slots) pool place is (ap (sum_by length) lines_are ∙ full)
-
-  pub not_full_unused : length slots < 4096 → sum_by length state.lines ≢ 4096
-  not_full_unused more = λ full. not_full_where_one_unused (places_in slots) rings (length slots) pool more (ap (sum_by length) lines_are ∙ full)
 
   -- a slot that was read shows the item of its place
   pub item_read : (place : ℕ) (slot : Slot T) → place < length slots → slot ≡ get_or slots place slot → item_at state place ≡ item_in slot
@@ -136,9 +126,6 @@ module _ {T : Type 0} (slots : List (Slot T)) (rings : List (List ℕ)) (state :
     new_absent ring stands =
         let P : ℕ → Type 0 = λ p. StandsIn rings ring p in
         fresh_absent (places_in slots) rings (length slots) pool line before more (within_in line within) (ahead_in line before ahead) ring (subst P next stands)
-
-    pub new_free : item_at state place ≡ None
-    new_free = ap (λ l. get_or l place None) (sym places_are) ∙ pool.untouched place (omega (arith, next))
 
     module _ (item : T) (after : List (Slot T)) (is : after ≡ slots ++ Held item ∷ []) (new : List (List ℕ)) (joined : IsInserted rings new (line + 1) before place) (sound : AreRings new) where
       inserted : IsInserted rings new (line + 1) before (length slots)

@@ -7,7 +7,6 @@ use Rattle.zone_graph.specs.Graph.{Graph, HasZone}
 use Rattle.market_model.specs.declared.event.Event.{Event}
 use Rattle.market_model.specs.Blocks.{StandingBlock, standing_block}
 use Rattle.market_model.specs.Orders.{left}
-use Rattle.market_laws.proofs.Legs.{opposite-opposite}
 use Rattle.market_laws.proofs.Placed.{all_are_sound}
 use Rattle.market_laws.proofs.Pours.{ArePair}
 use Rattle.plain_orders.specs.Histories.{IsSomeHistory}
@@ -44,22 +43,6 @@ quantities-pair graph events taker maker poured =
       one_last = ap (λ (b : StandingBlock). b.order.last) (sym other) ∙ meet.one_last ∙ ap (λ (b : StandingBlock). b.order.last) own;
       one_quantity = ap (λ (b : StandingBlock). b.order.quantity) (sym other) ∙ poured.one_quantity ∙ ap (λ (b : StandingBlock). b.order.quantity) own;
       opposed = ap (λ (b : StandingBlock). b.order.side) (sym other) ∙ meet.opposed ∙ ap (λ (b : StandingBlock). opposite b.order.side) own;
-    }
-
--- the other way round
-pub turned : (graph : Graph) (events : List Event) (taker maker : StandingBlock) → ArePoured graph events taker maker → ArePoured graph events maker taker
-turned graph events taker maker poured =
-    let meet = poured.meet in
-    record {
-      meet = record {
-        legal = meet.legal;
-        own_stands = meet.other_stands;
-        other_stands = meet.own_stands;
-        one_first = sym meet.one_first;
-        one_last = sym meet.one_last;
-        opposed = sym (ap opposite meet.opposed ∙ opposite-opposite taker.order.side);
-      };
-      one_quantity = sym poured.one_quantity;
     }
 
 -- as much is left of the one as of the other: all of both

@@ -1,5 +1,5 @@
 -- Legs that count in all quarters of an hour.
-use Rattle.std.proofs.Common.{◌≡◌, ◌∙◌, ◌≤◌, ◌&&◌, ◌++◌, ℕ, Bool, true, List, length, take, refl, sym, subst}
+use Rattle.std.proofs.Common.{◌≡◌, ◌∙◌, ◌&&◌, ◌++◌, ℕ, Bool, true, List, length, take, refl, sym, subst}
 use Rattle.std.proofs.lemmas.Bool.{eq-eqb}
 use Rattle.order_kinds.specs.declared.contract.Contract.{Contract}
 use Rattle.order_kinds.specs.declared.contract.Part.TheVariants as part
@@ -11,7 +11,7 @@ use Rattle.zone_graph.specs.Pour.{lots_if, uses}
 use Rattle.market_model.specs.declared.event.Event.{Event}
 use Rattle.market_model.specs.declared.event.Event.TheVariants as event
 use Rattle.market_model.specs.declared.event.Leg.{Leg}
-use Rattle.plain_capacity.specs.Rows.{CanCarry, FlowsMore, IsCarried, IsNoted}
+use Rattle.plain_capacity.specs.Rows.{CanCarry, FlowsMore, IsCarried}
 use Rattle.plain_capacity.specs.Hour.{CanNoteIn, Capacity, IsLegOfHour, rows_in}
 use Rattle.plain_capacity.proofs.Hours.{each, written_back}
 
@@ -42,25 +42,6 @@ leg-can hour leg _ capacity none can = absurd none
 counted : (counts : Bool) (route : List Arc) (lots : ℕ) (old new : List Row) → counts ≡ true → IsCarried route lots old new
     → FlowsMore (λ arc. lots_if (counts && uses route arc) lots) old new
 counted counts route lots old new on carried = subst (λ b. FlowsMore (λ arc. lots_if (b && uses route arc) lots) old new) (sym on) carried.flows
-
-pub leg-noted : (hour number : ℕ) (leg : Leg) (e : Event) (old new : List Row) → IsLegOfHour hour leg e → 1 ≤ number → number ≤ 4
-    → IsCarried leg.route leg.lots old new → IsNoted (quarter_of hour number) e old new
-leg-noted hour number leg (event.Leg contract made) old new (same, whole) first last carried =
-    let by : IsCarried made.route made.lots old new = subst (λ (l : Leg). IsCarried l.route l.lots old new) (sym same) carried in
-    record {
-      size = by.size;
-      offers = by.offers;
-      flows = counted (contract_has contract (quarter_of hour number)) made.route made.lots old new
-          (subst (λ (c : Contract). contract_has c (quarter_of hour number) ≡ true) (sym whole) (hour-has hour number first last)) by;
-    }
-leg-noted hour number leg (event.BlockLeg from to made) old new (same, within) first last carried =
-    let by : IsCarried made.route made.lots old new = subst (λ (l : Leg). IsCarried l.route l.lots old new) (sym same) carried in
-    record {
-      size = by.size;
-      offers = by.offers;
-      flows = counted (block_has from to (quarter_of hour number)) made.route made.lots old new (block-has from to hour within number first last) by;
-    }
-leg-noted hour number leg _ old new none first last carried = absurd none
 
 -- rows that are written back
 pub carried_back : (route : List Arc) (lots : ℕ) (old was new rest : List Row) (n : ℕ) → was ≡ old → length was ≡ n → IsCarried route lots was new

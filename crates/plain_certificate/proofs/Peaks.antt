@@ -1,6 +1,6 @@
 -- The peaks of an iceberg with sound numbers.
 use Rattle.std.proofs.Common.{◌≡◌, ℕ, suc, ◌+◌, ◌-◌, ◌*◌, ◌/◌, ◌<◌, ◌≤◌, [], ◌∷◌, ◌++◌, sum_by, ap, arith, w32, FitsSigned}
-use Rattle.std.proofs.Math.Nat.{div-mul-le_self, mul-le-mul, mul-le-mul_left}
+use Rattle.std.proofs.Math.Nat.{div-mul-le_self, mul-le-mul_left}
 use Rattle.std.proofs.lemmas.List.Sums.{sum_by-append, sum_by-cons}
 use Rattle.std.proofs.lemmas.Nat.{le-div}
 use Rattle.std.specs.List.{range_with_len}
@@ -42,18 +42,6 @@ module _ (order : Order) (peak : Lots) (delta : ℕ) (sound : HasSoundNumbers or
   -- so its price fits
   pub price-within : (number : ℕ) → number < peak_count order.quantity.0 peak.0 → FitsSigned w32 (peak_price order.side order.price delta number).0
   price-within number within = price-fits order.side order.price delta number (peaks-sound order peak delta sound is).price (change-within number within)
-
-  -- the lots up to the end of a peak
-  pub end-within : (number : ℕ) → number < peak_count order.quantity.0 peak.0 → peak.0 * (number + 1) ≤ 999000
-  end-within number within =
-      let peaks = (peaks-sound order peak delta sound is) in
-      let few = peaks.few in
-      let less = peaks.less in
-      let most = peaks.most in
-      let one : peak.0 ≤ 9990 = omega arith in
-      let all : number + 1 ≤ 100 = omega arith in
-      let product : peak.0 * (number + 1) ≤ 9990 * 100 = mul-le-mul one all in
-      product
 
 -- a part of an order has no more peaks than all of it
 pub part-fewer : (part total peak : ℕ) → 1 ≤ peak → part ≤ total → peak_count part peak ≤ peak_count total peak

@@ -28,9 +28,6 @@ module _ (graph : Graph) (events : List Event) (caller : ℕ) (order : Order) (c
   enters : OrderEnters can.setup events (name_of_next events order) caller order
   enters = can.each events order (inl refl)
 
-  pub can-legal : IsLegalOver graph events
-  can-legal = record { setup = can.setup; over = can.over; fit = can.fit }
-
   pub start-legal : IsLegalOver graph (with_order events caller order)
   start-legal = record {
     setup = can.setup;

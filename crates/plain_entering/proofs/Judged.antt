@@ -13,7 +13,7 @@ use Rattle.market_model.specs.Certificate.{bound_of, unfilled_zones}
 use Rattle.market_model.specs.Entering.{after_taking, name_of_next, rest_of, with_order}
 use Rattle.market_model.specs.Refusals.{basket_order_refusal, order_desk_refusal}
 use Rattle.market_model.specs.Rules.{first_broken}
-use Rattle.market_model.specs.Sweep.{first_answer, or_else}
+use Rattle.market_model.specs.Sweep.{or_else}
 use Rattle.market_model.specs.StateRules.{filling_rules}
 use Rattle.market_laws.proofs.Replaced.{of_kind}
 use Rattle.plain_entering.proofs.Parts.{IsTaken}
@@ -57,11 +57,6 @@ pub one-judged : (graph : Graph) (events : List Event) (caller : ℕ) (order : O
     ≡ basket_order_refusal graph events caller order
 unfolding unfilled_zones bound_of
 one-judged graph events caller order = refl
-
--- a basket
-pub basket-judged : (graph : Graph) (events : List Event) (caller : ℕ) (orders : List Order)
-    → first_answer (basket_order_refusal graph events caller) orders ≡ first_broken (filling_rules graph events caller (command.EnterBasket orders))
-basket-judged graph events caller orders = sym (or-nothing (first_answer (basket_order_refusal graph events caller) orders))
 
 -- the same of what was taken
 module _ (graph : Graph) (events : List Event) (caller : ℕ) (order : Order) (start after : List Event) (name : OrderName)

@@ -17,7 +17,6 @@ use Rattle.market_model.specs.WellFormed.{IsMarketSetup, IsLegalOver}
 use Rattle.market_laws.proofs.Falls.{next_leg-lowers, sweep-run, sweep_leg-lowers, take-run}
 use Rattle.market_laws.proofs.Legs.{next_leg-fits, sweep_leg-fits}
 use Rattle.market_laws.proofs.Repeats.{fit-more}
-use Rattle.plain_matching.specs.Grown.{GrewByPart}
 
 -- a history grew by a first part of its legs, and the others are those of the history as it is now
 pub record IsSoFar (legs : List Event → List Event) (old now : List Event) : Type 0 where
@@ -40,9 +39,6 @@ pub all-so_far : (legs : List Event → List Event) (old now : List Event) → I
 all-so_far legs old now so_far none =
     so_far.grew
     ∙ ap (λ events. old ++ events) (sym (so_far.onward ∙ ap (λ events. so_far.done ++ events) none ∙ append-nil so_far.done))
-
-pub part-so_far : (legs : List Event → List Event) (old now : List Event) → IsSoFar legs old now → GrewByPart (legs old) old now
-part-so_far legs old now so_far = record { done = so_far.done; rest = legs now; parts = so_far.onward; grew = so_far.grew }
 
 -- what a next leg does: the legs from the history with it follow it, the history stays legal, and a
 -- number falls

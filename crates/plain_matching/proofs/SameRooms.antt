@@ -1,18 +1,17 @@
 -- Partners and legs are the same where the rooms of the graph's arcs are.
-use Rattle.std.proofs.Common.{◌≡◌, ◌∙◌, ℕ, ◌&&◌, List, min, Option, Some, None, refl, ap, if◌then◌else◌}
-use Rattle.std.specs.Option.{option_and_then, option_map, is_some}
-use Rattle.std.specs.Ordering.{is_lt}
+use Rattle.std.proofs.Common.{◌≡◌, ◌∙◌, ℕ, ◌&&◌, List, min, Option, Some, None, refl, ap}
+use Rattle.std.specs.Option.{option_map, is_some}
 use Rattle.zone_graph.specs.declared.route.Arc.{Arc}
 use Rattle.zone_graph.specs.Graph.{Graph, HasArc, IsGraph}
 use Rattle.zone_graph.specs.Route.{best_route}
 use Rattle.zone_graph.proofs.BestRoute.{best_route-rooms}
 use Rattle.market_model.specs.declared.event.Event.{Event}
-use Rattle.market_model.specs.Lines.{buyer_zone, can_trade, seller_zone, time_cmp}
+use Rattle.market_model.specs.Lines.{buyer_zone, can_trade, seller_zone}
 use Rattle.market_model.specs.Orders.{Standing}
 use Rattle.market_model.specs.Taking.{leg_over}
 use Rattle.market_laws.proofs.Restrict.{find-same}
 use Rattle.route_carrying.proofs.Carrying.{carried-rooms, best_route-arcs}
-use Rattle.plain_matching.specs.Over.{crosses_price, leg_of_buy_over, partner_in, resting_trade_over, trade_over}
+use Rattle.plain_matching.specs.Over.{crosses_price, partner_in, trade_over}
 
 module _ (graph : Graph) (room other : Arc → ℕ) (is : IsGraph graph) (same : (arc : Arc) → HasArc graph arc → room arc ≡ other arc) where
   pub can_trade-rooms : (own another : Standing) → can_trade graph room own another ≡ can_trade graph other own another
@@ -39,17 +38,3 @@ module _ (graph : Graph) (room other : Arc → ℕ) (is : IsGraph graph) (same :
           leg_at : (lots : ℕ) → List Arc → Event
           leg_at lots route = Rattle.market_model.specs.declared.event.Event.TheVariants.Leg taker.order.contract
               (record { taker = taker.name; maker = maker.name; lots = lots; price = maker.price; route = route })
-
-  pub resting_trade_over-rooms : (buy sell : Standing) → resting_trade_over graph room buy sell ≡ resting_trade_over graph other buy sell
-  resting_trade_over-rooms buy sell =
-      ap (λ leg. if is_lt (time_cmp buy sell) then leg else trade_over graph room buy sell) (trade_over-rooms sell buy)
-      ∙ ap (λ leg. if is_lt (time_cmp buy sell) then trade_over graph other sell buy else leg) (trade_over-rooms buy sell)
-
-  pub leg_of_buy_over-rooms : (sells : List Standing) (buy : Standing) → leg_of_buy_over graph room sells buy ≡ leg_of_buy_over graph other sells buy
-  leg_of_buy_over-rooms sells buy =
-      ap (option_and_then (resting_trade_over graph room buy)) (partner_in-rooms sells buy)
-      ∙ on (partner_in graph other sells buy)
-    where
-      on : (o : Option Standing) → option_and_then (resting_trade_over graph room buy) o ≡ option_and_then (resting_trade_over graph other buy) o
-      on None = refl
-      on (Some sell) = resting_trade_over-rooms buy sell

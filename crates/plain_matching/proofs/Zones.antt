@@ -1,5 +1,5 @@
 -- The zones of the two orders of a trade, and what is in reach.
-use Rattle.std.proofs.Common.{◌≡◌, ◌∙◌, ℕ, ◌&&◌, Bool, false, List, Some, None, length, get_or, ◌<◌, refl, ap}
+use Rattle.std.proofs.Common.{◌≡◌, ◌∙◌, ℕ, ◌&&◌, Bool, false, List, Some, None, refl, ap}
 use Rattle.std.specs.List.{find, list_any}
 use Rattle.order_kinds.specs.declared.order.Order.{Order}
 use Rattle.order_kinds.specs.declared.side.Side.{Side}
@@ -8,7 +8,6 @@ use Rattle.zone_graph.specs.declared.route.Arc.{Arc}
 use Rattle.zone_graph.specs.Graph.{Graph, HasZone}
 use Rattle.zone_graph.specs.Reach.{reaches}
 use Rattle.zone_graph.proofs.Finding.{from_find}
-use Rattle.zone_graph.proofs.Places.{at_place}
 use Rattle.cut_proof.specs.Cut.{reaches_in}
 use Rattle.market_model.specs.Lines.{buyer_zone, can_trade, seller_zone}
 use Rattle.market_model.specs.Orders.{Standing}
@@ -18,23 +17,6 @@ use Rattle.plain_routes.specs.declared.reach.ReachedZones.{ReachedZones}
 use Rattle.plain_routes.specs.Reached.{has_zone}
 use Rattle.plain_matching.specs.Over.{AreInZones, crosses_price, is_buy, is_in_reach, partner_in}
 use Rattle.plain_matching.proofs.Places.{find-nothing}
-
-module _ (graph : Graph) (own other : Standing) (own_zone : HasZone graph own.order.zone) (other_zone : HasZone graph other.order.zone) where
-  pub seller-known : HasZone graph (seller_zone own other)
-  unfolding on
-  seller-known = by own.order.side
-    where
-      by : (side : Side) → HasZone graph (seller_zone (on side own) other)
-      by Buy = other_zone
-      by Sell = own_zone
-
-  pub buyer-known : HasZone graph (buyer_zone own other)
-  unfolding on
-  buyer-known = by own.order.side
-    where
-      by : (side : Side) → HasZone graph (buyer_zone (on side own) other)
-      by Buy = own_zone
-      by Sell = other_zone
 
 -- the zones that a route joins with the zone of an order are those of its partners
 reached-is : (graph : Graph) (room : Arc → ℕ) (own other : Standing)
@@ -79,8 +61,3 @@ found-partner graph room zones line own order towards of_order of_side are in_zo
 pub partner-known : (graph : Graph) (room : Arc → ℕ) (line : List Standing) (own other : Standing) → AreInZones graph line
     → partner_in graph room line own ≡ Some other → HasZone graph other.order.zone
 partner-known graph room line own other in_zones found = in_zones.each other (from_find (can_trade graph room own) other line found).0
-
--- so is that of the order at a place
-pub at-known : (graph : Graph) (line : List Standing) (place : ℕ) (d : Standing) → AreInZones graph line → place < length line
-    → HasZone graph (get_or line place d).order.zone
-at-known graph line place d in_zones within = in_zones.each (get_or line place d) (at_place line place d within)

@@ -1,6 +1,5 @@
 -- An event of a history can be taken in, and then the tallies tell what the events with it come to.
-use Rattle.std.proofs.Common.{◌≡◌, ◌≢◌, ◌∙◌, inl, ℕ, ◌+◌, ◌<◌, ◌≤◌, Bool, true, false, cond, List, [], ◌∷◌, ◌++◌, drop, filter, get_or, length, length-append, length-take, Some, take, refl, sym, ap, subst, if◌then◌else◌, arith}
-use Rattle.std.proofs.lemmas.List.{take-append-drop}
+use Rattle.std.proofs.Common.{◌≡◌, ◌≢◌, ◌∙◌, inl, ℕ, ◌+◌, ◌<◌, ◌≤◌, Bool, true, false, cond, List, [], ◌∷◌, ◌++◌, filter, get_or, length, length-append, length-take, Some, take, refl, sym, ap, subst, if◌then◌else◌, arith}
 use Rattle.std.proofs.lemmas.List.Sums.{sum_by-append}
 use Rattle.order_kinds.specs.declared.order.OrderName.{OrderName}
 use Rattle.order_kinds.specs.declared.side.Side.{Side}
@@ -235,13 +234,6 @@ tallies-same setup before e hour tallies comes touch tell number d within =
 
 pub comes-at : (events : List Event) (place : ℕ) (e : Event) → (at : IsAt events place e) → Comes at.setup (take place events) e
 comes-at events place e at = record { fit = at.fit; fits = at.fits; fit_more = at.fit_more }
-
-pub entered-at : (events : List Event) (place : ℕ) (e : Event) (hour : ℕ) → IsAt events place e
-    → entered_in (and_then (take place events) e) hour ≤ entered_in events hour
-entered-at events place e hour at =
-    subst (λ front. entered_in front hour ≤ entered_in events hour) at.more
-    (subst (λ all. entered_in (take (place + 1) events) hour ≤ entered_in all hour) (take-append-drop (place + 1) events)
-    (count-append hour (take (place + 1) events) (drop (place + 1) events)))
 
 pub count-more : (hour : ℕ) (before : List Event) (e : Event) → touches hour e ≡ true → length (of_hour hour (and_then before e)) ≡ length (of_hour hour before) + 1
 count-more hour before e touch = ap length (hour-more hour before e touch) ∙ length-append (of_hour hour before) (e ∷ [])

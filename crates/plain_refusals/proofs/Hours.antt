@@ -19,9 +19,6 @@ passing p hour last order e = rw (hours-next hour last order, e) refl
 pub not_passing : (p : ℕ → Bool) (hour last : ℕ) → hour ≤ last → p hour ≡ false → find p (hours_from hour last) ≡ find p (hours_from (hour + 1) last)
 not_passing p hour last order e = rw (hours-next hour last order, e) refl
 
-pub none_left : (p : ℕ → Bool) (hour last : ℕ) → last < hour → find p (hours_from hour last) ≡ None
-none_left p hour last order = rw (hours-none hour last order) refl
-
 -- ---- the first answer of a range
 
 -- the first answer of those quarters of a range that do not come before an hour

@@ -160,16 +160,6 @@ passed_less graph room round passed fewer old new less is = record {
   left = λ arc known was. is.left arc known (less arc known was);
 }
 
--- none before the first border
-pub passed_none : (graph : Graph) (room : Arc → ℕ) (round : ℕ) (passed : Arc → Bool) (old : List (Option ℕ)) → ((arc : Arc) → passed arc ≡ false)
-    → IsPassed graph room round passed old old
-passed_none graph room round passed old none = record {
-  size = refl;
-  kept = λ zone arcs e. e;
-  given = λ zone arcs e f. (let no : Some arcs ≡ None = sym f ∙ e in cc);
-  left = λ arc known was. absurd (true≢false (sym was ∙ none arc));
-}
-
 -- an arc over one more border is one over a border so far, or one of that border's two
 pub border_more : (border : ℕ) (arc : Arc) → nat_lt arc.border (border + 1) ≡ true
     → (nat_lt arc.border border || same_arc (record { border = border; forward = true }) arc || same_arc (record { border = border; forward = false }) arc) ≡ true

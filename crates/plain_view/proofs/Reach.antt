@@ -15,15 +15,7 @@ use Rattle.plain_routes.specs.declared.reach.ReachedZones.{ReachedZones}
 use Rattle.plain_routes.specs.Reached.{has_zone}
 use Rattle.view_laws.specs.declared.trades.Maker.{Maker}
 use Rattle.plain_view.specs.InReach.{is_in_reach}
-use Rattle.view_laws.specs.Depth.{AreInZones, buyer_zone, can_fill, crosses_any, fill_with, next_fill, route_with, seller_zone}
-
-pub seller-known : (graph : Graph) (side : Side) (zone : ℕ) (maker : Maker) → HasZone graph zone → HasZone graph maker.zone → HasZone graph (seller_zone side zone maker)
-seller-known graph Buy zone maker own other = own
-seller-known graph Sell zone maker own other = other
-
-pub buyer-known : (graph : Graph) (side : Side) (zone : ℕ) (maker : Maker) → HasZone graph zone → HasZone graph maker.zone → HasZone graph (buyer_zone side zone maker)
-buyer-known graph Buy zone maker own other = other
-buyer-known graph Sell zone maker own other = own
+use Rattle.view_laws.specs.Depth.{AreInZones, can_fill, crosses_any, fill_with, next_fill, route_with}
 
 -- the zones in reach are those to or from which a route leads
 reached-is : (graph : Graph) (room : Arc → ℕ) (side : Side) (zone : ℕ) (maker : Maker)

@@ -1,5 +1,5 @@
 -- The capacity of a border: flows net, and what offers and taking change.
-use Rattle.std.proofs.Common.{◌≡◌, ℕ, pos, neg_ℤ, ◌+ℤ◌, ◌-ℤ◌, Bool, true, false, not, refl, arith}
+use Rattle.std.proofs.Common.{◌≡◌, ℕ, pos, ◌+ℤ◌, ◌-ℤ◌, Bool, true, false, not, refl, arith}
 use Rattle.std.proofs.lemmas.Int.{ints}
 use Rattle.quarter_capacity.specs.Row.{Row, offered, flow, remaining, with_offered, with_taken}
 use Rattle.quarter_capacity.specs.CapacityLaws.{OppositeFlowsNet, FlowsAreOpposite, OffersKeepTheFlow, TakingMovesTheFlow}
@@ -11,11 +11,6 @@ opposite_flows_net = λ offered allocated opposite. omega (arith, ints)
 -- the flow the other way has the other sign
 pub flows_are_opposite : FlowsAreOpposite
 flows_are_opposite = λ allocated opposite. omega (arith, ints)
-
--- so it has in a row
-pub flow-not : (row : Row) (forward : Bool) → flow row (not forward) ≡ neg_ℤ (flow row forward)
-flow-not row true = refl
-flow-not row false = omega (arith, ints)
 
 -- after an offer
 pub offered-with_offered : (row : Row) (forward : Bool) (lots : ℕ) → offered (with_offered row forward lots) forward ≡ lots

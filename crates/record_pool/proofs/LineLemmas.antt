@@ -91,9 +91,6 @@ module _ {T : Type 0} (cmp : Side → T → T → Ordering) (side_of : ℕ → S
   -- a record comes to a free place, which joins the line at its spot
   module _ (k place : ℕ) (joining : T) (before : Option ℕ) (within : k < length lines) (low : place < length places) (free : held_at places place ≡ None)
       (spot : IsSpot (cmp (side_of k)) places (line_at lines k) joining before) where
-    new_places : List (Option T)
-    new_places = set places place (Some joining)
-
     parts_miss : Misses place spot.front × Misses place spot.back
     parts_miss = go spot.front (subst (Misses place) spot.whole (free-misses place free k within))
       where

@@ -55,10 +55,6 @@ module _ (lines : List (List ℕ)) (once : StandOnce lines) (k : ℕ) (within : 
   abbrev line : List ℕ
   line = line_at lines k
 
-  -- the walk begins
-  pub IsWalked-first : IsWalked P (line_at lines k) (first_in (line_at lines k))
-  IsWalked-first = record { front = []; back = line; whole = refl; now = refl; passed = tt }
-
   -- where a walk ends, the fact holds of all places
   pub walked-all : IsWalked P (line_at lines k) None → (place : ℕ) → Contains (line_at lines k) place → P place
   walked-all walked place has =
@@ -144,10 +140,6 @@ last-split (first ∷ second ∷ places) place is =
     (first ∷ rest.0, ap (λ l. first ∷ l) rest.1)
 
 module _ (lines : List (List ℕ)) (k : ℕ) (within : k < length lines) (P : ℕ → Type 0) where
-  -- the walk back begins
-  pub IsWalkedBack-last : IsWalkedBack P (line_at lines k) (last_in (line_at lines k))
-  IsWalkedBack-last = record { front = line_at lines k; back = []; whole = sym (append-nil (line_at lines k)); now = refl; passed = tt }
-
   -- where a walk back ends, the fact holds of all places
   pub walked_back-all : IsWalkedBack P (line_at lines k) None → (place : ℕ) → Contains (line_at lines k) place → P place
   walked_back-all walked place has =

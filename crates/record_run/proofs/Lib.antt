@@ -1,5 +1,4 @@
 pub mod Dividing
-pub mod EarlyStops
 mod Markets
 pub mod Recorded
 pub mod Written

@@ -3,13 +3,11 @@ use Rattle.std.proofs.Common.{◌≡◌, ℕ, List, Option, Some, None, Result, 
 use Rattle.zone_graph.specs.Grid.{JoinsZones}
 use Rattle.zone_graph.specs.GridFault.{grid_fault}
 use Rattle.market_model.specs.Grid.{graph_of}
-use Rattle.market_model.specs.WellFormed.{IsMarketSetup}
 use Rattle.market_text.specs.declared.session.Session.{Session}
 use Rattle.market_text.specs.Text.{session_of_text}
 use Rattle.text_grammar.proofs.Grids.{sessions-make-grids}
 use Rattle.divided_text.specs.Dividing.{Parts, division_of}
 use Rattle.divided_text.specs.Reading.{session_of_divided, session_of_parts, with_rest}
-use Rattle.session_journal.proofs.Graphs.{makes-graph}
 use Rattle.record_run.specs.Records.{dividing_line}
 
 -- a session that stands before a rest was read
@@ -35,8 +33,3 @@ pub makes-grid : (bytes journal : List ℕ) (session : Session) → session_of_d
 makes-grid bytes journal session is =
     let text = text-of bytes journal session is in
     sessions-make-grids text.0 session text.1
-
-pub makes-market : (bytes journal : List ℕ) (session : Session) → session_of_divided dividing_line bytes ≡ Ok (session, journal) → IsMarketSetup session.setup
-makes-market bytes journal session is =
-    let grid = makes-grid bytes journal session is in
-    makes-graph (graph_of session.setup) grid.0 grid.1

@@ -1,5 +1,5 @@
 -- What comes of a record: where it is read, audited, and something is written of it, and where it is not.
-use Rattle.std.proofs.Common.{◌≡◌, ◌≢◌, ◌∙◌, ◌⊎◌, inl, ℕ, ◌≤◌, List, [], Option, None, Some, true≢false, Result, Ok, Err, IfOk, MatchResult, length, refl, sym, ap, subst}
+use Rattle.std.proofs.Common.{◌≡◌, ◌≢◌, ◌∙◌, ◌⊎◌, inl, ℕ, ◌≤◌, List, [], Option, None, Some, true≢false, Result, Ok, Err, IfOk, MatchResult, length, sym, ap, subst}
 use Rattle.std.specs.Io.KnownBytes.{Appends}
 use Rattle.std.proofs.KnownBytes.{Appends-nil}
 use Rattle.market_model.specs.declared.entry.Entry.{Entry}
@@ -11,52 +11,16 @@ use Rattle.run_status.specs.declared.status.Status.{Status}
 use Rattle.run_status.specs.declared.status.Status.TheVariants as status
 use Rattle.run_status.specs.Reading.{ReadsUpTo, Stops, WasRead}
 use Rattle.run_status.specs.Status.{stops_reading}
-use Rattle.run_status.proofs.Answering.{answers-nothing, came-whole, is-known}
+use Rattle.run_status.proofs.Answering.{answers-nothing, is-known}
 use Rattle.run_status.proofs.Completion.{completes}
 use Rattle.record_run.specs.declared.auditing.Audited.{Audited}
-use Rattle.record_run.specs.Auditing.{EndsAudit, IsOf}
-use Rattle.record_run.specs.Inputs.{Is}
+use Rattle.record_run.specs.Auditing.{IsOf}
 use Rattle.record_run.specs.Outcomes.{Recorded}
 use Rattle.record_run.specs.Records.{IsBadRecord, IsIllegalRecord, IsMadeOf, IsRecord, verdict_of}
 use Rattle.record_run.specs.Writing.{Writes}
 use Rattle.record_run.proofs.Written.{writes-answer}
 
 -- ---- a record is read
-
--- what holds of bytes that came from a source holds of the record that was read
-pub reads-of : (audited : Audited) (bytes : List ℕ) (left new : Option (List ℕ)) → WasRead longest_record (Is bytes) left new → IsOf audited bytes
-    → WasRead longest_record (IsOf audited) left new
-reads-of audited bytes left new read of =
-    record { input = read.input; came = read.came; short = read.short; ended = read.ended; is = subst (IsOf audited) (sym read.is) of }
-
--- bytes that came from a source are no record, or their journal is not complete
-pub stops-of : (bytes : List ℕ) (left new : Option (List ℕ)) (end : Status) → WasRead longest_record (Is bytes) left new → EndsAudit bytes end
-    → Stops longest_record IsBadRecord IsIllegalRecord left new end
-stops-of bytes left new (status.BadSession line) read ends = record {
-  early = refl;
-  reads = λ _. record { input = read.input; came = read.came; long = λ e. absurd (cc); short = λ _. read.short; ended = λ _. read.ended };
-  bad = λ known other e is.
-      let same : line ≡ other = cc in
-      subst (IsBadRecord known) same (subst (λ bs. IsBadRecord bs line) (sym read.is ∙ came-whole left new read.input known read.came read.ended is) ends);
-  illegal = λ known entry e. absurd (cc);
-}
-stops-of bytes left new (status.Illegal entry) read ends = record {
-  early = refl;
-  reads = λ _. record { input = read.input; came = read.came; long = λ e. absurd (cc); short = λ _. read.short; ended = λ _. read.ended };
-  bad = λ known line e. absurd (cc);
-  illegal = λ known other e is.
-      let same : entry ≡ other = cc in
-      subst (IsIllegalRecord known) same (subst (λ bs. IsIllegalRecord bs entry) (sym read.is ∙ came-whole left new read.input known read.came read.ended is) ends);
-}
-stops-of bytes left new status.NoMemory read ends =
-    record { early = refl; reads = λ other. absurd (other refl); bad = λ known line e. absurd (cc); illegal = λ known entry e. absurd (cc) }
-stops-of bytes left new status.Done read ends = absurd ends
-stops-of bytes left new status.Usage read ends = absurd ends
-stops-of bytes left new status.ReadFault read ends = absurd ends
-stops-of bytes left new status.WriteFault read ends = absurd ends
-stops-of bytes left new status.TooLong read ends = absurd ends
-stops-of bytes left new status.DiskFault read ends = absurd ends
-stops-of bytes left new (status.BadImage place) read ends = absurd ends
 
 -- ---- what is written of it
 

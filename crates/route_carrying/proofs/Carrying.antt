@@ -124,11 +124,6 @@ fit-kept graph room leg fit has arc known =
 abbrev pub AreCarriedOn : (before now : Arc → ℕ) → (lots : ℕ) → (route rest : List Arc) → Type 0
 AreCarriedOn before now lots route rest = (x : Arc) → room_after now (over_all rest lots) x ≡ room_after before (over_all route lots) x
 
--- the first of the arcs that are left can carry the lots
-pub first_can : (borders : ℕ) (room : Arc → ℕ) (lots : ℕ) (arcs rest : List Arc) (arc : Arc) → arcs ≡ arc ∷ rest → CanCarry borders room lots arcs
-    → CanCarry borders room lots (arc ∷ rest)
-first_can borders room lots arcs rest arc e can = subst (CanCarry borders room lots) e can
-
 -- the rooms after the first of them has carried lots, at each arc
 abbrev pub CarriedOver : (before after : Arc → ℕ) → (arc : Arc) → (lots : ℕ) → Type 0
 CarriedOver before after arc lots = (x : Arc) → after x ≡ room_after before (over_one arc lots) x
@@ -145,9 +140,6 @@ pub others_carry : (before room room' : Arc → ℕ) (borders lots : ℕ) (route
 others_carry before room room' borders lots route rest arc over can on x =
     let same : room' ≡ room_after room (over_one arc lots) = λ i. λ y. over y i in
     ap (λ r. room_after r (over_all rest lots) x) same ∙ carried_on room arc rest lots can.3 x ∙ on x
-
-pub none_left : (before room : Arc → ℕ) (lots : ℕ) (route : List Arc) → AreCarriedOn before room lots route [] → (x : Arc) → room x ≡ room_after before (over_all route lots) x
-none_left before room lots route on x = let plain : room_after room (over_all [] lots) x ≡ room x = omega arith in sym plain ∙ on x
 
 -- ---- a leg
 

@@ -16,7 +16,7 @@ use Rattle.cut_proof.proofs.Reaching.{distance_tells}
 use Rattle.cut_proof.proofs.ReachLaws.{reach_from_start, reach_to_end}
 use Rattle.cut_proof.proofs.Ways.{way_has_arc}
 use Rattle.route_choice.specs.declared.route_search.RouteSearch.{RouteSearch}
-use Rattle.route_choice.specs.Freshness.{Excludes, FreshSearchesExclude, IsDirectedRoute, IsFresh, LegsKeepExclusion, LeavesRoom, StaysFresh, TellsReach, directed_route, has_room, is_known, is_reached, searched_route}
+use Rattle.route_choice.specs.Freshness.{FreshSearchesExclude, IsDirectedRoute, IsFresh, LegsKeepExclusion, LeavesRoom, StaysFresh, TellsReach, directed_route, has_room, is_known, is_reached, searched_route}
 use Rattle.route_choice.specs.Onward.{AreOnward}
 use Rattle.route_choice.proofs.MarkedWays.{marked_descent_is_best}
 use Rattle.route_choice.proofs.Shortest.{best_is_shortest}
@@ -78,17 +78,6 @@ pub searched_arcs : (graph : Graph) (room : Arc → ℕ) (search : RouteSearch) 
     → (arc : Arc) → IsIn arc route → HasArc graph arc
 searched_arcs graph room search other route is best arc i =
     directed_arcs graph room search.zone other search.towards route arc (searched_is_directed graph room search.zone other search.towards route is best) i
-
--- what a search excludes stays out of reach after a leg over a route that it answers, whether the leg uses an arc up or not
-pub exclusion_after : (search : RouteSearch) (after : Arc → ℕ) (route : List Arc) (graph : Graph) (room : Arc → ℕ) (other lots : ℕ) → IsGraph graph
-    → Excludes graph room search
-    → searched_route graph room search other ≡ Some route → ((arc : Arc) → after arc ≡ room_after room (record { route = route; lots = lots }) arc)
-    → Excludes graph after search
-exclusion_after search after route graph room other lots is excludes best over =
-    let leg : RouteLeg = record { route = route; lots = lots } in
-    let same : after ≡ room_after room leg = λ i. λ arc. over arc i in
-    subst (λ r. Excludes graph r search) (sym same)
-    (legs_keep_exclusion graph room search other leg is (searched_is_directed graph room search.zone other search.towards route is best) excludes)
 
 -- ---- distances in a direction
 

@@ -9,7 +9,7 @@ use Rattle.zone_graph.specs.Grid.{IsGrid, neighbour_over, neighbours_of}
 use Rattle.zone_graph.specs.Route.{IsIn}
 use Rattle.zone_graph.proofs.Membership.{from_filter, from_flat_map, from_map, from_range}
 use Rattle.zone_graph.proofs.Finding.{find-none}
-use Rattle.zone_search.specs.Distance.{AreDistances, IsLeastStep, distance_at}
+use Rattle.zone_search.specs.Distance.{IsLeastStep, distance_at}
 use Rattle.zone_search.proofs.Neighbours.{neighbour_at, neighbour_by, neighbour_in, neighbour_within}
 use Rattle.route_choice.specs.Descent.{LeadDown}
 use Rattle.route_choice.specs.Neighbours.{AreKnown, leads_nearer}
@@ -138,11 +138,3 @@ pub known_neighbours : (graph : Graph) (zone : ℕ) (neighbours : List Neighbour
 known_neighbours graph zone neighbours rooms distances grid all size places = λ index other less.
     let n = neighbour_at graph zone neighbours index other grid.is_graph all less in
     (omega (arith, n.known, size), omega (arith, neighbour_within graph zone neighbours index other grid all less, places))
-
--- distances lead down to their zone
-pub lead_down : (graph : Graph) (room : Arc → ℕ) (to : ℕ) (distances : List (Option ℕ)) → AreDistances graph room to distances → LeadDown graph room distances
-lead_down graph room to distances a = record {
-  places = a.places;
-  falls = λ arc known some near. a.falls arc known some;
-  nearer = a.nearer;
-}

@@ -47,14 +47,6 @@ pour_leg-is graph room from to (suc more) leg is e = by (best_route graph room f
           enough = carried-le room (suc more) route;
         })
 
--- of nothing there is no leg, without a route neither, and else it goes over the best one
-pub no_leg_of_nothing : (graph : Graph) (room : Arc → ℕ) (from to left : ℕ) → left ≡ 0 → pour_leg graph room from to left ≡ None
-no_leg_of_nothing graph room from to left e = ap (pour_leg graph room from to) e
-
-pub no_leg_without_route : (graph : Graph) (room : Arc → ℕ) (from to left : ℕ) → best_route graph room from to ≡ None → pour_leg graph room from to left ≡ None
-no_leg_without_route graph room from to zero e = refl
-no_leg_without_route graph room from to (suc more) e = ap (option_map (over_route room (suc more))) e
-
 pub leg_over_route : (graph : Graph) (room : Arc → ℕ) (from to left : ℕ) (route : List Arc) → 0 < left → best_route graph room from to ≡ Some route
     → pour_leg graph room from to left ≡ Some (over_route room left route)
 leg_over_route graph room from to zero route some e = absurd (omega arith)
@@ -98,13 +90,6 @@ pub record IsPoured (graph : Graph) (start : Arc → ℕ) (from to most : ℕ) (
   pub rooms : room ≡ rooms_after start legs
   pub lots : lots_of legs + left ≡ most
   pub onward : (rest : List RouteLeg) → Poured graph from to room left rest → Poured graph from to start most (legs ++ rest)
-
-pub begun : (graph : Graph) (start : Arc → ℕ) (from to most : ℕ) → IsPoured graph start from to most start most []
-begun graph start from to most = record {
-  rooms = refl;
-  lots = omega arith;
-  onward = λ rest run. run;
-}
 
 pub one_more : (graph : Graph) (start : Arc → ℕ) (from to most : ℕ) (room : Arc → ℕ) (left : ℕ) (legs : List RouteLeg) (leg : RouteLeg) → IsGraph graph
     → IsPoured graph start from to most room left legs → pour_leg graph room from to left ≡ Some leg

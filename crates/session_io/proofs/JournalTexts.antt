@@ -1,6 +1,6 @@
 -- The text of a journal grows by one line after the other.
 use Rattle.std.proofs.Common.{◌≡◌, ◌∙◌, ℕ, ◌+◌, ◌<◌, List, [], ◌∷◌, ◌++◌, append_assoc, Option, Some, None, Result, Ok, Err, OnErr, drop, get_or, length, take, sym, ap, arith}
-use Rattle.std.specs.Io.KnownBytes.{Appends, Consumes, IsAtEnd}
+use Rattle.std.specs.Io.KnownBytes.{Appends}
 use Rattle.std.proofs.KnownBytes.{Appends-trans}
 use Rattle.std.proofs.lemmas.List.{append-nil, length-take-le, take-append-drop, take_more}
 use Rattle.journal_print.specs.Line.{entry_line}
@@ -68,11 +68,3 @@ wrote-part setup entries i d old now new within written line is left wrote =
 pub on-err : {T E P : Type 0} (result : Result T E) → P → OnErr result P
 on-err (Ok value) holds = tt
 on-err (Err error) holds = holds
-
--- bytes that a source gave up to its end are all that it had
-pub input-is : (left new : Option (List ℕ)) (given bytes : List ℕ) → Consumes left new given → IsAtEnd new → left ≡ Some bytes → given ≡ bytes
-input-is None new given bytes came ended is = absurd (cc)
-input-is (Some xs) None given bytes came ended is = absurd came
-input-is (Some xs) (Some ys) given bytes came ended is =
-    let whole : xs ≡ bytes = cc in
-    sym (append-nil given) ∙ ap (λ zs. given ++ zs) (sym ended) ∙ sym came ∙ whole

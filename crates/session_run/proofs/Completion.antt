@@ -1,12 +1,12 @@
 -- What is asked for is done where no read and no write fails, unless memory is wanting.
-use Rattle.std.proofs.Common.{◌≡◌, ◌≢◌, ◌∙◌, ◌⊎◌, inl, inr, ℕ, ◌≤◌, List, Option, Ok, Err, Some, length, refl, sym}
+use Rattle.std.proofs.Common.{◌≡◌, ◌≢◌, ◌∙◌, ◌⊎◌, ℕ, ◌≤◌, List, Option, Ok, Err, Some, length, sym}
 use Rattle.market_text.specs.declared.session.Session.{Session}
 use Rattle.market_text.specs.Text.{session_of_text}
 use Rattle.session_io.specs.Reading.{longest_session}
 use Rattle.run_status.specs.declared.status.Status.{Status}
 use Rattle.run_status.specs.declared.status.Status.TheVariants as status
 use Rattle.run_status.proofs.Completion.{completes}
-use Rattle.session_run.specs.Outcomes.{Generated, Played}
+use Rattle.session_run.specs.Outcomes.{Played}
 use Rattle.session_run.specs.Reading.{HasNoEntry, IsBadText, Reads}
 
 -- a session that is not too long is played, and its text written
@@ -16,17 +16,3 @@ pub plays : (IsAsked : List ℕ → Type 0) (bytes : List ℕ) (session : Sessio
 plays IsAsked bytes session end left new old written is read short outcome reads no_usage no_read no_write =
     completes longest_session IsAsked (IsBadText bytes) (HasNoEntry bytes) bytes end left new old written is short
     (λ line bad. let none : Ok session ≡ Err line = sym read ∙ bad in cc) (λ entry illegal. illegal) outcome reads no_usage no_read no_write
-
--- a generated session is played and summed up
-pub generates : (commands : ℕ) (end : Status) (old written : Option (List ℕ)) → Generated commands end old written → end ≢ status.WriteFault
-    → (end ≡ status.Done) ⊎ (end ≡ status.NoMemory)
-generates commands status.Done old written outcome no_write = inl refl
-generates commands status.NoMemory old written outcome no_write = inr refl
-generates commands status.WriteFault old written outcome no_write = absurd (no_write refl)
-generates commands status.Usage old written outcome no_write = absurd outcome
-generates commands status.ReadFault old written outcome no_write = absurd outcome
-generates commands (status.BadSession line) old written outcome no_write = absurd outcome
-generates commands status.TooLong old written outcome no_write = absurd outcome
-generates commands (status.Illegal entry) old written outcome no_write = absurd outcome
-generates commands status.DiskFault old written outcome no_write = absurd outcome
-generates commands (status.BadImage place) old written outcome no_write = absurd outcome

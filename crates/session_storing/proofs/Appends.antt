@@ -7,7 +7,7 @@ use Rattle.disk_model.specs.Moments.{LeavesOnly, MayLeave}
 use Rattle.disk_model.proofs.Moments.{leaves_more, runs_on, started}
 use Rattle.durable_journal.specs.Appending.{StoresOldOrNew, most_stored, size_behind}
 use Rattle.durable_journal.specs.Resting.{HoldsLines, IsImageOf}
-use Rattle.durable_journal.specs.Stored.{AreLines, StoresLines, blocks, image_of}
+use Rattle.durable_journal.specs.Stored.{AreLines, blocks, image_of}
 use Rattle.durable_journal.proofs.Steps.{held_image}
 use Rattle.market_model.specs.declared.entry.Entry.{Entry}
 use Rattle.market_text.specs.Commands.{commands_of}
@@ -16,7 +16,7 @@ use Rattle.session_journal.proofs.Journals.{count-callers}
 use Rattle.session_journal.proofs.Turns.{turn_comes}
 use Rattle.journal_audit.specs.Course.{callers_of, entries_of}
 use Rattle.stored_journal.specs.Lines.{StoresFront, stored_line, stored_lines}
-use Rattle.stored_journal.proofs.Fronts.{IsFront, front-more, front-same, front-shorter, old-or-new, stores-front}
+use Rattle.stored_journal.proofs.Fronts.{IsFront, front-more, front-shorter, old-or-new, stores-front}
 use Rattle.stored_journal.proofs.Lines.{image-more, lines-more}
 use Rattle.session_storing.specs.Playing.{HasCommandsFor, IsPlaying, PlayState, journal_in_order, lines_in_order, lines_played, turns_of}
 use Rattle.session_storing.proofs.Orders.{order-front}
@@ -38,9 +38,6 @@ module _ (old : PlayState) (caller : ℕ) (new : PlayState) (grew : Grew old cal
   callers-more =
       ap callers_of grew.entries ∙ map-append (λ (e : Entry). e.caller) old.entries (grew.entry ∷ [])
       ∙ ap (λ c. callers_of old.entries ++ c ∷ []) grew.whose
-
-  pub some-entry : 0 < length new.entries
-  some-entry = omega (arith, ap length grew.entries, length-append old.entries (grew.entry ∷ []))
 
   -- the line of the last entry is behind the others
   pub lines-grew : (last : Entry) → last ≡ grew.entry → lines_played old ++ stored_line new.setup (length new.entries) last ∷ [] ≡ lines_played new
@@ -96,26 +93,6 @@ some-waits session old now turns i was is has callers within =
     turns-append first rest caller = sum_by-append (λ t. cond (nat_eq t caller) 1 0) first rest
 
 -- ---- a whole session
-
-pub nothing-played : (old : PlayState) → old.entries ≡ [] → [] ≡ lines_played old
-nothing-played old begins = sym (ap (stored_lines old.setup) begins)
-
-pub whole-lines : (session : Session) (old new : PlayState) (turns : List ℕ) → IsPlaying session new → old.entries ≡ [] → callers_of new.entries ≡ callers_of old.entries ++ turns
-    → lines_played new ≡ lines_in_order session turns
-whole-lines session old new turns is begins callers =
-    played-lines session new is ∙ ap (lines_in_order session) (callers ∙ ap (λ es. callers_of es ++ turns) begins)
-
--- the order of all turns
-pub whole-order : (session : Session) (old : PlayState) (turns : List ℕ) → old.entries ≡ [] → lines_in_order session (callers_of old.entries ++ turns) ≡ lines_in_order session turns
-whole-order session old turns begins = ap (λ es. lines_in_order session (callers_of es ++ turns)) begins
-
--- a disk that holds all lines leaves them
-pub image-front : (contents : Option Contents) (lines : List (List ℕ)) (place : ℕ) → HoldsLines contents lines place → (image : List ℕ) → MayLeave contents image → StoresFront lines image
-image-front contents lines place holds image leaves = stores-front lines lines image (front-same lines) (held_image contents lines place holds image leaves)
-
--- one that stores no line stores the first of any
-pub none-front : (lines : List (List ℕ)) (image : List ℕ) → StoresLines image [] → StoresFront lines image
-none-front lines image stores = stores-front [] lines image (record { rest = lines; whole = refl }) stores
 
 -- what holds of all entries holds of the last
 pub last-named : (P : Entry → Type 0) (entries : List Entry) (last : Entry) → All P (entries ++ last ∷ []) → P last

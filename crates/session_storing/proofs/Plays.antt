@@ -49,12 +49,6 @@ drop-suc (y ∷ xs) (suc k) x rest is = drop-suc xs k x rest is
 drop-next : {X : Type 0} (xs : List X) (k : ℕ) (x : X) (rest : List X) → drop k xs ≡ x ∷ rest → (drop (k + 1) xs ≡ rest) × (slice_get xs k ≡ Some x)
 drop-next xs k x rest is = rw add-one (drop-suc xs k x rest is)
 
-drop-some : {X : Type 0} (xs : List X) (k : ℕ) → 0 < length (drop k xs) → k < length xs
-drop-some [] zero some = absurd (omega (arith, some))
-drop-some [] (suc k) some = absurd (omega (arith, some))
-drop-some (x ∷ xs) zero some = omega arith
-drop-some (x ∷ xs) (suc k) some = let less = drop-some xs k some in omega (arith, less)
-
 length-drop-is : {X : Type 0} (xs : List X) (k : ℕ) → k ≤ length xs → k + length (drop k xs) ≡ length xs
 length-drop-is [] zero most = refl
 length-drop-is [] (suc k) most = absurd (omega (arith, most))

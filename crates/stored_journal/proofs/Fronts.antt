@@ -16,12 +16,6 @@ front-same lines = record { rest = []; whole = sym (append-nil lines) }
 pub front-one : (lines : List (List ℕ)) (line : List ℕ) → IsFront lines (lines ++ line ∷ [])
 front-one lines line = record { rest = line ∷ []; whole = refl }
 
-pub front-after : (lines others more : List (List ℕ)) → IsFront lines others → IsFront others more → IsFront lines more
-front-after lines others more first second = record {
-  rest = first.rest ++ second.rest;
-  whole = second.whole ∙ ap (λ ls. ls ++ second.rest) first.whole ∙ append_assoc lines first.rest second.rest;
-}
-
 -- an image that stores lines stores the first of those of which they are
 pub stores-front : (lines others : List (List ℕ)) (image : List ℕ) → IsFront lines others → StoresLines image lines → StoresFront others image
 stores-front lines others image front stores = record { front = lines; rest = front.rest; whole = front.whole; stores = stores }

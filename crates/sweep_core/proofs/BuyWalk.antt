@@ -84,10 +84,6 @@ module _ (graph : Graph) (hour : ℕ) (room : Arc → ℕ) (sells : List Shown) 
       (stands : found ≡ first_of (from_order buys found))
       (onward : first_answer ask (from_order buys found) ≡ first_answer ask buys)
       (none : TriedHaveNone tried (from_order buys found)) where
-    -- no buy is left
-    pub buys-none : found ≡ None → leg_of_lines graph hour room sells buys ≡ None
-    buys-none ended = sym onward ∙ ap (λ o. first_answer ask (from_order buys o)) ended
-
     module _ (buy : Shown) (is : found ≡ Some buy) where
       at : StandsAt buys buy
       at = stands-at buys found buy is stands

@@ -2,7 +2,7 @@
 use Rattle.std.proofs.Common.{◌≡◌, ◌∙◌, ℕ, ◌+◌, ◌-◌, filter, List, map, None, Some, Result, Ok, Err, IfOk, OnErr, sym, ap, arith, subst}
 use Rattle.std.specs.List.{range_with_len}
 use Rattle.zone_graph.specs.Graph.{Graph}
-use Rattle.zone_graph.specs.Route.{IsIn, has}
+use Rattle.zone_graph.specs.Route.{has}
 use Rattle.market_model.specs.declared.command.Command.{Command}
 use Rattle.market_model.specs.declared.entry.Entry.{Entry}
 use Rattle.market_model.specs.declared.refusal.Refusal.{Refusal}
@@ -14,7 +14,7 @@ use Rattle.market_model.specs.History.{events_of, journal_events}
 use Rattle.market_model.specs.Market.{reply_to}
 use Rattle.market_model.specs.Rules.{early_refusal, touched_hours}
 use Rattle.desk_locks.specs.Desk.{DeskState}
-use Rattle.journal_front.specs.Fronts.{DeskSeatState, FrontState, IsDeskOf}
+use Rattle.journal_front.specs.Fronts.{FrontState}
 use Rattle.desk_locks.specs.Rows as rows
 use Rattle.desk_locks.specs.Rows.{AreReady, IsJournalOf, dropped, planning_all}
 use Rattle.desk_locks.specs.Held.{AllInPlace, HeldState, IsAllInPlace, without_desks}
@@ -24,7 +24,7 @@ use Rattle.desk_locks.proofs.TouchedHours.{filter-has, touched-hours}
 use Rattle.venue_core.specs.Planning.{IsHeldFor, IsPlannedFor, hours_asked}
 use Rattle.venue_core.specs.Setups.{IsOpenSetup}
 use Rattle.venue_core.specs.Shared.{AreOfOneJournal}
-use Rattle.venue_core.proofs.InPlace.{are-ready, desks-hours, dropped-in-place, seats-own, undone-in-place}
+use Rattle.venue_core.proofs.InPlace.{are-ready, desks-hours, dropped-in-place, undone-in-place}
 
 -- a command that breaks no rule by itself asks for all hours that it touches
 all-asked : (setup : Setup) (caller : ℕ) (given : Command) → early_refusal setup caller given ≡ None → hours_asked setup caller given ≡ touched_hours setup caller given
@@ -40,9 +40,6 @@ module _ (front : FrontState) (caller : ℕ) (given : Command) (held : HeldState
 
   pub in-place : AllInPlace (map (place_at front) asked) held.desks held.seats
   in-place = subst (λ (places : List Place). AllInPlace places held.desks held.seats) is.places is.all_in_place
-
-  pub held-own : (seat : DeskSeatState) → IsIn seat held.seats → IsDeskOf front seat
-  held-own = seats-own front asked held.desks held.seats in-place
 
   pub held-ready : (setup : Setup) (graph : Graph) → front.setup ≡ setup → graph ≡ graph_of setup → IsOpenSetup setup → AreOfOneJournal front held.seats
       → AreReady setup graph held.desks

@@ -83,9 +83,6 @@ pub record IsSoFar (graph : Graph) (side : Side) (zone : ℕ) (start now : Depth
   pub most : (row : MakerRow) → IsIn row rows → row.row.lots + now.left ≤ 4294967295
   pub fits : now.left ≤ 4294967295
 
-pub nothing-so_far : (graph : Graph) (side : Side) (zone : ℕ) (start : Depth) → start.left ≤ 4294967295 → IsSoFar graph side zone start start []
-nothing-so_far graph side zone start fits = record { fills = []; onward = λ rest run. run; are = refl; most = λ row i. absurd i; fits = fits }
-
 -- trades that go on
 module _ (graph : Graph) (side : Side) (zone : ℕ) (start now : Depth) (rows : List MakerRow) (fill : Fill) (is : IsGraph graph)
     (so_far : IsSoFar graph side zone start now rows) (next : next_fill graph side zone now ≡ Some fill) where

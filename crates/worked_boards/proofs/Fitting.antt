@@ -1,8 +1,7 @@
 -- What a small board lets in fits its events.
-use Rattle.std.proofs.Common.{◌≡◌, ◌∙◌, ◌+◌, ◌-◌, ◌^◌, ◌<◌, ◌≤◌, ◌≤ℤ◌, ◌&&◌, pos, ℕ, true, inl, inr, [], ◌∷◌, count_by, length, replicate, nat_eq, nat_le, nat_lt, eq-eqb, refl, sym, ap, subst, arith}
+use Rattle.std.proofs.Common.{◌≡◌, ◌∙◌, ◌+◌, ◌-◌, ◌≤◌, ◌≤ℤ◌, ◌&&◌, pos, ℕ, true, inl, inr, [], ◌∷◌, length, replicate, nat_eq, nat_le, nat_lt, eq-eqb, refl, sym, ap, subst, arith}
 use Rattle.std.proofs.lemmas.Bool.{and_from, and_parts, le-leb, leb-true, ltb-true, or_cases, or_right}
 use Rattle.std.proofs.lemmas.List.{length-replicate}
-use Rattle.std.proofs.lemmas.List.Sums.{count_by-le-length}
 use Rattle.order_kinds.specs.declared.contract.Contract.{Contract}
 use Rattle.order_kinds.specs.declared.contract.Quarter.{Quarter}
 use Rattle.order_kinds.specs.declared.order.Order.{Order}
@@ -14,7 +13,6 @@ use Rattle.zone_graph.proofs.Membership.{from_filter, from_flat_map, from_map, f
 use Rattle.market_model.specs.declared.event.Event.TheVariants as event
 use Rattle.market_model.specs.Board.{BoardState}
 use Rattle.market_model.specs.Capacity.{flow}
-use Rattle.market_model.specs.History.{enters_in}
 use Rattle.market_model.specs.Orders.{next_name}
 use Rattle.market_model.specs.Room.{room}
 use Rattle.market_model.specs.WellFormed.{Fits}
@@ -35,10 +33,6 @@ not_after-numbers hour a b h = elim (or_cases (nat_lt hour hour) (nat_eq hour ho
 ]
 
 module _ (board : BoardState) where
-  -- there is a number for one more order
-  pub few-entered : length board.events < 2 ^ 32 - 1 → count_by (enters_in board.hour) board.events < 2 ^ 32 - 1
-  few-entered few = let most = count_by-le-length (enters_in board.hour) board.events in omega (arith, few, most)
-
   pub entry-fits : (caller : ℕ) (order : Order) → CanEnter board caller order
       → Fits (setup_of board.grid) board.events (event.Entered (next_name board.events board.hour) caller order)
   entry-fits caller order can = record {

@@ -10,7 +10,6 @@ use Rattle.market_model.specs.WellFormed.{Fits, IsLegalOver}
 use Rattle.market_laws.proofs.Repeats.{fit-more}
 use Rattle.market_laws.proofs.LocalMoments.{hour-more}
 use Rattle.board_laws.proofs.Legs.{leaves, made-fits}
-use Rattle.plain_orders.specs.Histories.{IsSomeHistory}
 use Rattle.worked_boards.specs.Small.{HasRoom, IsGrown, setup_of, with_event, with_hand}
 
 abbrev pub is_board : (board : BoardState) → IsGrown board → IsBoard board
@@ -29,9 +28,6 @@ is_board board grown = record {
 -- its events are the first part of a legal history
 pub legal : (board : BoardState) → IsGrown board → IsLegalOver board.grid board.events
 legal board grown = record { setup = setup_of board.grid; over = refl; fit = grown.fit }
-
-pub some_history : (board : BoardState) → IsGrown board → IsSomeHistory board.events
-some_history board grown = record { setup = setup_of board.grid; fit = grown.fit }
 
 -- one more event that fits and touches the hour
 pub grown-more : (board : BoardState) (e : Event) (hand : Option ℕ) → IsGrown board → Fits (setup_of board.grid) board.events e

@@ -1,5 +1,5 @@
 -- Views that were made of a board and taken over show it, and go on to while next rows are made.
-use Rattle.std.proofs.Common.{◌≡◌, ◌∙◌, ℕ, ◌<◌, List, [], get_or, length, Option, refl, ap, sym, subst}
+use Rattle.std.proofs.Common.{◌≡◌, ◌∙◌, ◌<◌, List, [], get_or, length, Option, refl, ap, sym, subst}
 use Rattle.std.proofs.lemmas.List.{get_or-map, length-map}
 use Rattle.order_kinds.specs.declared.side.Side.{Side}
 use Rattle.order_kinds.specs.declared.side.Side.TheVariants.{Buy, Sell}
@@ -15,10 +15,6 @@ on-adopted : (part : PartViews) (side : Side) → on_side (part_adopted part) si
 on-adopted part Buy = refl
 on-adopted part Sell = refl
 
-on-forgotten : (part : PartViews) (side : Side) → (on_side (part_forgotten part) side).kept ≡ (on_side part side).kept
-on-forgotten part Buy = refl
-on-forgotten part Sell = refl
-
 pub shows-adopted : (board : BoardState) (views : Views) → AreAllNext board views → length views.lines ≡ 7 → views.zones ≡ zone_count board.grid
     → ShowBoard board (views_adopted views)
 shows-adopted board views next lines zones part side zone low within =
@@ -30,11 +26,6 @@ shows-adopted board views next lines zones part side zone low within =
     ∙ ap (λ (rows : Option (List (List ViewRow))). get_or (adopted_rows (line_of views part side).kept rows) zone []) made.is
     ∙ made.each zone (subst (λ n. zone < n) (sym zones) within)
 
--- what is kept of a part and side, with the next rows dropped
-line-forgotten : (views : Views) (part : ℕ) (side : Side) → part < length views.lines → (line_of (views_forgotten views) part side).kept ≡ (line_of views part side).kept
-line-forgotten views part side there =
-    ap (λ (p : PartViews). (on_side p side).kept) (get_or-map part_forgotten views.lines part no_part no_part there) ∙ on-forgotten (get_or views.lines part no_part) side
-
 -- views go on to have rows for the parts and zones that there are
 pub over-kept : (graph : Graph) (old new : Views) → AreViewsOver graph old
     → views_forgotten new ≡ views_forgotten (record { zones = old.zones; lines = old.lines; made = new.made }) → AreViewsOver graph new
@@ -42,21 +33,6 @@ over-kept graph old new were same = record {
   lines = sym (length-map new.lines part_forgotten) ∙ ap (λ (v : Views). length v.lines) same ∙ length-map old.lines part_forgotten ∙ were.lines;
   zones = ap (λ (v : Views). v.zones) same ∙ were.zones;
 }
-
--- and to be those of a board
-pub views-kept : (board : BoardState) (old new : Views) → AreViewsOf board old
-    → views_forgotten new ≡ views_forgotten (record { zones = old.zones; lines = old.lines; made = new.made }) → AreViewsOf board new
-views-kept board old new were same =
-    let over = over-kept board.grid old new were.over same in
-    let lines = over.lines in
-    record {
-      over = over;
-      shown = λ part side zone low within.
-          ap (λ (rows : List (List ViewRow)). get_or rows zone []) (sym (line-forgotten new part side (subst (λ n. part < n) (sym lines) low))
-          ∙ ap (λ (v : Views). (line_of v part side).kept) same
-          ∙ line-forgotten (record { zones = old.zones; lines = old.lines; made = new.made }) part side (subst (λ n. part < n) (sym were.over.lines) low))
-          ∙ were.shown part side zone low within;
-    }
 
 -- views that were made of a board and taken over are those of it
 pub views-adopted : (board : BoardState) (made taken : Views) → AreAllNext board made → AreViewsOver board.grid made → taken ≡ views_adopted made → AreViewsOf board taken

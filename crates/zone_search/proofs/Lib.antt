@@ -1,4 +1,3 @@
 pub mod Nearest
 pub mod Neighbours
-pub mod Reached
 pub mod Searches
