@@ -15,7 +15,7 @@ crate=$scratch/crates/count_matchers
 
 mkdir -p "$crate/src" "$crate/specs" "$crate/proofs"
 (cd "$top" && tar cf - --exclude=out crates crates.txt HANDLES) | tar xf - -C "$scratch"
-echo 'count_matchers: worked_boards market_model zone_graph order_kinds' >>"$scratch/crates.txt"
+echo 'count_matchers: tests_of_shared_boards market_model zone_graph order_kinds' >>"$scratch/crates.txt"
 
 sed -i 's/^pub fn take<B: Board>(/#[inline(never)]\n&/' "$scratch/crates/match_core/src/taking.rt"
 sed -i 's/^pub fn sweep_opened<B: Board>(/#[inline(never)]\n&/' "$scratch/crates/sweep_core/src/sweeping.rt"
@@ -26,7 +26,7 @@ cat >"$crate/src/main.rt" <<'PROGRAM'
 use market_model::{Contract, Kind, Lots, Order, Part, Price, Side};
 use std::env;
 use std::test::Fail;
-use worked_boards::SmallMarket;
+use tests_of_shared_boards::SmallMarket;
 
 // The borders of generated sessions: a ring of twelve zones, and eight that cross it.
 const BORDERS: [(u32, u32); 20] = [

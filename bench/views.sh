@@ -16,10 +16,10 @@ crate=$scratch/crates/count_views
 
 mkdir -p "$crate/src" "$crate/specs" "$crate/proofs"
 (cd "$top" && tar cf - --exclude=out crates crates.txt HANDLES) | tar xf - -C "$scratch"
-echo 'count_views: worked_boards local_view market_model zone_graph order_kinds' >>"$scratch/crates.txt"
+echo 'count_views: tests_of_shared_boards local_view market_model zone_graph order_kinds' >>"$scratch/crates.txt"
 
 sed -i 's/^pub(crate) fn list_rows<B: Board>(/#[inline(never)]\n&/' "$scratch/crates/local_view/src/listing.rt"
-sed -i 's/^    fn \(first\|after\|rooms\)(&self/    #[inline(never)]\n&/' "$scratch/crates/worked_boards/src/small_board.rt"
+sed -i 's/^    fn \(first\|after\|rooms\)(&self/    #[inline(never)]\n&/' "$scratch/crates/tests_of_shared_boards/src/small_board.rt"
 
 cat >"$crate/src/main.rt" <<'PROGRAM'
 #![tactic(auto)]
@@ -29,7 +29,7 @@ use market_model::{Contract, Kind, Lots, Order, Part, Price, Side};
 use std::alloc::Global;
 use std::env;
 use std::test::Fail;
-use worked_boards::{PARTS, Refused, SmallMarket};
+use tests_of_shared_boards::{PARTS, Refused, SmallMarket};
 
 // The borders of generated sessions: a ring of twelve zones, and eight that cross it.
 const BORDERS: [(u32, u32); 20] = [

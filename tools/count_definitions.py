@@ -3,10 +3,10 @@
 
 usage: tools/count_definitions.py [CRATE]
        tools/count_definitions.py --sum [CRATE]     the sum alone
-       tools/count_definitions.py --check           ends with status 1 where README names another sum for one_history
+       tools/count_definitions.py --check           ends with status 1 where README names another sum for laws_of_runs
 
 A law of a crate cites modules of specs/, which cite others by their `use` lines. Printed is each file that is reached so from
-the specs/ of the crate (one_history, whose law is the headline), with its lines, and the sum. A line counts unless it is empty,
+the specs/ of the crate (laws_of_runs, whose law is the headline), with its lines, and the sum. A line counts unless it is empty,
 a comment or a `use` line. Whole files count, also where one definition of a file is cited alone. Not counted are the
 types that Rust sources declare, and the specs/ of the toolchain's library and of the libraries that are not in crates/: how
 many of these are cited is told.
@@ -18,7 +18,7 @@ from pathlib import Path
 TOP = Path(__file__).resolve().parent.parent
 CRATES = TOP / "crates"
 README = TOP / "README.md"
-HEADLINE = "one_history"
+HEADLINE = "laws_of_runs"
 USE = re.compile(r"(?:pub )?use Rattle\.(\w+)\.specs\.([\w.]+)")
 
 

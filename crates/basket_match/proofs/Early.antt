@@ -21,8 +21,8 @@ use Rattle.market_model.specs.declared.setup.Setup.{Setup}
 use Rattle.market_model.specs.Grid.{graph_of}
 use Rattle.market_model.specs.Rules.{ascends, early_refusal, first_broken, has_right, may_give, naming_refusal, naming_rules, numbers_refusal, numbers_rules, offer_in_range, role_of, unless}
 use Rattle.market_model.specs.Sweep.{or_else}
-use Rattle.market_laws.proofs.Admitted.{NamesWhatIs, NumbersAreGood, all-pass}
-use Rattle.market_laws.proofs.Replies.{kills-peaks}
+use Rattle.laws_of_market.proofs.Admitted.{NamesWhatIs, NumbersAreGood, all-pass}
+use Rattle.laws_of_market.proofs.Replies.{kills-peaks}
 use Rattle.joint_plan.proofs.Admitting.{early-none}
 use Rattle.joint_plan.specs.Baskets as baskets
 

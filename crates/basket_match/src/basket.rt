@@ -10,7 +10,7 @@ ghost use Rattle.market_model.specs.History.{events_of, journal_events};
 ghost use Rattle.market_model.specs.Market.{reply_to};
 ghost use Rattle.market_model.specs.Rules.{early_refusal, touched_hours};
 ghost use Rattle.joint_plan.specs.Refusing.{closed_refusal};
-ghost use Rattle.certified_maximum.specs.Unfilled.{IsUnfilledBasket};
+ghost use Rattle.laws_of_maximum.specs.Unfilled.{IsUnfilledBasket};
 ghost use Rattle.joint_plan.specs.Rows.{AreAsked, AreReady, IsHistoryOf, IsJournalOf, dropped, hours_of, planning_all};
 
 use crate::orders::enter_order;

@@ -22,19 +22,19 @@ use Rattle.market_model.specs.Grid.{graph_of}
 use Rattle.market_model.specs.Orders.{PlacedBlock, blocks_placed, is_open, left}
 use Rattle.market_model.specs.Sweep.{first_answer, or_else}
 use Rattle.market_model.specs.WellFormed.{IsHistory, IsMarketSetup}
-use Rattle.market_laws.proofs.Legs.{opposite-opposite}
-use Rattle.market_laws.proofs.Members.{from_in_order}
-use Rattle.market_laws.proofs.Placed.{all_are_sound}
-use Rattle.market_laws.proofs.Pours.{ArePair}
-use Rattle.market_laws.proofs.Tests.{same_side-eq}
-use Rattle.market_laws.proofs.LocalLines.{first_answer-same}
-use Rattle.market_laws.proofs.Restrict.{find-same}
+use Rattle.laws_of_market.proofs.Legs.{opposite-opposite}
+use Rattle.laws_of_market.proofs.Members.{from_in_order}
+use Rattle.laws_of_market.proofs.Placed.{all_are_sound}
+use Rattle.laws_of_market.proofs.Pours.{ArePair}
+use Rattle.laws_of_market.proofs.Tests.{same_side-eq}
+use Rattle.laws_of_market.proofs.LocalLines.{first_answer-same}
+use Rattle.laws_of_market.proofs.Restrict.{find-same}
 use Rattle.block_match.specs.declared.deal.BlockDeal.{BlockDeal}
 use Rattle.block_match.specs.Deals.{deal_of_buy, deal_with, partner_of, resting_deal}
-use Rattle.book_lines.specs.BlocksOf.{blocks_of, resting_block}
+use Rattle.laws_of_books.specs.BlocksOf.{blocks_of, resting_block}
 use Rattle.block_match.specs.Market.{IsMarketDeal, OpenBlocksDealAsInTheMarket, PeriodsDealAsInTheMarket, deal_events, rooms_over}
 use Rattle.block_match.specs.Meeting.{can_trade, carries_whole, is_crossed, legs_between}
-use Rattle.book_lines.proofs.MarketBooks.{block_line-are, line-are, lined}
+use Rattle.laws_of_books.proofs.MarketBooks.{block_line-are, line-are, lined}
 use Rattle.block_match.proofs.MarketLegs.{carries-are, legs-are}
 
 -- two open blocks that may trade

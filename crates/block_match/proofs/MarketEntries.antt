@@ -24,21 +24,21 @@ use Rattle.market_model.specs.History.{of_hour}
 use Rattle.market_model.specs.Orders.{PlacedBlock, block_moment, block_placed_by, blocks_placed, is_open, left, next_name}
 use Rattle.market_model.specs.Room.{halt_by, phase_by}
 use Rattle.market_model.specs.WellFormed.{BlockEnters, IsHistory, IsMarketSetup}
-use Rattle.market_laws.proofs.Capacities.{allocated-more, last_said-more, offered-more, room-same}
-use Rattle.market_laws.proofs.Members.{IsIn-filter_map, from_filter_map}
-use Rattle.market_laws.proofs.Names.{block_name-new, names-once, times_entered}
-use Rattle.market_laws.proofs.Placed.{from_picked-more, picked-stays}
-use Rattle.market_laws.proofs.Soundness.{block_fault-none, lots_in_range-bounds}
-use Rattle.market_laws.proofs.Unique.{enters-block_placed, times-some}
-use Rattle.market_laws.proofs.Wholes.{history-more, left-untouched, new_block-whole, other_name}
-use Rattle.market_laws.proofs.LocalMoments.{block_moment-more}
+use Rattle.laws_of_market.proofs.Capacities.{allocated-more, last_said-more, offered-more, room-same}
+use Rattle.laws_of_market.proofs.Members.{IsIn-filter_map, from_filter_map}
+use Rattle.laws_of_market.proofs.Names.{block_name-new, names-once, times_entered}
+use Rattle.laws_of_market.proofs.Placed.{from_picked-more, picked-stays}
+use Rattle.laws_of_market.proofs.Soundness.{block_fault-none, lots_in_range-bounds}
+use Rattle.laws_of_market.proofs.Unique.{enters-block_placed, times-some}
+use Rattle.laws_of_market.proofs.Wholes.{history-more, left-untouched, new_block-whole, other_name}
+use Rattle.laws_of_market.proofs.LocalMoments.{block_moment-more}
 use Rattle.zone_graph.specs.Pour.{lots_if}
 use Rattle.block_match.specs.Deals.{deal_with}
-use Rattle.book_lines.specs.BlocksOf.{blocks_of, rests_from, resting_block}
+use Rattle.laws_of_books.specs.BlocksOf.{blocks_of, rests_from, resting_block}
 use Rattle.block_match.specs.Market.{EnteringBlocksDealAsInTheMarket, IsMarketDeal, deal_events, entered_block, rooms_over}
 use Rattle.block_match.specs.Meeting.{can_trade}
-use Rattle.book_lines.proofs.BlocksKept.{resting-same}
-use Rattle.book_lines.proofs.MarketBooks.{book-differ, from-book, line-same, rests-named, to-book}
+use Rattle.laws_of_books.proofs.BlocksKept.{resting-same}
+use Rattle.laws_of_books.proofs.MarketBooks.{book-differ, from-book, line-same, rests-named, to-book}
 use Rattle.block_match.proofs.MarketDeals.{open-deal}
 
 not-opposite : (side : Side) → side ≢ opposite side

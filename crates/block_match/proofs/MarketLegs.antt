@@ -17,12 +17,12 @@ use Rattle.market_model.specs.Grid.{graph_of}
 use Rattle.market_model.specs.History.{and_then}
 use Rattle.market_model.specs.Orders.{PlacedBlock, blocks_placed, is_open, left}
 use Rattle.market_model.specs.WellFormed.{IsHistory, IsMarketSetup}
-use Rattle.market_laws.proofs.BlockSteps.{kept, step}
-use Rattle.market_laws.proofs.Pours.{ArePair, PourKeeps, pour-run}
-use Rattle.market_laws.proofs.Repeats.{fold-and_then}
+use Rattle.laws_of_market.proofs.BlockSteps.{kept, step}
+use Rattle.laws_of_market.proofs.Pours.{ArePair, PourKeeps, pour-run}
+use Rattle.laws_of_market.proofs.Repeats.{fold-and_then}
 use Rattle.route_choice.specs.Poured.{lots_of}
 use Rattle.route_choice.proofs.Pours.{Poured, pour-run as poured-run, pour-within}
-use Rattle.book_lines.specs.BlocksOf.{resting_block}
+use Rattle.laws_of_books.specs.BlocksOf.{resting_block}
 use Rattle.block_match.specs.Market.{rooms_over}
 use Rattle.block_match.specs.Meeting.{carries_whole, legs_between}
 

@@ -16,7 +16,7 @@ use Rattle.market_model.specs.Grid.{graph_of}
 use Rattle.market_model.specs.Orders.{PlacedBlock, blocks_placed, is_open, next_name}
 use Rattle.market_model.specs.Room.{room}
 use Rattle.market_model.specs.WellFormed.{BlockEnters, IsHistory, IsMarketSetup}
-use Rattle.book_lines.specs.BlocksOf.{blocks_of, resting_block}
+use Rattle.laws_of_books.specs.BlocksOf.{blocks_of, resting_block}
 use Rattle.block_match.specs.declared.deal.BlockDeal.{BlockDeal}
 use Rattle.block_match.specs.Deals.{deal_of_block, deal_of_period, partner_of}
 

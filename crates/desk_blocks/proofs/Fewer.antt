@@ -9,17 +9,17 @@ use Rattle.block_book.specs.declared.block.RestingBlock.{RestingBlock}
 use Rattle.block_book.specs.Blocks.{block_cmp}
 use Rattle.block_book.specs.Book.{has_number, is_of, line_of, without}
 use Rattle.block_book.proofs.Lists.{from_ordered}
-use Rattle.book_lines.specs.BlocksOf.{blocks_of}
-use Rattle.book_lines.specs.LegLaws.{without_both}
+use Rattle.laws_of_books.specs.BlocksOf.{blocks_of}
+use Rattle.laws_of_books.specs.LegLaws.{without_both}
 use Rattle.block_match.specs.declared.deal.BlockDeal.{BlockDeal}
 use Rattle.block_match.specs.Deals.{deal_of_buy, deal_of_period, deal_with, is_earlier, partner_of, resting_deal}
 use Rattle.block_match.specs.Market.{deal_events}
 use Rattle.market_model.specs.declared.event.Event.{Event}
 use Rattle.market_model.specs.Board.{IsHourOf}
-use Rattle.market_laws.proofs.Counts.{fewer-lt}
-use Rattle.market_laws.proofs.Members.{from_first_answer}
-use Rattle.market_laws.proofs.Repeats.{map-some}
-use Rattle.joint_laws.specs.EnteringBlocks.{AreClosed}
+use Rattle.laws_of_market.proofs.Counts.{fewer-lt}
+use Rattle.laws_of_market.proofs.Members.{from_first_answer}
+use Rattle.laws_of_market.proofs.Repeats.{map-some}
+use Rattle.laws_of_joint_commands.specs.EnteringBlocks.{AreClosed}
 use Rattle.desk_changes.proofs.DealtEntries.{fewer-without}
 use Rattle.desk_changes.proofs.MadeDeals.{both-out}
 

@@ -12,8 +12,8 @@ use Rattle.market_model.specs.Board.{IsHourOf}
 use Rattle.market_model.specs.Grid.{graph_of}
 use Rattle.market_model.specs.History.{and_then}
 use Rattle.market_model.specs.WellFormed.{BlockLegFits}
-use Rattle.hour_changes.specs.NextEvents.{IsNext}
-use Rattle.hour_changes.proofs.NextEvents.{first_of_many, next}
+use Rattle.laws_of_hours.specs.NextEvents.{IsNext}
+use Rattle.laws_of_hours.proofs.NextEvents.{first_of_many, next}
 use Rattle.desk_blocks.specs.Openings.{AreOver}
 
 -- the first of some events that follow, and the others behind it

@@ -25,9 +25,9 @@ use Rattle.market_model.specs.Capacity.{allocated}
 use Rattle.market_model.specs.Grid.{graph_of}
 use Rattle.market_model.specs.History.{and_then}
 use Rattle.market_model.specs.WellFormed.{BlockLegFits, FitAfter}
-use Rattle.market_laws.proofs.Repeats.{fit-more}
-use Rattle.market_laws.proofs.Rooms.{room-block_leg}
-use Rattle.market_laws.proofs.Uses.{IsWithinOffers, quarter_room-le, room-le, within_offers}
+use Rattle.laws_of_market.proofs.Repeats.{fit-more}
+use Rattle.laws_of_market.proofs.Rooms.{room-block_leg}
+use Rattle.laws_of_market.proofs.Uses.{IsWithinOffers, quarter_room-le, room-le, within_offers}
 use Rattle.desk_blocks.specs.Rooms.{CanCarryEach}
 
 -- the two rooms of a border over a period come to no more than what is offered on both

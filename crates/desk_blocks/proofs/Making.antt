@@ -5,9 +5,9 @@ use Rattle.block_match.specs.declared.deal.BlockDeal.{BlockDeal}
 use Rattle.block_match.specs.Market.{deal_events}
 use Rattle.market_model.specs.declared.event.Event.{Event}
 use Rattle.market_model.specs.Board.{IsHourOf, with_events}
-use Rattle.hour_changes.proofs.NextEvents.{first_of_many}
-use Rattle.joint_laws.specs.EnteringBlocks.{AreClosed}
-use Rattle.joint_laws.specs.MatchingBlocks.{legs_of}
+use Rattle.laws_of_hours.proofs.NextEvents.{first_of_many}
+use Rattle.laws_of_joint_commands.specs.EnteringBlocks.{AreClosed}
+use Rattle.laws_of_joint_commands.specs.MatchingBlocks.{legs_of}
 use Rattle.desk_changes.specs.Planned.{CanFollow, after_events}
 use Rattle.desk_changes.specs.State.{HourState, with_board, with_hand}
 use Rattle.desk_blocks.specs.Plans.{CloseInTurn}

@@ -5,7 +5,7 @@ use Rattle.zone_graph.specs.Graph.{Graph, border_count}
 use Rattle.zone_graph.specs.Rooms.{room_of}
 use Rattle.route_carrying.specs.Carrying.{FitTogether}
 use Rattle.route_choice.specs.Poured.{rooms_after}
-use Rattle.book_lines.specs.BlocksOf.{blocks_of}
+use Rattle.laws_of_books.specs.BlocksOf.{blocks_of}
 use Rattle.block_match.specs.declared.deal.BlockDeal.{BlockDeal}
 use Rattle.block_match.specs.Deals.{deal_of_period}
 use Rattle.block_match.specs.Market.{deal_events}
@@ -13,8 +13,8 @@ use Rattle.block_match.specs.Meeting.{HaveZones}
 use Rattle.market_model.specs.declared.event.Event.{Event}
 use Rattle.market_model.specs.declared.setup.Setup.{Setup}
 use Rattle.market_model.specs.Board.{IsHourOf}
-use Rattle.joint_laws.specs.EnteringBlocks.{AreClosed}
-use Rattle.joint_laws.specs.MatchingBlocks.{legs_of}
+use Rattle.laws_of_joint_commands.specs.EnteringBlocks.{AreClosed}
+use Rattle.laws_of_joint_commands.specs.MatchingBlocks.{legs_of}
 use Rattle.desk_changes.specs.Planned.{CanFollow, after_events}
 use Rattle.desk_changes.specs.State.{HourState}
 use Rattle.desk_blocks.specs.Periods.{AreDealsOf, IsFirstOfPeriod, IsPeriodOf}

@@ -20,9 +20,9 @@ use Rattle.block_match.specs.Market.{deal_events, leg_event}
 use Rattle.market_model.specs.declared.event.Event.{Event}
 use Rattle.market_model.specs.declared.event.Event.TheVariants as event
 use Rattle.market_model.specs.Board.{IsHourOf}
-use Rattle.market_laws.proofs.Uses.{room-le}
-use Rattle.line_fronts.specs.Quiet.{IsAside}
-use Rattle.joint_laws.specs.PeriodRooms.{hour_room}
+use Rattle.laws_of_market.proofs.Uses.{room-le}
+use Rattle.laws_of_lines.specs.Quiet.{IsAside}
+use Rattle.laws_of_joint_commands.specs.PeriodRooms.{hour_room}
 use Rattle.desk_changes.specs.Quiet.{HasNoLeg}
 use Rattle.desk_blocks.specs.Openings.{is_shut_back, may_open, opens}
 use Rattle.desk_blocks.proofs.Hours.{its-graph}

@@ -13,8 +13,8 @@ use Rattle.zone_graph.specs.Route.{IsIn}
 use Rattle.zone_graph.proofs.Membership.{has-IsIn}
 use Rattle.route_carrying.specs.Carrying.{FitTogether}
 use Rattle.route_choice.specs.Poured.{rooms_after}
-use Rattle.book_lines.specs.BlocksOf.{blocks_of}
-use Rattle.book_lines.proofs.MarketBooks.{from-book}
+use Rattle.laws_of_books.specs.BlocksOf.{blocks_of}
+use Rattle.laws_of_books.proofs.MarketBooks.{from-book}
 use Rattle.block_match.specs.declared.deal.BlockDeal.{BlockDeal}
 use Rattle.block_match.specs.Deals.{deal_of_period}
 use Rattle.block_match.specs.Market.{deal_events, rooms_over}
@@ -27,17 +27,17 @@ use Rattle.market_model.specs.Grid.{graph_of}
 use Rattle.market_model.specs.History.{of_hour, touches}
 use Rattle.market_model.specs.Room.{least}
 use Rattle.market_model.specs.WellFormed.{IsHistory}
-use Rattle.market_laws.proofs.Growing.{fit-back}
-use Rattle.market_laws.proofs.Placed.{all_are_sound}
-use Rattle.market_laws.proofs.Restrict.{map-same}
-use Rattle.hour_changes.proofs.NextEvents.{blocks-are}
-use Rattle.joint_laws.specs.ByHour.{hour_events}
-use Rattle.joint_laws.specs.EnteringBlocks.{AreClosed}
-use Rattle.joint_laws.specs.MatchingBlocks.{ArePeriodDeals, legs_of, next_deal, with_legs}
-use Rattle.joint_laws.specs.PeriodRooms.{hour_room, period_room}
-use Rattle.joint_laws.proofs.LeastRooms.{least_of_hours}
-use Rattle.joint_laws.proofs.PeriodDeals.{next_go_on}
-use Rattle.joint_laws.proofs.SharedEvents.{within-has}
+use Rattle.laws_of_market.proofs.Growing.{fit-back}
+use Rattle.laws_of_market.proofs.Placed.{all_are_sound}
+use Rattle.laws_of_market.proofs.Restrict.{map-same}
+use Rattle.laws_of_hours.proofs.NextEvents.{blocks-are}
+use Rattle.laws_of_joint_commands.specs.ByHour.{hour_events}
+use Rattle.laws_of_joint_commands.specs.EnteringBlocks.{AreClosed}
+use Rattle.laws_of_joint_commands.specs.MatchingBlocks.{ArePeriodDeals, legs_of, next_deal, with_legs}
+use Rattle.laws_of_joint_commands.specs.PeriodRooms.{hour_room, period_room}
+use Rattle.laws_of_joint_commands.proofs.LeastRooms.{least_of_hours}
+use Rattle.laws_of_joint_commands.proofs.PeriodDeals.{next_go_on}
+use Rattle.laws_of_joint_commands.proofs.SharedEvents.{within-has}
 use Rattle.desk_blocks.specs.Periods.{AreDealsOf, IsPeriodOf}
 use Rattle.desk_blocks.specs.Rooms.{CanCarryEach}
 use Rattle.desk_blocks.proofs.Lowered.{fit-together, lowered}

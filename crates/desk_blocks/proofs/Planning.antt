@@ -3,11 +3,11 @@ use Rattle.std.proofs.Common.{◌≡◌, ◌∙◌, ℕ, [], ◌∷◌, ◌++◌
 use Rattle.std.proofs.lemmas.List.{append-nil}
 use Rattle.market_model.specs.declared.event.Event.{Event}
 use Rattle.market_model.specs.Board.{with_events}
-use Rattle.desk_laws.specs.Settled.{IsSettled}
+use Rattle.laws_of_desks.specs.Settled.{IsSettled}
 use Rattle.sweep_core.specs.Sweeping.{swept}
 use Rattle.block_match.specs.declared.deal.BlockDeal.{BlockDeal}
 use Rattle.block_match.specs.Market.{deal_events}
-use Rattle.joint_laws.specs.EnteringBlocks.{AreClosed}
+use Rattle.laws_of_joint_commands.specs.EnteringBlocks.{AreClosed}
 use Rattle.desk_changes.specs.Deals.{ClosesBoth, with_entry}
 use Rattle.desk_changes.specs.Planned.{CanFollow, IsUnplanned, with_planned}
 use Rattle.desk_changes.specs.State.{HourState, after_event, block_entry_of, with_board, with_hand}

@@ -23,15 +23,15 @@ use Rattle.market_model.specs.Lines.{line}
 use Rattle.market_model.specs.Orders.{Standing}
 use Rattle.market_model.specs.Room.{least, quarter_room}
 use Rattle.market_model.specs.Sweep.{leg_in}
-use Rattle.market_laws.proofs.LocalLines.{line-agree}
-use Rattle.market_laws.proofs.LocalStates.{Agree, room-agree}
-use Rattle.line_fronts.specs.Fronts.{StandInFor}
-use Rattle.line_fronts.proofs.Unopened.{unopened}
-use Rattle.line_fronts.specs.Quiet.{IsAside, raises}
-use Rattle.line_fronts.proofs.Aside.{no_better, stand_as_before}
-use Rattle.line_fronts.proofs.Rises.{rise-alone}
-use Rattle.hour_changes.specs.NextEvents.{IsNext}
-use Rattle.hour_changes.proofs.NextEvents.{after, agrees, before as before_it, next}
+use Rattle.laws_of_market.proofs.LocalLines.{line-agree}
+use Rattle.laws_of_market.proofs.LocalStates.{Agree, room-agree}
+use Rattle.laws_of_lines.specs.Fronts.{StandInFor}
+use Rattle.laws_of_lines.proofs.Unopened.{unopened}
+use Rattle.laws_of_lines.specs.Quiet.{IsAside, raises}
+use Rattle.laws_of_lines.proofs.Aside.{no_better, stand_as_before}
+use Rattle.laws_of_lines.proofs.Rises.{rise-alone}
+use Rattle.laws_of_hours.specs.NextEvents.{IsNext}
+use Rattle.laws_of_hours.proofs.NextEvents.{after, agrees, before as before_it, next}
 use Rattle.desk_blocks.proofs.Hours.{first-follows, others-follow}
 
 -- who stands in for one that stands in for a former order stands in for that order

@@ -9,9 +9,9 @@ use Rattle.market_model.specs.declared.setup.Setup.{Setup}
 use Rattle.market_model.specs.Grid.{graph_of}
 use Rattle.market_model.specs.History.{of_hour}
 use Rattle.market_model.specs.WellFormed.{IsHistory, IsMarketSetup}
-use Rattle.joint_laws.specs.ByHour.{hour_events}
-use Rattle.joint_laws.specs.MatchingBlocks.{ArePeriodDeals, legs_of}
-use Rattle.joint_laws.specs.PeriodRooms.{period_room}
+use Rattle.laws_of_joint_commands.specs.ByHour.{hour_events}
+use Rattle.laws_of_joint_commands.specs.MatchingBlocks.{ArePeriodDeals, legs_of}
+use Rattle.laws_of_joint_commands.specs.PeriodRooms.{period_room}
 
 -- after a well-formed history over a graph the first hour of a period has some events, and the period has some rooms
 pub record IsPeriodOf (graph : Graph) (setup : Setup) (history : List Event) (first last : ℕ) (events : List Event) (rooms : List (ℕ × ℕ)) : Type 0 where

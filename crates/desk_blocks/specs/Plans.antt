@@ -7,7 +7,7 @@ use Rattle.block_match.specs.Market.{deal_events}
 use Rattle.market_model.specs.declared.event.Event.{Event}
 use Rattle.market_model.specs.Orders.{next_name}
 use Rattle.market_model.specs.Sweep.{all_parts, sweep}
-use Rattle.joint_laws.specs.EnteringBlocks.{AreClosed, events_of_deal}
+use Rattle.laws_of_joint_commands.specs.EnteringBlocks.{AreClosed, events_of_deal}
 use Rattle.desk_changes.specs.State.{HourState, block_entry_of}
 
 -- some events behind those that are settled, and then the sweep of the hour

@@ -3,9 +3,9 @@
 ghost use Rattle.std.specs.Prelude.{◌≡◌, ◌++◌, false, None, IfOk, OnErr, OnOk};
 ghost use Rattle.block_match.specs.Market.{deal_events};
 ghost use Rattle.desk_changes.specs.Quiet.{HasNoLeg};
-ghost use Rattle.desk_laws.specs.Settled.{IsSettled};
-ghost use Rattle.joint_laws.specs.EnteringBlocks.{AreClosed};
-ghost use Rattle.joint_laws.specs.MatchingBlocks.{legs_of};
+ghost use Rattle.laws_of_desks.specs.Settled.{IsSettled};
+ghost use Rattle.laws_of_joint_commands.specs.EnteringBlocks.{AreClosed};
+ghost use Rattle.laws_of_joint_commands.specs.MatchingBlocks.{legs_of};
 ghost use Rattle.desk_changes.specs.Planned.{CanFollow, IsUnplanned, after_events, with_planned};
 ghost use Rattle.desk_changes.specs.State.{undone};
 ghost use Rattle.desk_blocks.specs.Plans as plans;

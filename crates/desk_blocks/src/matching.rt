@@ -2,8 +2,8 @@
 
 ghost use Rattle.std.specs.Prelude.{◌≡◌, false, None, IfOk, OnErr, length};
 ghost use Rattle.desk_changes.specs.Quiet.{HasNoLeg};
-ghost use Rattle.desk_laws.specs.Settled.{IsSettled};
-ghost use Rattle.joint_laws.specs.MatchingBlocks.{legs_of};
+ghost use Rattle.laws_of_desks.specs.Settled.{IsSettled};
+ghost use Rattle.laws_of_joint_commands.specs.MatchingBlocks.{legs_of};
 ghost use Rattle.desk_changes.specs.Planned.{IsUnplanned, after_events, with_planned};
 ghost use Rattle.desk_changes.specs.State.{undone};
 ghost use Rattle.zone_graph.specs.Graph.{border_count};

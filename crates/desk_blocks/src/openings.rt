@@ -4,7 +4,7 @@ ghost use Rattle.std.specs.Prelude.{◌≡◌, nat_lt};
 ghost use Rattle.zone_graph.specs.declared.route.Arc.{Arc as RouteArc};
 ghost use Rattle.zone_graph.specs.Graph.{HasArc};
 ghost use Rattle.zone_graph.specs.Route.{IsIn};
-ghost use Rattle.joint_laws.specs.PeriodRooms.{hour_room};
+ghost use Rattle.laws_of_joint_commands.specs.PeriodRooms.{hour_room};
 ghost use Rattle.desk_blocks.specs.Openings as openings;
 
 use desk_changes::{KeptHour, has_room_in};

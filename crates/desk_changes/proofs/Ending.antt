@@ -16,13 +16,13 @@ use Rattle.market_model.specs.declared.event.Event.TheVariants as event
 use Rattle.market_model.specs.Board.{BoardState, IsHourOf, with_events}
 use Rattle.market_model.specs.History.{and_then}
 use Rattle.market_model.specs.Orders.{left, placed_by}
-use Rattle.market_laws.proofs.Placed.{picked-same}
-use Rattle.market_laws.proofs.Wholes.{left-untouched, other_name}
-use Rattle.book_lines.specs.BookOf.{book_of, contract_of, resting_line}
-use Rattle.book_lines.proofs.ChangedOrders.{hour_of}
-use Rattle.book_lines.proofs.LineOrders.{from_resting, same_names}
-use Rattle.book_lines.proofs.PartLines.{from_book, line_of-book}
-use Rattle.desk_laws.proofs.Fitting.{fits_in}
+use Rattle.laws_of_market.proofs.Placed.{picked-same}
+use Rattle.laws_of_market.proofs.Wholes.{left-untouched, other_name}
+use Rattle.laws_of_books.specs.BookOf.{book_of, contract_of, resting_line}
+use Rattle.laws_of_books.proofs.ChangedOrders.{hour_of}
+use Rattle.laws_of_books.proofs.LineOrders.{from_resting, same_names}
+use Rattle.laws_of_books.proofs.PartLines.{from_book, line_of-book}
+use Rattle.laws_of_desks.proofs.Fitting.{fits_in}
 use Rattle.kept_hour.specs.Planned.{after_events}
 use Rattle.kept_hour.specs.State.{HourState, after_event, with_board, with_hand, withdrawal_of}
 use Rattle.desk_changes.specs.declared.still_open.StillOpen.{StillOpen}

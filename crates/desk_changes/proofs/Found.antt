@@ -21,18 +21,18 @@ use Rattle.market_model.specs.declared.event.Event.{Event}
 use Rattle.market_model.specs.declared.event.Event.TheVariants as event
 use Rattle.market_model.specs.Board.{IsHourOf}
 use Rattle.market_model.specs.Orders.{Placed, PlacedBlock, block_placed_by, blocks_placed, is_open, left, open_block, open_order, placed, placed_by, standing}
-use Rattle.market_laws.proofs.Members.{IsIn-filter_map, from_filter_map}
-use Rattle.market_laws.proofs.Placed.{all_are_sound}
-use Rattle.market_laws.proofs.Tests.{same_name-eq, same_name-refl}
-use Rattle.market_laws.proofs.LocalStates.{left-agree}
-use Rattle.book_lines.specs.BookLaws.{IsOfBlock}
-use Rattle.book_lines.specs.BookOf.{book_of, resting_of}
-use Rattle.book_lines.proofs.FoundOrders.{order-found}
-use Rattle.book_lines.specs.BlockLaws.{IsOfOrder}
-use Rattle.book_lines.specs.BlocksOf.{blocks_of, resting_block}
-use Rattle.book_lines.proofs.WholeBlockBooks.{block-found}
-use Rattle.hour_changes.specs.OrderEvents.{without_hand}
-use Rattle.hour_changes.proofs.NextEvents.{agrees, blocks-are, book-is}
+use Rattle.laws_of_market.proofs.Members.{IsIn-filter_map, from_filter_map}
+use Rattle.laws_of_market.proofs.Placed.{all_are_sound}
+use Rattle.laws_of_market.proofs.Tests.{same_name-eq, same_name-refl}
+use Rattle.laws_of_market.proofs.LocalStates.{left-agree}
+use Rattle.laws_of_books.specs.BookLaws.{IsOfBlock}
+use Rattle.laws_of_books.specs.BookOf.{book_of, resting_of}
+use Rattle.laws_of_books.proofs.FoundOrders.{order-found}
+use Rattle.laws_of_books.specs.BlockLaws.{IsOfOrder}
+use Rattle.laws_of_books.specs.BlocksOf.{blocks_of, resting_block}
+use Rattle.laws_of_books.proofs.WholeBlockBooks.{block-found}
+use Rattle.laws_of_hours.specs.OrderEvents.{without_hand}
+use Rattle.laws_of_hours.proofs.NextEvents.{agrees, blocks-are, book-is}
 use Rattle.desk_changes.specs.declared.still_open.StillOpen.{StillOpen}
 use Rattle.desk_changes.specs.StillOpen.{open_by, open_in, open_one}
 use Rattle.desk_changes.proofs.Names.{in-history, of-hour, placed-in}

@@ -14,11 +14,11 @@ use Rattle.market_model.specs.Board.{BoardState, IsHourOf}
 use Rattle.market_model.specs.History.{touches}
 use Rattle.market_model.specs.Market.{withdrawals}
 use Rattle.market_model.specs.Orders.{Placed, is_open, left, name_given, placed, placed_by}
-use Rattle.market_laws.proofs.Changes.{withdrawn}
-use Rattle.market_laws.proofs.Members.{IsIn-filter_map, from_filter_map}
-use Rattle.market_laws.proofs.Names.{enters_as, names-once, times_entered}
-use Rattle.market_laws.proofs.Tests.{same_name-refl}
-use Rattle.market_laws.proofs.Unique.{entered-once, enters-placed, times-cons, times-some}
+use Rattle.laws_of_market.proofs.Changes.{withdrawn}
+use Rattle.laws_of_market.proofs.Members.{IsIn-filter_map, from_filter_map}
+use Rattle.laws_of_market.proofs.Names.{enters_as, names-once, times_entered}
+use Rattle.laws_of_market.proofs.Tests.{same_name-refl}
+use Rattle.laws_of_market.proofs.Unique.{entered-once, enters-placed, times-cons, times-some}
 use Rattle.desk_changes.specs.declared.still_open.StillOpen.{StillOpen}
 use Rattle.desk_changes.specs.Quiet.{HasNoLeg}
 use Rattle.desk_changes.specs.StillOpen.{CanEnd, IsStillOpen, name_of, open_by, open_in, open_one, withdrawal}

@@ -10,8 +10,8 @@ use Rattle.market_model.specs.Board.{with_events}
 use Rattle.market_model.specs.Market.{gate, withdrawals}
 use Rattle.market_model.specs.Sweep.{all_parts, sweep, sweeps}
 use Rattle.market_model.specs.WellFormed.{GrantFits, OfferFits}
-use Rattle.hour_changes.proofs.NextEvents.{next}
-use Rattle.desk_laws.specs.Settled.{IsSettled}
+use Rattle.laws_of_hours.proofs.NextEvents.{next}
+use Rattle.laws_of_desks.specs.Settled.{IsSettled}
 use Rattle.sweep_core.specs.declared.part_set.PartSet.{PartSet}
 use Rattle.sweep_core.specs.Parts.{has_part}
 use Rattle.sweep_core.specs.Sweeping.{OthersAreQuiet}

@@ -14,13 +14,13 @@ use Rattle.market_model.specs.Grid.{graph_of}
 use Rattle.market_model.specs.History.{and_then}
 use Rattle.market_model.specs.Room.{room}
 use Rattle.market_model.specs.Sweep.{all_parts, first_answer, leg_in, or_else, sweep, sweep_leg}
-use Rattle.market_laws.proofs.LocalLines.{contract-hours, sweep_leg-agree}
-use Rattle.market_laws.proofs.LocalStates.{Agree, room-agree}
-use Rattle.line_fronts.specs.Fronts.{OpensNoArc}
-use Rattle.line_fronts.specs.Quiet.{IsAside, raises}
-use Rattle.line_fronts.proofs.Stays.{unopened-quiet}
-use Rattle.hour_changes.specs.NextEvents.{IsNext}
-use Rattle.hour_changes.proofs.NextEvents.{after, agrees, before, next}
+use Rattle.laws_of_market.proofs.LocalLines.{contract-hours, sweep_leg-agree}
+use Rattle.laws_of_market.proofs.LocalStates.{Agree, room-agree}
+use Rattle.laws_of_lines.specs.Fronts.{OpensNoArc}
+use Rattle.laws_of_lines.specs.Quiet.{IsAside, raises}
+use Rattle.laws_of_lines.proofs.Stays.{unopened-quiet}
+use Rattle.laws_of_hours.specs.NextEvents.{IsNext}
+use Rattle.laws_of_hours.proofs.NextEvents.{after, agrees, before, next}
 use Rattle.sweep_core.specs.Sweeping.{order_numbers, part_leg, swept}
 use Rattle.sweep_core.proofs.Progress.{begun, ended, next-is}
 use Rattle.desk_changes.specs.Quiet.{HasNoLeg}

@@ -2,8 +2,8 @@
 
 ghost use Rattle.std.specs.Prelude.{◌≡◌, None, IfOk};
 ghost use Rattle.zone_graph.specs.Route.{IsIn};
-ghost use Rattle.book_lines.specs.BlockLaws.{IsOfOrder};
-ghost use Rattle.book_lines.specs.BookLaws.{IsOfBlock};
+ghost use Rattle.laws_of_books.specs.BlockLaws.{IsOfOrder};
+ghost use Rattle.laws_of_books.specs.BookLaws.{IsOfBlock};
 ghost use Rattle.market_model.specs.Board.{IsBoard};
 ghost use Rattle.desk_changes.specs.StillOpen as listed;
 

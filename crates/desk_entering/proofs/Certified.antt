@@ -20,17 +20,17 @@ use Rattle.market_model.specs.Certificate.{bound_of, crossing_inside, room_acros
 use Rattle.market_model.specs.Entering.{after_taking}
 use Rattle.market_model.specs.Grid.{graph_of}
 use Rattle.market_model.specs.Room.{room}
-use Rattle.market_laws.proofs.LocalAnswers.{bound_of-agree}
-use Rattle.market_laws.proofs.LocalLines.{contract-hours, line-agree}
-use Rattle.market_laws.proofs.LocalStates.{Agree, room-agree}
-use Rattle.book_lines.specs.BookOf.{book_of, resting_line}
-use Rattle.book_lines.proofs.PartLines.{line_of-book, parts_of-book}
+use Rattle.laws_of_market.proofs.LocalAnswers.{bound_of-agree}
+use Rattle.laws_of_market.proofs.LocalLines.{contract-hours, line-agree}
+use Rattle.laws_of_market.proofs.LocalStates.{Agree, room-agree}
+use Rattle.laws_of_books.specs.BookOf.{book_of, resting_line}
+use Rattle.laws_of_books.proofs.PartLines.{line_of-book, parts_of-book}
 use Rattle.kept_certificate.specs.Crossing.{bound_in}
 use Rattle.kept_certificate.proofs.Entries.{entries-leave}
 use Rattle.kept_certificate.proofs.Records.{bounds-are}
-use Rattle.certified_maximum.proofs.SameRooms.{reach-same}
+use Rattle.laws_of_maximum.proofs.SameRooms.{reach-same}
 use Rattle.match_core.specs.Walks.{AreRoomsOf}
-use Rattle.hour_changes.specs.OrderEvents.{without_hand}
+use Rattle.laws_of_hours.specs.OrderEvents.{without_hand}
 use Rattle.kept_hour.specs.Planned.{IsUnplanned}
 use Rattle.kept_hour.specs.State.{HourState}
 use Rattle.match_core.specs.declared.taker.Taker.{Taker}

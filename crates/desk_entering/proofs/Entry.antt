@@ -14,12 +14,12 @@ use Rattle.market_model.specs.Grid.{graph_of}
 use Rattle.market_model.specs.History.{and_then}
 use Rattle.market_model.specs.Orders.{left, next_name}
 use Rattle.market_model.specs.WellFormed.{OrderEnters}
-use Rattle.market_laws.proofs.LocalStates.{Agree, next_name-agree}
-use Rattle.desk_laws.specs.Hours.{IsHourIn}
-use Rattle.desk_laws.proofs.Fitting.{hour-in-agrees}
-use Rattle.desk_laws.proofs.Stepping.{withdrawn}
-use Rattle.hour_changes.specs.NextEvents.{IsNext}
-use Rattle.hour_changes.proofs.NextEvents.{first_part, next}
+use Rattle.laws_of_market.proofs.LocalStates.{Agree, next_name-agree}
+use Rattle.laws_of_desks.specs.Hours.{IsHourIn}
+use Rattle.laws_of_desks.proofs.Fitting.{hour-in-agrees}
+use Rattle.laws_of_desks.proofs.Stepping.{withdrawn}
+use Rattle.laws_of_hours.specs.NextEvents.{IsNext}
+use Rattle.laws_of_hours.proofs.NextEvents.{first_part, next}
 use Rattle.kept_hour.specs.State.{CanBeNext, HourState, entry_of}
 use Rattle.desk_entering.specs.Entries.{Enters}
 

@@ -22,13 +22,13 @@ use Rattle.market_model.specs.Board.{BoardState}
 use Rattle.market_model.specs.Entering.{name_of_next, with_order}
 use Rattle.market_model.specs.History.{and_then, of_hour}
 use Rattle.market_model.specs.Orders.{Placed, entered_by, filled, left, moment, price_now}
-use Rattle.market_laws.proofs.Names.{names-once, order_name-new}
-use Rattle.market_laws.proofs.States.{entered-more, filled-more, taken_off-more}
-use Rattle.market_laws.proofs.Tests.{same_name-refl}
-use Rattle.market_laws.proofs.Wholes.{new-untouched}
-use Rattle.market_laws.proofs.LocalEntries.{with_order-agree}
-use Rattle.market_laws.proofs.LocalMoments.{moment-more}
-use Rattle.market_laws.proofs.LocalStates.{filled-agree, left-agree}
+use Rattle.laws_of_market.proofs.Names.{names-once, order_name-new}
+use Rattle.laws_of_market.proofs.States.{entered-more, filled-more, taken_off-more}
+use Rattle.laws_of_market.proofs.Tests.{same_name-refl}
+use Rattle.laws_of_market.proofs.Wholes.{new-untouched}
+use Rattle.laws_of_market.proofs.LocalEntries.{with_order-agree}
+use Rattle.laws_of_market.proofs.LocalMoments.{moment-more}
+use Rattle.laws_of_market.proofs.LocalStates.{filled-agree, left-agree}
 use Rattle.match_core.specs.declared.taker.Taker.{Taker}
 use Rattle.match_core.specs.Takers.{price_at, taker_at, taker_of}
 use Rattle.match_core.specs.Takings.{HasEntered}

@@ -28,19 +28,19 @@ use Rattle.market_model.specs.Orders.{Placed, left, placed, placed_by}
 use Rattle.market_model.specs.Room.{room}
 use Rattle.market_model.specs.Taking.{IsTaking, next_leg}
 use Rattle.market_model.specs.WellFormed.{FitAfter, IsMarketSetup, OrderEnters}
-use Rattle.market_laws.proofs.Falls.{IsLegIn, take-run}
-use Rattle.market_laws.proofs.Growing.{fit-append}
-use Rattle.market_laws.proofs.Legs.{next_leg-fits, take-fits}
-use Rattle.market_laws.proofs.Members.{IsIn-filter_map}
-use Rattle.market_laws.proofs.Placed.{picked-stays}
-use Rattle.market_laws.proofs.Repeats.{fit-more}
-use Rattle.market_laws.proofs.Uses.{contract_has-is, room-le}
-use Rattle.certified_maximum.proofs.Obtained.{fit-can_take}
-use Rattle.certified_maximum.proofs.Takers.{takers-leg}
+use Rattle.laws_of_market.proofs.Falls.{IsLegIn, take-run}
+use Rattle.laws_of_market.proofs.Growing.{fit-append}
+use Rattle.laws_of_market.proofs.Legs.{next_leg-fits, take-fits}
+use Rattle.laws_of_market.proofs.Members.{IsIn-filter_map}
+use Rattle.laws_of_market.proofs.Placed.{picked-stays}
+use Rattle.laws_of_market.proofs.Repeats.{fit-more}
+use Rattle.laws_of_market.proofs.Uses.{contract_has-is, room-le}
+use Rattle.laws_of_maximum.proofs.Obtained.{fit-can_take}
+use Rattle.laws_of_maximum.proofs.Takers.{takers-leg}
 use Rattle.sweep_core.specs.Sweeping.{may_open}
-use Rattle.line_fronts.specs.Quiet.{IsAside, IsQuiet}
-use Rattle.line_fronts.proofs.Stays.{never-quiet}
-use Rattle.line_fronts.proofs.Taking.{taker-quiet}
+use Rattle.laws_of_lines.specs.Quiet.{IsAside, IsQuiet}
+use Rattle.laws_of_lines.proofs.Stays.{never-quiet}
+use Rattle.laws_of_lines.proofs.Taking.{taker-quiet}
 use Rattle.desk_entering.specs.Opening.{opens}
 use Rattle.desk_entering.proofs.Staying.{HadRoom, stays-quiet}
 

@@ -16,7 +16,7 @@ use Rattle.market_model.specs.History.{and_then, of_hour}
 use Rattle.market_model.specs.Orders.{Placed, next_name, open_names, placed, placed_by}
 use Rattle.market_model.specs.Refusals.{desk_room}
 use Rattle.market_model.specs.Sweep.{all_parts, sweep}
-use Rattle.market_laws.proofs.Members.{IsIn-filter_map}
+use Rattle.laws_of_market.proofs.Members.{IsIn-filter_map}
 use Rattle.match_core.specs.declared.taker.Taker.{Taker}
 use Rattle.match_core.specs.Takers.{taker_at, taker_of}
 use Rattle.match_core.specs.Takings.{HasEntered}

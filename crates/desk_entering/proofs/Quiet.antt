@@ -25,12 +25,12 @@ use Rattle.market_model.specs.Grid.{graph_of}
 use Rattle.market_model.specs.Room.{room}
 use Rattle.market_model.specs.Sweep.{all_parts, first_answer, left_in_hour, leg_in, or_else, sweep, sweep_leg}
 use Rattle.market_model.specs.WellFormed.{FitAfter, IsMarketSetup, OrderEnters}
-use Rattle.market_laws.proofs.Lines.{same_contract-refl}
-use Rattle.market_laws.proofs.Tests.{same_contract-eq}
-use Rattle.market_laws.proofs.LocalEntries.{before_sweep-named, legs_taken-agree, rest_of-agree}
-use Rattle.market_laws.proofs.LocalLines.{contract-hours, sweep_leg-agree}
-use Rattle.market_laws.proofs.LocalStates.{Agree, agree-append, room-agree}
-use Rattle.desk_laws.specs.Settled.{IsSettled}
+use Rattle.laws_of_market.proofs.Lines.{same_contract-refl}
+use Rattle.laws_of_market.proofs.Tests.{same_contract-eq}
+use Rattle.laws_of_market.proofs.LocalEntries.{before_sweep-named, legs_taken-agree, rest_of-agree}
+use Rattle.laws_of_market.proofs.LocalLines.{contract-hours, sweep_leg-agree}
+use Rattle.laws_of_market.proofs.LocalStates.{Agree, agree-append, room-agree}
+use Rattle.laws_of_desks.specs.Settled.{IsSettled}
 use Rattle.sweep_core.specs.Sweeping.{hour_sweep}
 use Rattle.kept_hour.specs.State.{HourState}
 use Rattle.desk_entering.specs.Entries.{Enters, HasEnded, ended_events}

@@ -23,18 +23,18 @@ use Rattle.market_model.specs.History.{and_then}
 use Rattle.market_model.specs.Orders.{Placed, filled, is_open, left, moment, open_names, placed, placed_by, standing}
 use Rattle.market_model.specs.Refusals.{desk_room, has_desk_room}
 use Rattle.market_model.specs.WellFormed.{OrderEnters}
-use Rattle.market_laws.proofs.Members.{IsIn-filter_map}
-use Rattle.market_laws.proofs.Placed.{picked-stays}
-use Rattle.market_laws.proofs.Repeats.{fit-more}
-use Rattle.market_laws.proofs.LocalAnswers.{has_desk_room-agree, open_names-agree, open_names-hour}
-use Rattle.market_laws.proofs.LocalEntries.{after_taking-agree}
-use Rattle.market_laws.proofs.Restrict.{filter-same}
-use Rattle.certified_maximum.proofs.Obtained.{fit-can_take}
-use Rattle.market_laws.proofs.OpenNames.{few-rests, order-entry}
-use Rattle.market_laws.proofs.Closing.{take-quiet}
-use Rattle.book_lines.specs.BookOf.{book_of, contract_of, ice_of, resting_of}
-use Rattle.book_lines.proofs.LineOrders.{StandsIn, in_resting}
-use Rattle.book_lines.proofs.PartLines.{line_of-book}
+use Rattle.laws_of_market.proofs.Members.{IsIn-filter_map}
+use Rattle.laws_of_market.proofs.Placed.{picked-stays}
+use Rattle.laws_of_market.proofs.Repeats.{fit-more}
+use Rattle.laws_of_market.proofs.LocalAnswers.{has_desk_room-agree, open_names-agree, open_names-hour}
+use Rattle.laws_of_market.proofs.LocalEntries.{after_taking-agree}
+use Rattle.laws_of_market.proofs.Restrict.{filter-same}
+use Rattle.laws_of_maximum.proofs.Obtained.{fit-can_take}
+use Rattle.laws_of_market.proofs.OpenNames.{few-rests, order-entry}
+use Rattle.laws_of_market.proofs.Closing.{take-quiet}
+use Rattle.laws_of_books.specs.BookOf.{book_of, contract_of, ice_of, resting_of}
+use Rattle.laws_of_books.proofs.LineOrders.{StandsIn, in_resting}
+use Rattle.laws_of_books.proofs.PartLines.{line_of-book}
 use Rattle.contract_book.specs.Book.{line_of}
 use Rattle.hour_store.specs.Contents.{IsOfPart}
 use Rattle.match_core.specs.declared.taker.Taker.{Taker}

@@ -2,7 +2,7 @@
 
 ghost use Rattle.std.specs.Prelude.{◌≡◌, ◌<◌, ◌^◌, ◌-◌, ℕ, IfOk};
 ghost use Rattle.order_kinds.specs.Contract as contracts;
-ghost use Rattle.book_lines.specs.BookOf.{ice_of};
+ghost use Rattle.laws_of_books.specs.BookOf.{ice_of};
 ghost use Rattle.match_core.specs.Takers.{taker_at};
 ghost use Rattle.kept_hour.specs.Kept.{names_given};
 ghost use Rattle.kept_hour.specs.Planned.{IsUnplanned};

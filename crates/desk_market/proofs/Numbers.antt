@@ -9,8 +9,8 @@ use Rattle.market_model.specs.Concerned.{left_for}
 use Rattle.market_model.specs.History.{entered_count, enters, enters_in, events_of, journal_events, touches}
 use Rattle.market_model.specs.Market.{IsLegal, Turn, entry_of, run_after, run_of, turn_of}
 use Rattle.market_model.specs.Sweep.{all_parts}
-use Rattle.market_laws.proofs.Names.{entered_in-few}
-use Rattle.market_laws.proofs.ReplyEntries.{reply-enters-few}
+use Rattle.laws_of_market.proofs.Names.{entered_in-few}
+use Rattle.laws_of_market.proofs.ReplyEntries.{reply-enters-few}
 
 -- each entry enters at most eight
 run-few : (setup : Setup) (before : List Entry) (turns : List Turn) → entered_count (journal_events (run_after all_parts setup before turns)) ≤ 8 * length turns

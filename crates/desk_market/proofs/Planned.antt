@@ -17,8 +17,8 @@ use Rattle.market_model.specs.History.{enters_in, events_of, journal_events, of_
 use Rattle.market_model.specs.HourSet.{IsSetOf, has_hour}
 use Rattle.market_model.specs.Market.{IsLegal}
 use Rattle.market_model.specs.WellFormed.{IsMarketSetup}
-use Rattle.market_laws.proofs.Journals.{journal_events-more}
-use Rattle.market_laws.proofs.Restrict.{filter-same, map-same}
+use Rattle.laws_of_market.proofs.Journals.{journal_events-more}
+use Rattle.laws_of_market.proofs.Restrict.{filter-same, map-same}
 use Rattle.trade_journal.specs.Journals.{all_rooms}
 use Rattle.basket_match.specs.Desk.{DeskState, carried, planning, with_nothing_planned}
 use Rattle.basket_match.specs.Rows.{AreReady, IsJournalOf, dropped, hours_of, planning_all}

@@ -15,9 +15,9 @@ use Rattle.market_model.specs.Market.{IsLegal, reply_to, turn_of}
 use Rattle.market_model.specs.Rules.{early_refusal, touched_hours}
 use Rattle.market_model.specs.Sweep.{all_parts}
 use Rattle.market_model.specs.WellFormed.{IsHistory, IsMarketSetup}
-use Rattle.market_laws.proofs.Journals.{run-history}
-use Rattle.market_laws.proofs.NamedByHour.{history-named}
-use Rattle.market_laws.proofs.WithinHours.{reply-within}
+use Rattle.laws_of_market.proofs.Journals.{run-history}
+use Rattle.laws_of_market.proofs.NamedByHour.{history-named}
+use Rattle.laws_of_market.proofs.WithinHours.{reply-within}
 use Rattle.basket_match.proofs.Touching.{none-elsewhere}
 use Rattle.basket_match.proofs.Commands.{refused-early}
 use Rattle.desk_market.specs.Standing.{planned_hours}

@@ -11,7 +11,7 @@ use Rattle.market_model.specs.declared.setup.Setup.{Setup}
 use Rattle.market_model.specs.History.{journal_events}
 use Rattle.market_model.specs.Market.{entry_of}
 use Rattle.market_model.specs.Sweep.{all_parts}
-use Rattle.market_laws.proofs.Journals.{journal_events-more}
+use Rattle.laws_of_market.proofs.Journals.{journal_events-more}
 use Rattle.market_text.specs.Commands.{commands_of}
 use Rattle.trade_journal.specs.Journals.{made_by, room_of_caller}
 use Rattle.session_journal.proofs.Journals.{IsPlayed, count-callers, played-more}

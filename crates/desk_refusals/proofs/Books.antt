@@ -13,20 +13,20 @@ use Rattle.block_book.specs.Book.{block_of}
 use Rattle.market_model.specs.declared.event.Event.{Event}
 use Rattle.market_model.specs.Board.{IsHourOf}
 use Rattle.market_model.specs.Orders.{Placed, PlacedBlock, blocks_placed, is_open, moment, open_block, open_order, placed, standing}
-use Rattle.market_laws.proofs.Legs.{open_order-is}
-use Rattle.market_laws.proofs.Placed.{OrderIsSound, all_are_sound}
-use Rattle.market_laws.proofs.Tests.{same_name-eq}
-use Rattle.market_laws.proofs.LocalBlocks.{open_block-agree, standing_block-agree}
-use Rattle.market_laws.proofs.LocalLines.{open_order-agree, standing-agree}
-use Rattle.market_laws.proofs.LocalStates.{Agree}
-use Rattle.book_lines.specs.BookOf.{book_of, contract_of, resting_of}
-use Rattle.book_lines.proofs.FoundOrders as orders
-use Rattle.book_lines.proofs.LineOrders.{in_resting}
-use Rattle.book_lines.proofs.PartLines.{line_of-book}
-use Rattle.book_lines.specs.BlocksOf.{blocks_of, resting_block}
-use Rattle.book_lines.proofs.BlocksKept.{resting-same}
-use Rattle.book_lines.proofs.WholeBlockBooks as blocks
-use Rattle.hour_changes.proofs.NextEvents.{agrees, blocks-are, book-is, placed-too}
+use Rattle.laws_of_market.proofs.Legs.{open_order-is}
+use Rattle.laws_of_market.proofs.Placed.{OrderIsSound, all_are_sound}
+use Rattle.laws_of_market.proofs.Tests.{same_name-eq}
+use Rattle.laws_of_market.proofs.LocalBlocks.{open_block-agree, standing_block-agree}
+use Rattle.laws_of_market.proofs.LocalLines.{open_order-agree, standing-agree}
+use Rattle.laws_of_market.proofs.LocalStates.{Agree}
+use Rattle.laws_of_books.specs.BookOf.{book_of, contract_of, resting_of}
+use Rattle.laws_of_books.proofs.FoundOrders as orders
+use Rattle.laws_of_books.proofs.LineOrders.{in_resting}
+use Rattle.laws_of_books.proofs.PartLines.{line_of-book}
+use Rattle.laws_of_books.specs.BlocksOf.{blocks_of, resting_block}
+use Rattle.laws_of_books.proofs.BlocksKept.{resting-same}
+use Rattle.laws_of_books.proofs.WholeBlockBooks as blocks
+use Rattle.laws_of_hours.proofs.NextEvents.{agrees, blocks-are, book-is, placed-too}
 use Rattle.hour_store.specs.Contents.{IsOfPart}
 use Rattle.desk_refusals.specs.Found.{record_of}
 use Rattle.desk_refusals.specs.Told.{Tells}

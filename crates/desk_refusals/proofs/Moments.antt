@@ -21,12 +21,12 @@ use Rattle.market_model.specs.Board.{IsHourOf}
 use Rattle.market_model.specs.History.{and_then, of_hour, touches}
 use Rattle.market_model.specs.Orders.{Placed, ends_peak, gives_moment, last_place_from, moment, names, placed, placed_by}
 use Rattle.market_model.specs.WellFormed.{FitAfter, Fits, LegFits}
-use Rattle.market_laws.proofs.Members.{IsIn-filter_map, from_filter_map}
-use Rattle.market_laws.proofs.Names.{names-once}
-use Rattle.market_laws.proofs.Placed.{picked-stays}
-use Rattle.market_laws.proofs.Tests.{same_name-eq, same_name-refl}
-use Rattle.market_laws.proofs.Unique.{one_order}
-use Rattle.hour_changes.proofs.NextEvents.{agrees, placed-too}
+use Rattle.laws_of_market.proofs.Members.{IsIn-filter_map, from_filter_map}
+use Rattle.laws_of_market.proofs.Names.{names-once}
+use Rattle.laws_of_market.proofs.Placed.{picked-stays}
+use Rattle.laws_of_market.proofs.Tests.{same_name-eq, same_name-refl}
+use Rattle.laws_of_market.proofs.Unique.{one_order}
+use Rattle.laws_of_hours.proofs.NextEvents.{agrees, placed-too}
 use Rattle.desk_refusals.specs.Told.{Tells, contract_told, enters_limit, event_at}
 
 -- ---- the last place at which an event passes a test

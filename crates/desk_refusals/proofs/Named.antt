@@ -25,7 +25,7 @@ use Rattle.market_model.specs.Rules.{first_broken, hours_concerned, unless}
 use Rattle.market_model.specs.Sweep.{first_answer, or_else}
 use Rattle.market_model.specs.Asked.{first_in_hour}
 use Rattle.market_model.specs.StateRules.{capacity_refusal, capacity_rules}
-use Rattle.book_lines.proofs.LineOrders.{same_names}
+use Rattle.laws_of_books.proofs.LineOrders.{same_names}
 use Rattle.desk_refusals.specs.Found.{own_limit_order, record_of}
 use Rattle.desk_refusals.proofs.Ranges.{whole-range}
 

@@ -13,15 +13,15 @@ use Rattle.market_model.specs.declared.event.Event.{Event}
 use Rattle.market_model.specs.Board.{IsHourOf}
 use Rattle.market_model.specs.Orders.{Placed, PlacedBlock, blocks_placed, is_open, open_block, open_order}
 use Rattle.market_model.specs.Refusals.{if_own, if_own_block}
-use Rattle.market_laws.proofs.Legs.{open_order-is}
-use Rattle.market_laws.proofs.Names.{names-once}
-use Rattle.market_laws.proofs.Tests.{same_name-eq}
-use Rattle.market_laws.proofs.Unique.{order_is_no_block}
-use Rattle.market_laws.proofs.LocalBlocks.{open_block-agree}
-use Rattle.market_laws.proofs.LocalLines.{open_order-agree}
-use Rattle.book_lines.specs.BookOf.{book_of}
-use Rattle.book_lines.specs.BlocksOf.{resting_block}
-use Rattle.hour_changes.proofs.NextEvents.{agrees}
+use Rattle.laws_of_market.proofs.Legs.{open_order-is}
+use Rattle.laws_of_market.proofs.Names.{names-once}
+use Rattle.laws_of_market.proofs.Tests.{same_name-eq}
+use Rattle.laws_of_market.proofs.Unique.{order_is_no_block}
+use Rattle.laws_of_market.proofs.LocalBlocks.{open_block-agree}
+use Rattle.laws_of_market.proofs.LocalLines.{open_order-agree}
+use Rattle.laws_of_books.specs.BookOf.{book_of}
+use Rattle.laws_of_books.specs.BlocksOf.{resting_block}
+use Rattle.laws_of_hours.proofs.NextEvents.{agrees}
 use Rattle.hour_store.specs.Contents.{IsOfPart}
 use Rattle.desk_refusals.specs.declared.owning.Own.{Own}
 use Rattle.desk_refusals.specs.declared.owning.Own.TheVariants as own

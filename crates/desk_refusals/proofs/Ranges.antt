@@ -13,14 +13,14 @@ use Rattle.market_model.specs.declared.refusal.Refusal.{Refusal}
 use Rattle.market_model.specs.Refusals.{below_flow, no_room}
 use Rattle.market_model.specs.Sweep.{first_answer}
 use Rattle.market_model.specs.Asked.{first_in_hour}
-use Rattle.market_laws.proofs.Restrict.{filter-same}
+use Rattle.laws_of_market.proofs.Restrict.{filter-same}
 use Rattle.flow_netting.specs.declared.quarter_set.QuarterSet.{QuarterSet}
 use Rattle.flow_netting.specs.Flows.{Flows}
 use Rattle.flow_netting.specs.QuarterSet.{has}
-use Rattle.flow_lines.specs.FlowLaws.{IsRangeIn}
-use Rattle.flow_lines.specs.Standing.{Stands}
-use Rattle.flow_lines.specs.Refusing.{offer_refused_by, request_refused_by}
-use Rattle.flow_lines.proofs.Refused.{offers_alike, requests_alike}
+use Rattle.laws_of_flows.specs.FlowLaws.{IsRangeIn}
+use Rattle.laws_of_flows.specs.Standing.{Stands}
+use Rattle.laws_of_flows.specs.Refusing.{offer_refused_by, request_refused_by}
+use Rattle.laws_of_flows.proofs.Refused.{offers_alike, requests_alike}
 
 -- ---- a range cut to the quarters of an hour
 

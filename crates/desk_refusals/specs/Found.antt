@@ -7,8 +7,8 @@ use Rattle.block_book.specs.declared.block.RestingBlock.{RestingBlock}
 use Rattle.market_model.specs.declared.event.Event.{Event}
 use Rattle.market_model.specs.Orders.{Placed, open_block, open_order, standing}
 use Rattle.market_model.specs.Refusals.{if_own, if_own_block, own_limit}
-use Rattle.book_lines.specs.BookOf.{resting_of}
-use Rattle.book_lines.specs.BlocksOf.{resting_block}
+use Rattle.laws_of_books.specs.BookOf.{resting_of}
+use Rattle.laws_of_books.specs.BlocksOf.{resting_block}
 use Rattle.kept_hour.specs.State.{HourState, name_in}
 
 -- the record of an order after some events

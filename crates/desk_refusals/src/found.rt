@@ -5,7 +5,7 @@ ghost use Rattle.std.specs.Option.{option_map};
 ghost use Rattle.order_kinds.specs.Contract.{part_number};
 ghost use Rattle.order_kinds.specs.Order as kinds;
 ghost use Rattle.kept_hour.specs.State.{name_in};
-ghost use Rattle.book_lines.specs.BlocksOf as blocks;
+ghost use Rattle.laws_of_books.specs.BlocksOf as blocks;
 ghost use Rattle.market_model.specs.Orders as orders;
 ghost use Rattle.desk_refusals.specs.Found.{IsOpenAs, record_of};
 

@@ -12,8 +12,8 @@ use Rattle.zone_graph.specs.Graph.{Graph, IsGraph, zone_count}
 use Rattle.market_model.specs.Lines.{line}
 use Rattle.market_model.specs.Room.{room}
 use Rattle.market_model.specs.View.{view}
-use Rattle.view_laws.specs.Depth.{maker_of, next_fill}
-use Rattle.view_laws.proofs.Views.{view-rows}
+use Rattle.laws_of_rows.specs.Depth.{maker_of, next_fill}
+use Rattle.laws_of_rows.proofs.Views.{view-rows}
 use Rattle.local_view.specs.Kept.{Views, empty_part, empty_rows, line_of, no_part, on_side}
 use Rattle.local_view.specs.Rows.{LineRows}
 use Rattle.kept_hour.specs.State.{empty_board}

@@ -11,7 +11,7 @@ use Rattle.zone_graph.specs.Graph.{Graph, HasZone, zone_count}
 use Rattle.zone_graph.specs.Route.{IsIn}
 use Rattle.zone_graph.proofs.Again.{or-true}
 use Rattle.zone_graph.proofs.Membership.{IsIn-filter, IsIn-range, from_filter, from_range}
-use Rattle.view_near.specs.Changes.{AreAmong}
+use Rattle.laws_of_views.specs.Changes.{AreAmong}
 use Rattle.kept_hour.specs.Changed.{HasTouched}
 use Rattle.contract_book.proofs.BookShapes.{any-no}
 use Rattle.local_view.specs.Nearness.{is_joined, is_near, near_count, zones_touched}

@@ -4,7 +4,7 @@ use Rattle.order_kinds.specs.declared.side.Side.{Side}
 use Rattle.order_kinds.specs.Contract.{contract_at}
 use Rattle.zone_graph.specs.Graph.{zone_count}
 use Rattle.market_model.specs.Board.{BoardState, IsBoard}
-use Rattle.view_near.specs.Nearby.{DifferWithin}
+use Rattle.laws_of_views.specs.Nearby.{DifferWithin}
 use Rattle.local_view.specs.Kept.{AreNext, adopted_rows}
 use Rattle.local_view.specs.Nearness.{WereViews, zones_touched}
 use Rattle.local_view.specs.Rows.{LineRows}

@@ -10,12 +10,12 @@ use Rattle.zone_graph.specs.Graph.{Graph, HasArc, IsGraph, border_count, zone_co
 use Rattle.hour_store.specs.Changed.{no_zones, zones_of}
 use Rattle.kept_hour.specs.Changed.{AreBoards, AreRoomsSettled, AreSeenElsewhere}
 use Rattle.kept_hour.specs.State.{HourState, settled_board}
-use Rattle.view_near.specs.Nearby.{DifferWithin}
+use Rattle.laws_of_views.specs.Nearby.{DifferWithin}
 use Rattle.local_view.specs.Boards.{AreRoomsOf}
 use Rattle.local_view.specs.Kept.{Views, line_of, views_forgotten}
 use Rattle.local_view.specs.Nearness.{WereViews, zones_touched}
 use Rattle.local_view.specs.Rows.{LineRows}
-use Rattle.view_near.specs.Changes.{RoomsDifferWithin}
+use Rattle.laws_of_views.specs.Changes.{RoomsDifferWithin}
 use Rattle.desk_views.specs.Desk.{DeskState, views_with_made}
 use Rattle.desk_views.specs.Insides.{planned_if}
 use Rattle.desk_views.specs.Moved.{AreMoved, touched_of}

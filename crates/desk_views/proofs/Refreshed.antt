@@ -5,7 +5,7 @@ use Rattle.order_kinds.specs.declared.side.Side.{Side}
 use Rattle.order_kinds.specs.Contract.{contract_at}
 use Rattle.zone_graph.specs.Graph.{Graph, IsGraph, border_count, zone_count}
 use Rattle.zone_graph.specs.Grid.{IsGrid}
-use Rattle.view_near.specs.Changes.{RoomsDifferWithin}
+use Rattle.laws_of_views.specs.Changes.{RoomsDifferWithin}
 use Rattle.kept_hour.specs.Changed.{AreBoards, AreRoomsSettled, AreSeenElsewhere}
 use Rattle.kept_hour.specs.State.{HourState, settled_board}
 use Rattle.local_view.specs.Boards.{AreRoomsOf}

@@ -13,16 +13,16 @@ use Rattle.market_model.specs.Lines.{line}
 use Rattle.market_model.specs.Orders.{Standing}
 use Rattle.market_model.specs.Room.{room}
 use Rattle.market_model.specs.View.{view}
-use Rattle.market_laws.proofs.LocalAnswers.{view-agree}
-use Rattle.market_laws.proofs.LocalLines.{contract-hours, line-agree}
-use Rattle.market_laws.proofs.LocalStates.{room-agree}
-use Rattle.hour_changes.proofs.NextEvents.{agrees}
-use Rattle.view_laws.specs.declared.trades.Fill.{Fill}
-use Rattle.view_laws.specs.declared.trades.Maker.{Maker}
-use Rattle.view_laws.specs.Depth.{Depth, after_fill, maker_of, next_fill}
-use Rattle.view_laws.proofs.Views.{view-rows}
-use Rattle.view_near.specs.Nearby.{DifferWithin, is_elsewhere}
-use Rattle.view_near.proofs.Near.{fills, fills-run}
+use Rattle.laws_of_market.proofs.LocalAnswers.{view-agree}
+use Rattle.laws_of_market.proofs.LocalLines.{contract-hours, line-agree}
+use Rattle.laws_of_market.proofs.LocalStates.{room-agree}
+use Rattle.laws_of_hours.proofs.NextEvents.{agrees}
+use Rattle.laws_of_rows.specs.declared.trades.Fill.{Fill}
+use Rattle.laws_of_rows.specs.declared.trades.Maker.{Maker}
+use Rattle.laws_of_rows.specs.Depth.{Depth, after_fill, maker_of, next_fill}
+use Rattle.laws_of_rows.proofs.Views.{view-rows}
+use Rattle.laws_of_views.specs.Nearby.{DifferWithin, is_elsewhere}
+use Rattle.laws_of_views.proofs.Near.{fills, fills-run}
 
 -- elsewhere than in no zone is everywhere
 all_elsewhere : (orders : List Standing) → filter (is_elsewhere []) orders ≡ orders

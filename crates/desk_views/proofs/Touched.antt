@@ -17,8 +17,8 @@ use Rattle.zone_graph.proofs.Membership.{IsIn-has, IsIn-range, has-IsIn}
 use Rattle.contract_book.proofs.BookShapes.{any-some}
 use Rattle.market_model.specs.declared.event.Event.{Event}
 use Rattle.market_model.specs.Room.{room}
-use Rattle.view_near.specs.Changes.{AreAmong, RoomsDifferWithin}
-use Rattle.view_near.specs.Nearby.{DifferWithin, is_within, seen_elsewhere}
+use Rattle.laws_of_views.specs.Changes.{AreAmong, RoomsDifferWithin}
+use Rattle.laws_of_views.specs.Nearby.{DifferWithin, is_within, seen_elsewhere}
 use Rattle.local_view.specs.Nearness.{zones_touched}
 use Rattle.desk_views.specs.Moved.{AreMoved, has_moved, is_moved, moves_in}
 use Rattle.desk_views.proofs.Bits.{among-second, in_touched}

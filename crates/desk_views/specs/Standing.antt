@@ -8,7 +8,7 @@ use Rattle.zone_graph.specs.Graph.{Graph, zone_count}
 use Rattle.zone_graph.specs.Rooms.{room_of}
 use Rattle.market_model.specs.declared.reply.ViewRow.{ViewRow}
 use Rattle.market_model.specs.Board.{BoardState}
-use Rattle.view_near.specs.Nearby.{DifferWithin}
+use Rattle.laws_of_views.specs.Nearby.{DifferWithin}
 use Rattle.local_view.specs.Boards.{AreRoomsOf, view_of}
 use Rattle.local_view.specs.Kept.{adopted_rows, kept_of, made_after}
 use Rattle.local_view.specs.Nearness.{near_count, zones_touched}

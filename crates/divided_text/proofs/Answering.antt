@@ -4,8 +4,8 @@ use Rattle.market_text.specs.declared.fault.TextFault.{TextFault}
 use Rattle.market_text.specs.declared.fault.TextFault.TheVariants as fault
 use Rattle.market_text.specs.declared.session.Session.{Session}
 use Rattle.market_text.specs.Text.{session_of_text, IsAnswer}
-use Rattle.text_grammar.specs.Grammar.{IsSessionText}
-use Rattle.text_grammar.proofs.Texts.{accepted-in-grammar, grammar-accepted, reported-first-bad, first-bad-reported}
+use Rattle.laws_of_texts.specs.Grammar.{IsSessionText}
+use Rattle.laws_of_texts.proofs.Texts.{accepted-in-grammar, grammar-accepted, reported-first-bad, first-bad-reported}
 use Rattle.divided_text.specs.Dividing.{line_count, Parts, division_of}
 use Rattle.divided_text.specs.Reading.{with_rest, bad_line_or, undivided_line, session_of_parts, session_of_divided, IsFaultOf}
 use Rattle.divided_text.specs.Laws.{IsDivided, IsUndivided, IsGoodInput, IsBadInput, before, among_all, after_all, DividedInputsAreRead, UndividedInputsAreBad, GoodInputsAreByGrammar, BadLinesAreByGrammar}

@@ -10,9 +10,9 @@ use Rattle.std.proofs.lemmas.List.Splits.{length-slice_split}
 use Rattle.std.proofs.lemmas.List.Sums.{position_or_len_is}
 use Rattle.command_lines.specs.Names.{place_of}
 use Rattle.market_text.specs.Text.{lines_of}
-use Rattle.text_grammar.specs.Lines.{IsLine, text_of_lines}
-use Rattle.text_grammar.proofs.Places.{other_fails, same_passes, no_place}
-use Rattle.text_grammar.proofs.TextLines.{split, Split, parts_of, line_before, text_append}
+use Rattle.laws_of_texts.specs.Lines.{IsLine, text_of_lines}
+use Rattle.laws_of_texts.proofs.Places.{other_fails, same_passes, no_place}
+use Rattle.laws_of_texts.proofs.TextLines.{split, Split, parts_of, line_before, text_append}
 use Rattle.divided_text.specs.Dividing.{line_count, whole_lines, Parts, text_before, parts_at, division_of}
 use Rattle.divided_text.specs.Laws.{IsDivided}
 

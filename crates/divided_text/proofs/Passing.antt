@@ -2,8 +2,8 @@
 use Rattle.std.proofs.Common.{◌≡◌, ℕ, ◌+◌, List, [], ◌∷◌, ◌++◌, length, take, sym, ap, ◌∙◌, subst, arith, All, None, append_assoc, length-append}
 use Rattle.std.proofs.lemmas.List.{length_push, take_at}
 use Rattle.std.proofs.lemmas.List.Elements.{All-push}
-use Rattle.text_grammar.specs.Lines.{IsLine, text_of_lines}
-use Rattle.text_grammar.proofs.TextLines.{line_before, text_append}
+use Rattle.laws_of_texts.specs.Lines.{IsLine, text_of_lines}
+use Rattle.laws_of_texts.proofs.TextLines.{line_before, text_append}
 use Rattle.divided_text.specs.Dividing.{division_of}
 use Rattle.divided_text.specs.Laws.{IsDivided}
 use Rattle.divided_text.proofs.Divisions.{division_none}

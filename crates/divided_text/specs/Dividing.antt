@@ -3,7 +3,7 @@ use Rattle.std.specs.Prelude.{ℕ, ◌+◌, ◌==◌, List, length, count_by, ta
 use Rattle.std.specs.Option.{option_map}
 use Rattle.command_lines.specs.Names.{place_of}
 use Rattle.market_text.specs.Text.{lines_of}
-use Rattle.text_grammar.specs.Lines.{text_of_lines}
+use Rattle.laws_of_texts.specs.Lines.{text_of_lines}
 
 -- how many lines a text has: each ends by a line feed
 abbrev pub line_count : List ℕ → ℕ

@@ -3,8 +3,8 @@ use Rattle.std.specs.Prelude.{◌≡◌, ℕ, ◌+◌, List, ◌∷◌, ◌++◌
 use Rattle.std.specs.List.{All}
 use Rattle.market_text.specs.declared.session.Session.{Session}
 use Rattle.market_text.specs.Text.{session_of_text}
-use Rattle.text_grammar.specs.Lines.{IsLine, text_of_lines}
-use Rattle.text_grammar.specs.Grammar.{IsSessionText, IsFirstBadLine}
+use Rattle.laws_of_texts.specs.Lines.{IsLine, text_of_lines}
+use Rattle.laws_of_texts.specs.Grammar.{IsSessionText, IsFirstBadLine}
 use Rattle.divided_text.specs.Dividing.{line_count}
 use Rattle.divided_text.specs.Reading.{with_rest, undivided_line, session_of_divided}
 

@@ -1,7 +1,7 @@
 //! The lines of a text, one after the other.
 
 ghost use Rattle.std.specs.Prelude.{◌≡◌, ◌==◌, ◌∷◌, ◌++◌, IfNone, IfSome, count_by, position};
-ghost use Rattle.text_grammar.specs.Lines.{IsLine};
+ghost use Rattle.laws_of_texts.specs.Lines.{IsLine};
 ghost use Rattle.divided_text.specs.Dividing.{line_count};
 
 // The first line of a text without its line feed, and what follows it: `None` where there is no line

@@ -18,18 +18,18 @@ use Rattle.market_model.specs.Market.{reply_to}
 use Rattle.market_model.specs.Room.{room}
 use Rattle.market_model.specs.Rules.{early_refusal, hours_concerned, touched_hours}
 use Rattle.market_model.specs.Sweep.{all_parts}
-use Rattle.market_laws.proofs.Admitted.{naming-none}
-use Rattle.market_laws.proofs.LocalAnswers.{bound_of-agree, unfilled_zones-agree}
-use Rattle.market_laws.proofs.LocalEntries.{legs_taken-agree, with_order-agree}
-use Rattle.market_laws.proofs.LocalLines.{contract-hours, line-agree}
-use Rattle.market_laws.proofs.LocalReplies.{reply-agree}
-use Rattle.market_laws.proofs.LocalStates.{Agree, room-agree}
-use Rattle.market_laws.proofs.OfHours.{one-agrees}
-use Rattle.market_laws.proofs.Admitting.{IsNamed, early-none}
-use Rattle.certified_maximum.specs.FlowPlan.{FlowPlan, IsFlowPlan, IsPlanFor, orders_met, value_of}
-use Rattle.certified_maximum.specs.Takings.{lots_traded}
-use Rattle.certified_maximum.specs.Unfilled.{IsCertified, IsUnfilledOrder}
-use Rattle.certified_maximum.proofs.Certified.{unfilled_certified}
+use Rattle.laws_of_market.proofs.Admitted.{naming-none}
+use Rattle.laws_of_market.proofs.LocalAnswers.{bound_of-agree, unfilled_zones-agree}
+use Rattle.laws_of_market.proofs.LocalEntries.{legs_taken-agree, with_order-agree}
+use Rattle.laws_of_market.proofs.LocalLines.{contract-hours, line-agree}
+use Rattle.laws_of_market.proofs.LocalReplies.{reply-agree}
+use Rattle.laws_of_market.proofs.LocalStates.{Agree, room-agree}
+use Rattle.laws_of_market.proofs.OfHours.{one-agrees}
+use Rattle.laws_of_market.proofs.Admitting.{IsNamed, early-none}
+use Rattle.laws_of_maximum.specs.FlowPlan.{FlowPlan, IsFlowPlan, IsPlanFor, orders_met, value_of}
+use Rattle.laws_of_maximum.specs.Takings.{lots_traded}
+use Rattle.laws_of_maximum.specs.Unfilled.{IsCertified, IsUnfilledOrder}
+use Rattle.laws_of_maximum.proofs.Certified.{unfilled_certified}
 use Rattle.hour_desk.specs.Placed.{IsLeftBy}
 use Rattle.hour_desk.proofs.Histories.{of-journal}
 

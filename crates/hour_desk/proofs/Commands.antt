@@ -31,14 +31,14 @@ use Rattle.market_model.specs.Sweep.{all_parts, sweep, sweeps}
 use Rattle.market_model.specs.WellFormed.{OrderEnters}
 use Rattle.market_model.specs.LetIn.{IsNoEntry}
 use Rattle.market_model.specs.StateRules.{filling_rules}
-use Rattle.market_laws.proofs.Admitted.{IsAdmitted, all-pass, naming-none, refusal-none}
-use Rattle.market_laws.proofs.Admitting.{early-none, let_in-refusal, no_entry-rules}
+use Rattle.laws_of_market.proofs.Admitted.{IsAdmitted, all-pass, naming-none, refusal-none}
+use Rattle.laws_of_market.proofs.Admitting.{early-none, let_in-refusal, no_entry-rules}
 use Rattle.desk_blocks.specs.Planned.{IsUnplanned, with_planned}
 use Rattle.desk_blocks.specs.State.{CanBeNext, HourState, after_event, entry_of, gate_of, name_in, reduction_of, withdrawal_of}
-use Rattle.desk_laws.specs.Settled.{IsSettled}
-use Rattle.desk_laws.proofs.Admitting as entering
-use Rattle.desk_laws.proofs.Fitting.{fits_in}
-use Rattle.desk_laws.proofs.Stepping.{prefixes}
+use Rattle.laws_of_desks.specs.Settled.{IsSettled}
+use Rattle.laws_of_desks.proofs.Admitting as entering
+use Rattle.laws_of_desks.proofs.Fitting.{fits_in}
+use Rattle.laws_of_desks.proofs.Stepping.{prefixes}
 use Rattle.desk_blocks.specs.Changes.{then_sweep}
 use Rattle.desk_refusals.specs.declared.owning.Own.{Own}
 use Rattle.desk_refusals.specs.Owned.{left_of, own_of}

@@ -11,4 +11,4 @@ pub mod Crosses
 pub mod Certified
 -- What stands below and is passed on to the crates above.
 pub use Rattle.desk_blocks.proofs.SameRooms
-pub use Rattle.market_laws.proofs.Admitting
+pub use Rattle.laws_of_market.proofs.Admitting

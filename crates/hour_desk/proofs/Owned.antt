@@ -8,7 +8,7 @@ use Rattle.zone_graph.proofs.Finding.{from_find}
 use Rattle.market_model.specs.declared.event.Event.{Event}
 use Rattle.market_model.specs.Orders.{Placed, PlacedBlock, blocks_placed, is_open, left, open_block, open_order, placed}
 use Rattle.market_model.specs.Refusals.{has_own, if_limit, if_own, if_own_block, is_below_left, own_limit}
-use Rattle.market_laws.proofs.Tests.{same_name-eq}
+use Rattle.laws_of_market.proofs.Tests.{same_name-eq}
 use Rattle.desk_refusals.specs.declared.owning.Own.{Own}
 use Rattle.desk_refusals.specs.Owned.{left_of, of_block, of_order, own_of}
 

@@ -22,8 +22,8 @@ use Rattle.market_model.specs.LetIn.{IsLetIn}
 use Rattle.market_model.specs.StateRules.{filling_rules, state_refusal}
 use Rattle.desk_blocks.specs.Planned.{IsUnplanned, with_planned}
 use Rattle.desk_blocks.specs.State.{HourState, after_event, settled_board, undone, with_board, with_hand}
-use Rattle.market_laws.proofs.Admitting.{IsNamed, early-none, state-some}
-use Rattle.market_laws.proofs.Answered.{Answers, done, refused, refused_late, seen}
+use Rattle.laws_of_market.proofs.Admitting.{IsNamed, early-none, state-some}
+use Rattle.laws_of_market.proofs.Answered.{Answers, done, refused, refused_late, seen}
 use Rattle.hour_desk.specs.Placed.{CanChange, IsPlaced}
 
 -- ---- an hour with nothing planned

@@ -17,7 +17,7 @@ use Rattle.desk_blocks.proofs.PartNumbers.{part-of_number}
 use Rattle.local_view.specs.Kept.{kept_of}
 use Rattle.desk_views.specs.Desk.{DeskState}
 use Rattle.desk_views.specs.Standing.{StandAt}
-use Rattle.market_laws.proofs.Admitting.{view-named}
+use Rattle.laws_of_market.proofs.Admitting.{view-named}
 use Rattle.hour_desk.specs.Placed.{CanChange}
 use Rattle.hour_desk.proofs.Commands.{one-hour}
 use Rattle.hour_desk.proofs.Planned.{let-in}

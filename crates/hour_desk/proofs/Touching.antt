@@ -15,8 +15,8 @@ use Rattle.market_model.specs.declared.refusal.Refusal.{Refusal}
 use Rattle.market_model.specs.declared.setup.Setup.{Setup}
 use Rattle.market_model.specs.Rules.{ascends, basket_is_good, early_refusal, hours_concerned, is_block_period, period_is_good, touched_hours}
 use Rattle.market_model.specs.LetIn.{IsNoEntry}
-use Rattle.market_laws.proofs.Admitted.{NamesWhatIs, naming-none}
-use Rattle.market_laws.proofs.Admitting.{IsNamed, early-none, is-no_entry}
+use Rattle.laws_of_market.proofs.Admitted.{NamesWhatIs, naming-none}
+use Rattle.laws_of_market.proofs.Admitting.{IsNamed, early-none, is-no_entry}
 use Rattle.desk_blocks.specs.State.{HourState}
 use Rattle.hour_desk.specs.Placed.{IsPlaced}
 

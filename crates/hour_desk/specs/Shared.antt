@@ -10,8 +10,8 @@ use Rattle.market_model.specs.Grid.{graph_of}
 use Rattle.market_model.specs.Orders.{next_name, open_names}
 use Rattle.market_model.specs.Refusals.{desk_room}
 use Rattle.market_model.specs.Sweep.{all_parts, sweep}
-use Rattle.joint_laws.specs.EnteringBlocks.{block_entry}
-use Rattle.joint_laws.specs.MatchingBlocks.{legs_of}
+use Rattle.laws_of_joint_commands.specs.EnteringBlocks.{block_entry}
+use Rattle.laws_of_joint_commands.specs.MatchingBlocks.{legs_of}
 use Rattle.desk_blocks.specs.Plans.{CloseInTurn}
 use Rattle.hour_desk.specs.declared.part_work.BlockEntry.{BlockEntry}
 use Rattle.hour_desk.specs.declared.part_work.PartWork.{PartWork}

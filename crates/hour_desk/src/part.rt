@@ -2,14 +2,14 @@
 
 ghost use Rattle.std.specs.Prelude.{◌≡◌, ◌<◌, ◌-◌, ◌^◌, IfOk, OnErr, OnOk, false, length};
 ghost use Rattle.zone_graph.specs.Graph.{border_count};
-ghost use Rattle.desk_laws.specs.Settled.{IsSettled};
+ghost use Rattle.laws_of_desks.specs.Settled.{IsSettled};
 ghost use Rattle.desk_blocks.specs.Kept.{names_given};
 ghost use Rattle.desk_blocks.specs.Planned.{CanFollow, IsUnplanned, with_planned};
 ghost use Rattle.desk_blocks.specs.State.{settled_board};
 ghost use Rattle.desk_views.specs.Desk.{forgotten};
 ghost use Rattle.desk_views.specs.Standing.{IsNext, StandAt};
 ghost use Rattle.desk_blocks.specs.Periods as periods;
-ghost use Rattle.joint_laws.specs.MatchingBlocks.{legs_of};
+ghost use Rattle.laws_of_joint_commands.specs.MatchingBlocks.{legs_of};
 ghost use Rattle.hour_desk.specs.Insides.{desk_of};
 ghost use Rattle.hour_desk.specs.Shared as shared;
 

@@ -2,7 +2,7 @@
 
 ghost use Rattle.std.specs.Prelude.{◌≡◌, ◌<◌, ◌-◌, ◌^◌, [], None, IfOk, OnErr, OnOk, count_by, length};
 ghost use Rattle.market_model.specs.History.{enters_in};
-ghost use Rattle.joint_laws.specs.MatchingBlocks.{legs_of};
+ghost use Rattle.laws_of_joint_commands.specs.MatchingBlocks.{legs_of};
 ghost use Rattle.zone_graph.specs.Graph.{border_count};
 ghost use Rattle.desk_blocks.specs.Periods as periods;
 ghost use Rattle.hour_desk.specs.Desk as states;

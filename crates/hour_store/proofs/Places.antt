@@ -14,7 +14,7 @@ use Rattle.contract_book.specs.declared.resting.Resting.{Resting}
 use Rattle.contract_book.specs.Book.{IsBook, changed, changed_line, filled, has_number, line_number, line_of, line_without, order_of, reduced, with_order, without}
 use Rattle.contract_book.specs.Resting.{order_after, order_less, resting_cmp}
 use Rattle.contract_book.proofs.Told.{filled-emptied, filled-rest, reduced-is}
-use Rattle.book_lines.proofs.Updates.{from_after, from_less, from_stands, is-stands}
+use Rattle.laws_of_books.proofs.Updates.{from_after, from_less, from_stands, is-stands}
 use Rattle.hour_store.specs.Contents.{IsOfPart}
 use Rattle.hour_store.specs.TakenBack.{HasItsPlace}
 

@@ -6,7 +6,7 @@ use Rattle.order_kinds.specs.declared.order.BlockOrder.{BlockOrder}
 use Rattle.order_kinds.specs.Period.{hours_from}
 use Rattle.zone_graph.specs.Graph.{Graph, HasZone}
 use Rattle.zone_graph.specs.Route.{IsIn}
-use Rattle.book_lines.specs.BlocksOf.{blocks_of}
+use Rattle.laws_of_books.specs.BlocksOf.{blocks_of}
 use Rattle.block_match.specs.declared.deal.BlockDeal.{BlockDeal}
 use Rattle.block_match.specs.Meeting.{HaveZones}
 use Rattle.market_model.specs.declared.command.Command.TheVariants as command
@@ -21,9 +21,9 @@ use Rattle.market_model.specs.Market.{reply_to}
 use Rattle.market_model.specs.Orders.{open_names}
 use Rattle.market_model.specs.Refusals.{desk_room}
 use Rattle.market_model.specs.Rules.{unless}
-use Rattle.market_laws.proofs.Restrict.{map-same}
-use Rattle.joint_laws.specs.ByHour.{hour_events}
-use Rattle.joint_laws.specs.EnteringBlocks.{deal_found}
+use Rattle.laws_of_market.proofs.Restrict.{map-same}
+use Rattle.laws_of_joint_commands.specs.ByHour.{hour_events}
+use Rattle.laws_of_joint_commands.specs.EnteringBlocks.{deal_found}
 use Rattle.hour_desk.specs.declared.part_work.PartWork.{PartWork}
 use Rattle.hour_desk.specs.Desk.{DeskState, planning}
 use Rattle.hour_desk.specs.Shared.{part_events}

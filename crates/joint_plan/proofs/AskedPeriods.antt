@@ -13,10 +13,10 @@ use Rattle.market_model.specs.Grid.{graph_of}
 use Rattle.market_model.specs.History.{events_of, of_hour}
 use Rattle.market_model.specs.Market.{reply_to}
 use Rattle.market_model.specs.Sweep.{or_else}
-use Rattle.market_laws.proofs.Admitted.{naming-none}
-use Rattle.market_laws.proofs.Restrict.{map-same}
-use Rattle.joint_laws.specs.ByHour.{hour_events}
-use Rattle.joint_laws.specs.MatchingBlocks.{ArePeriodDeals, legs_of}
+use Rattle.laws_of_market.proofs.Admitted.{naming-none}
+use Rattle.laws_of_market.proofs.Restrict.{map-same}
+use Rattle.laws_of_joint_commands.specs.ByHour.{hour_events}
+use Rattle.laws_of_joint_commands.specs.MatchingBlocks.{ArePeriodDeals, legs_of}
 use Rattle.hour_desk.specs.Periods.{AreDealsOf}
 use Rattle.hour_desk.specs.declared.part_work.PartWork.{PartWork}
 use Rattle.hour_desk.specs.declared.part_work.PartWork.TheVariants as work

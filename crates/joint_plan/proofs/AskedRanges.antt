@@ -14,8 +14,8 @@ use Rattle.market_model.specs.Grid.{graph_of}
 use Rattle.market_model.specs.History.{events_of, of_hour}
 use Rattle.market_model.specs.Market.{reply_to}
 use Rattle.market_model.specs.Rules.{border_is_known}
-use Rattle.market_laws.proofs.Admitted.{naming-none}
-use Rattle.market_laws.proofs.Restrict.{map-same}
+use Rattle.laws_of_market.proofs.Admitted.{naming-none}
+use Rattle.laws_of_market.proofs.Restrict.{map-same}
 use Rattle.hour_desk.specs.declared.part_work.PartWork.{PartWork}
 use Rattle.hour_desk.specs.Desk.{DeskState, planning}
 use Rattle.joint_plan.specs.Kinds.{IsOverRange}

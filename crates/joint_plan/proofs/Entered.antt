@@ -9,7 +9,7 @@ use Rattle.order_kinds.specs.declared.order.OrderName.{OrderName}
 use Rattle.order_kinds.specs.Same.{same_name}
 use Rattle.zone_graph.specs.Route.{IsIn}
 use Rattle.zone_graph.proofs.Membership.{from_filter}
-use Rattle.book_lines.specs.BlocksOf.{entered_resting_block, resting_block}
+use Rattle.laws_of_books.specs.BlocksOf.{entered_resting_block, resting_block}
 use Rattle.block_match.specs.Market.{entered_block}
 use Rattle.market_model.specs.declared.event.Event.{Event}
 use Rattle.market_model.specs.declared.event.Event.TheVariants as event
@@ -19,15 +19,15 @@ use Rattle.market_model.specs.History.{and_then, of_hour, touches}
 use Rattle.market_model.specs.Orders.{block_moment, is_open, left, name_given, next_name, open_names}
 use Rattle.market_model.specs.Refusals.{desk_room, has_desk_room}
 use Rattle.market_model.specs.WellFormed.{BlockEnters, FitAfter}
-use Rattle.market_laws.proofs.Members.{IsIn-filter_map, from_filter_map}
-use Rattle.market_laws.proofs.States.{left-more}
-use Rattle.market_laws.proofs.Tests.{same_name-refl}
-use Rattle.market_laws.proofs.Wholes.{new_block-whole, other_name}
-use Rattle.market_laws.proofs.LocalMoments.{block_moment-more}
-use Rattle.market_laws.proofs.NamedByHour.{history-named}
-use Rattle.market_laws.proofs.LocalStates.{Agree, agree-more, left-agree, next_name-agree}
-use Rattle.market_laws.proofs.OpenNames.{IsEntry, block-entry}
-use Rattle.joint_laws.proofs.SweptHours.{own-agrees}
+use Rattle.laws_of_market.proofs.Members.{IsIn-filter_map, from_filter_map}
+use Rattle.laws_of_market.proofs.States.{left-more}
+use Rattle.laws_of_market.proofs.Tests.{same_name-refl}
+use Rattle.laws_of_market.proofs.Wholes.{new_block-whole, other_name}
+use Rattle.laws_of_market.proofs.LocalMoments.{block_moment-more}
+use Rattle.laws_of_market.proofs.NamedByHour.{history-named}
+use Rattle.laws_of_market.proofs.LocalStates.{Agree, agree-more, left-agree, next_name-agree}
+use Rattle.laws_of_market.proofs.OpenNames.{IsEntry, block-entry}
+use Rattle.laws_of_joint_commands.proofs.SweptHours.{own-agrees}
 
 -- two tests, one after the other, of which the first passes all and the second is a third
 filter-both : {X : Type 0} (p q r : X → Bool) (xs : List X) → ((x : X) → IsIn x xs → (p x ≡ true) × (q x ≡ r x)) → filter p (filter q xs) ≡ filter r xs

@@ -17,9 +17,9 @@ use Rattle.market_model.specs.Rules.{early_refusal, first_broken, hours_concerne
 use Rattle.market_model.specs.Sweep.{all_parts, or_else}
 use Rattle.market_model.specs.WellFormed.{IsHistory}
 use Rattle.market_model.specs.StateRules.{filling_rules, state_refusal}
-use Rattle.market_laws.proofs.Journals.{run-history}
-use Rattle.market_laws.proofs.StateRules.{state_comes_second}
-use Rattle.joint_laws.proofs.HoursGoOn.{replies}
+use Rattle.laws_of_market.proofs.Journals.{run-history}
+use Rattle.laws_of_market.proofs.StateRules.{state_comes_second}
+use Rattle.laws_of_joint_commands.proofs.HoursGoOn.{replies}
 use Rattle.hour_desk.specs.Desk.{DeskState}
 use Rattle.joint_plan.specs.Rows.{IsHistoryOf, IsJournalOf}
 

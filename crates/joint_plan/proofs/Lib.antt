@@ -20,7 +20,7 @@ pub mod Commands
 pub mod TouchedHours
 -- What stands below and is passed on to the crates above.
 pub use Rattle.hour_desk.proofs.Crosses
-pub use Rattle.joint_laws.proofs.BasketHours
-pub use Rattle.joint_laws.proofs.RefusedByHours
-pub use Rattle.joint_laws.proofs.Touching
-pub use Rattle.desk_laws.proofs.Admitting
+pub use Rattle.laws_of_joint_commands.proofs.BasketHours
+pub use Rattle.laws_of_joint_commands.proofs.RefusedByHours
+pub use Rattle.laws_of_joint_commands.proofs.Touching
+pub use Rattle.laws_of_desks.proofs.Admitting

@@ -11,9 +11,9 @@ use Rattle.zone_graph.specs.Rooms.{room_of}
 use Rattle.zone_graph.specs.Route.{IsIn}
 use Rattle.route_carrying.specs.Carrying.{FitTogether}
 use Rattle.block_book.specs.declared.block.RestingBlock.{RestingBlock}
-use Rattle.book_lines.specs.BlocksOf.{blocks_of, entered_resting_block}
-use Rattle.book_lines.proofs.MarketBooks.{from-book}
-use Rattle.book_lines.proofs.WholeBlockBooks.{hour-book}
+use Rattle.laws_of_books.specs.BlocksOf.{blocks_of, entered_resting_block}
+use Rattle.laws_of_books.proofs.MarketBooks.{from-book}
+use Rattle.laws_of_books.proofs.WholeBlockBooks.{hour-book}
 use Rattle.block_match.specs.declared.deal.BlockDeal.{BlockDeal}
 use Rattle.block_match.specs.Deals.{deal_of_block, deal_with, partner_of}
 use Rattle.block_match.specs.Market.{deal_events}
@@ -32,15 +32,15 @@ use Rattle.market_model.specs.Refusals.{block_desk_refusal, desk_room, refusal_o
 use Rattle.market_model.specs.Rules.{early_refusal, unless}
 use Rattle.market_model.specs.Sweep.{all_parts, or_else, sweep}
 use Rattle.market_model.specs.WellFormed.{BlockEnters}
-use Rattle.market_laws.proofs.Placed.{all_are_sound}
-use Rattle.market_laws.proofs.Repeats.{map-some}
-use Rattle.desk_laws.proofs.Admitting as admitting
-use Rattle.joint_laws.specs.ByHour.{hour_events}
-use Rattle.joint_laws.specs.EnteringBlocks.{AreClosed, block_entry, deal_found, events_of_deal, has_of_entry, legs_found, refused_at_desk, swept_after_entry}
-use Rattle.joint_laws.specs.MatchingBlocks.{legs_of}
-use Rattle.joint_laws.specs.PeriodRooms.{period_room}
-use Rattle.joint_laws.proofs.EnteredBlocks.{close_both, enter_by_hour, enter_of_hour, room_in_first}
-use Rattle.joint_laws.proofs.SweptHours.{flat_map-same}
+use Rattle.laws_of_market.proofs.Placed.{all_are_sound}
+use Rattle.laws_of_market.proofs.Repeats.{map-some}
+use Rattle.laws_of_desks.proofs.Admitting as admitting
+use Rattle.laws_of_joint_commands.specs.ByHour.{hour_events}
+use Rattle.laws_of_joint_commands.specs.EnteringBlocks.{AreClosed, block_entry, deal_found, events_of_deal, has_of_entry, legs_found, refused_at_desk, swept_after_entry}
+use Rattle.laws_of_joint_commands.specs.MatchingBlocks.{legs_of}
+use Rattle.laws_of_joint_commands.specs.PeriodRooms.{period_room}
+use Rattle.laws_of_joint_commands.proofs.EnteredBlocks.{close_both, enter_by_hour, enter_of_hour, room_in_first}
+use Rattle.laws_of_joint_commands.proofs.SweptHours.{flat_map-same}
 use Rattle.hour_desk.specs.Plans.{CloseInTurn}
 use Rattle.hour_desk.specs.declared.part_work.BlockEntry.{BlockEntry}
 use Rattle.hour_desk.specs.declared.part_work.PartWork.{PartWork}

@@ -20,12 +20,12 @@ use Rattle.market_model.specs.Refusals.{refusal_of_command}
 use Rattle.market_model.specs.Room.{least}
 use Rattle.market_model.specs.Rules.{early_refusal}
 use Rattle.market_model.specs.Sweep.{all_parts, sweep}
-use Rattle.joint_laws.specs.ByHour.{hour_events}
-use Rattle.joint_laws.specs.MatchingBlocks.{ArePeriodDeals, legs_of, swept_after_legs}
-use Rattle.joint_laws.specs.PeriodRooms.{hour_room, period_room}
-use Rattle.joint_laws.proofs.PeriodDeals.{match_by_hour, match_of_hour, match_reply}
-use Rattle.joint_laws.proofs.SharedEvents.{within-has}
-use Rattle.joint_laws.proofs.SweptHours.{ascends-different, flat_map-same, hours-ascend}
+use Rattle.laws_of_joint_commands.specs.ByHour.{hour_events}
+use Rattle.laws_of_joint_commands.specs.MatchingBlocks.{ArePeriodDeals, legs_of, swept_after_legs}
+use Rattle.laws_of_joint_commands.specs.PeriodRooms.{hour_room, period_room}
+use Rattle.laws_of_joint_commands.proofs.PeriodDeals.{match_by_hour, match_of_hour, match_reply}
+use Rattle.laws_of_joint_commands.proofs.SharedEvents.{within-has}
+use Rattle.laws_of_joint_commands.proofs.SweptHours.{ascends-different, flat_map-same, hours-ascend}
 use Rattle.hour_desk.specs.Periods.{IsPeriodOf}
 use Rattle.hour_desk.specs.declared.part_work.BlockEntry.{BlockEntry}
 use Rattle.hour_desk.specs.declared.part_work.PartWork.{PartWork}

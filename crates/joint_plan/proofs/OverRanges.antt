@@ -21,11 +21,11 @@ use Rattle.market_model.specs.Refusals.{refusal_of_command}
 use Rattle.market_model.specs.Rules.{early_refusal, first_broken, hours_concerned}
 use Rattle.market_model.specs.Sweep.{all_parts, or_else, sweep}
 use Rattle.market_model.specs.StateRules.{filling_rules}
-use Rattle.market_laws.proofs.Repeats.{map-some}
-use Rattle.joint_laws.specs.ByHour.{hour_events}
-use Rattle.joint_laws.specs.Ranges.{shared_event, swept_after}
-use Rattle.joint_laws.proofs.SharedEvents.{done_ranges, of_hour_ranges}
-use Rattle.joint_laws.proofs.SweptHours.{flat_map-same}
+use Rattle.laws_of_market.proofs.Repeats.{map-some}
+use Rattle.laws_of_joint_commands.specs.ByHour.{hour_events}
+use Rattle.laws_of_joint_commands.specs.Ranges.{shared_event, swept_after}
+use Rattle.laws_of_joint_commands.proofs.SharedEvents.{done_ranges, of_hour_ranges}
+use Rattle.laws_of_joint_commands.proofs.SweptHours.{flat_map-same}
 use Rattle.hour_desk.specs.declared.part_work.PartWork.{PartWork}
 use Rattle.hour_desk.specs.declared.part_work.PartWork.TheVariants as work
 use Rattle.hour_desk.specs.Desk.{DeskState}

@@ -20,9 +20,9 @@ use Rattle.market_model.specs.Sweep.{first_answer, or_else}
 use Rattle.market_model.specs.WellFormed.{FitAfter}
 use Rattle.market_model.specs.Asked.{first_in_hour}
 use Rattle.market_model.specs.StateRules as state
-use Rattle.joint_laws.specs.ByHour.{hour_events}
-use Rattle.joint_laws.specs.StateRefusals.{first_over_hours, offer_refused, request_refused, state_refusal_by}
-use Rattle.joint_laws.proofs.RefusedByHours.{state_alone}
+use Rattle.laws_of_joint_commands.specs.ByHour.{hour_events}
+use Rattle.laws_of_joint_commands.specs.StateRefusals.{first_over_hours, offer_refused, request_refused, state_refusal_by}
+use Rattle.laws_of_joint_commands.proofs.RefusedByHours.{state_alone}
 use Rattle.hour_desk.specs.Desk.{DeskState}
 use Rattle.joint_plan.specs.Refusing as refusing
 use Rattle.joint_plan.specs.Kinds.{IsJoint}

@@ -9,8 +9,8 @@ use Rattle.market_model.specs.declared.command.Command.{Command}
 use Rattle.market_model.specs.declared.command.Command.TheVariants as command
 use Rattle.market_model.specs.declared.setup.Setup.{Setup}
 use Rattle.market_model.specs.Rules.{hours_concerned, period_is_good}
-use Rattle.market_laws.proofs.Admitted.{naming-none}
-use Rattle.market_laws.proofs.Uses.{not_after-hours}
+use Rattle.laws_of_market.proofs.Admitted.{naming-none}
+use Rattle.laws_of_market.proofs.Uses.{not_after-hours}
 use Rattle.hour_desk.specs.Desk.{DeskState}
 use Rattle.joint_plan.specs.Kinds.{IsJoint}
 use Rattle.joint_plan.specs.Rows.{AreAsked}

@@ -12,10 +12,10 @@ use Rattle.market_model.specs.declared.command.Command.TheVariants as command
 use Rattle.market_model.specs.declared.refusal.Refusal.{Refusal}
 use Rattle.market_model.specs.declared.setup.Setup.{Setup}
 use Rattle.market_model.specs.Rules.{ascends, basket_is_good, early_refusal, hours_concerned, hours_named, touched_hours}
-use Rattle.market_laws.proofs.Admitted.{NamesWhatIs, naming-none}
-use Rattle.market_laws.proofs.HoursAlone.{ascends-later, ascends-rest}
-use Rattle.market_laws.proofs.Restrict.{filter-same}
-use Rattle.joint_laws.proofs.SweptHours.{hours-ascend}
+use Rattle.laws_of_market.proofs.Admitted.{NamesWhatIs, naming-none}
+use Rattle.laws_of_market.proofs.HoursAlone.{ascends-later, ascends-rest}
+use Rattle.laws_of_market.proofs.Restrict.{filter-same}
+use Rattle.laws_of_joint_commands.proofs.SweptHours.{hours-ascend}
 use Rattle.hour_desk.proofs.Admitting.{early-none}
 
 -- hours of a day of which the first is one

@@ -5,7 +5,7 @@ use Rattle.zone_graph.specs.Graph.{Graph, HasZone, border_count}
 use Rattle.zone_graph.specs.Rooms.{room_of}
 use Rattle.route_carrying.specs.Carrying.{FitTogether}
 use Rattle.block_book.specs.declared.block.RestingBlock.{RestingBlock}
-use Rattle.book_lines.specs.BlocksOf.{blocks_of, entered_resting_block}
+use Rattle.laws_of_books.specs.BlocksOf.{blocks_of, entered_resting_block}
 use Rattle.block_match.specs.declared.deal.BlockDeal.{BlockDeal}
 use Rattle.block_match.specs.Deals.{deal_of_block}
 use Rattle.block_match.specs.Meeting.{HaveZones}

@@ -8,5 +8,5 @@ pub mod Entering
 -- What stands below and is passed on to the crates above.
 pub use Rattle.hour_desk.specs.Desk
 pub use Rattle.hour_desk.specs.contracts.desk.HourDesk
-pub use Rattle.joint_laws.specs.Baskets
-pub use Rattle.joint_laws.specs.ByHour
+pub use Rattle.laws_of_joint_commands.specs.Baskets
+pub use Rattle.laws_of_joint_commands.specs.ByHour

@@ -6,7 +6,7 @@ use Rattle.zone_graph.specs.Graph.{Graph, HasArc, border_count}
 use Rattle.zone_graph.specs.Rooms.{room_of}
 use Rattle.market_model.specs.History.{enters_in}
 use Rattle.market_model.specs.Room.{least}
-use Rattle.joint_laws.specs.PeriodRooms.{hour_room}
+use Rattle.laws_of_joint_commands.specs.PeriodRooms.{hour_room}
 use Rattle.hour_desk.specs.Periods.{IsFirstOfPeriod}
 use Rattle.hour_desk.specs.Desk.{DeskState}
 use Rattle.hour_desk.specs.Shared.{IsAfterSomeJournal}

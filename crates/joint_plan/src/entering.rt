@@ -7,7 +7,7 @@ ghost use Rattle.market_model.specs.declared.command.Command.TheVariants as comm
 ghost use Rattle.market_model.specs.declared.event.Event.{Event as AnEvent};
 ghost use Rattle.market_model.specs.History.{events_of};
 ghost use Rattle.market_model.specs.Market.{reply_to};
-ghost use Rattle.joint_laws.specs.MatchingBlocks.{legs_of};
+ghost use Rattle.laws_of_joint_commands.specs.MatchingBlocks.{legs_of};
 ghost use Rattle.hour_desk.specs.Desk.{DeskState};
 ghost use Rattle.hour_desk.specs.Shared.{part_events};
 ghost use Rattle.joint_plan.specs.Entering as entering;

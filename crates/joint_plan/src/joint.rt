@@ -8,7 +8,7 @@ ghost use Rattle.market_model.specs.declared.reply.Reply.TheVariants as replies;
 ghost use Rattle.market_model.specs.History.{events_of, journal_events};
 ghost use Rattle.market_model.specs.Market.{reply_to};
 ghost use Rattle.market_model.specs.Rules.{early_refusal, touched_hours};
-ghost use Rattle.certified_maximum.specs.Unfilled.{IsUnfilledOrder};
+ghost use Rattle.laws_of_maximum.specs.Unfilled.{IsUnfilledOrder};
 ghost use Rattle.joint_plan.specs.Kinds.{IsNoBasket};
 ghost use Rattle.joint_plan.specs.Rows.{AreAsked, AreReady, IsHistoryOf, IsJournalOf, dropped, hours_of, planning_all};
 

@@ -5,7 +5,7 @@ ghost use Rattle.market_model.specs.declared.command.Command.TheVariants as comm
 ghost use Rattle.market_model.specs.declared.event.Event.{Event as AnEvent};
 ghost use Rattle.market_model.specs.History.{events_of};
 ghost use Rattle.market_model.specs.Market.{reply_to};
-ghost use Rattle.joint_laws.specs.MatchingBlocks.{legs_of};
+ghost use Rattle.laws_of_joint_commands.specs.MatchingBlocks.{legs_of};
 ghost use Rattle.hour_desk.specs.Periods.{AreDealsOf};
 ghost use Rattle.hour_desk.specs.Desk.{DeskState, planned_events, planning, with_nothing_planned};
 ghost use Rattle.hour_desk.specs.Shared.{then_swept};

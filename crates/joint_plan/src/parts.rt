@@ -3,7 +3,7 @@
 ghost use Rattle.std.specs.Prelude.{◌≡◌, ◌<◌, ◌≤◌, ◌-◌, [], ◌∷◌, ◌++◌, ℕ, IfOk, List, OnErr, OnOk, Some, drop, flat_map, length, map, slice_get, slice_set, take};
 ghost use Rattle.zone_graph.specs.Route.{IsIn};
 ghost use Rattle.market_model.specs.declared.event.Event.{Event as AnEvent};
-ghost use Rattle.joint_laws.specs.MatchingBlocks.{legs_of};
+ghost use Rattle.laws_of_joint_commands.specs.MatchingBlocks.{legs_of};
 ghost use Rattle.hour_desk.specs.Desk.{DeskState, with_nothing_planned};
 ghost use Rattle.hour_desk.specs.Shared.{part_events, shared_events};
 ghost use Rattle.joint_plan.specs.Rows.{dropped};

@@ -21,12 +21,12 @@ use Rattle.market_model.specs.Market.{Turn, entry_of, in_turn, reply_to, run_aft
 use Rattle.market_model.specs.Naming.{IsEntryIn}
 use Rattle.market_model.specs.Sweep.{all_parts}
 use Rattle.market_model.specs.WellFormed.{IsHistory, IsMarketSetup}
-use Rattle.market_laws.proofs.Journals.{journal_events-more, run-history}
+use Rattle.laws_of_market.proofs.Journals.{journal_events-more, run-history}
 use Rattle.market_text.specs.Commands.{commands_of}
 use Rattle.market_text.specs.Session.{IsSession}
 use Rattle.market_text.specs.declared.session.Session.{Session}
-use Rattle.market_laws.proofs.ReplyEntries.{reply-enters-few}
-use Rattle.market_laws.proofs.ReplyNames.{reply-names}
+use Rattle.laws_of_market.proofs.ReplyEntries.{reply-enters-few}
+use Rattle.laws_of_market.proofs.ReplyNames.{reply-names}
 use Rattle.session_journal.proofs.Once.{as-many}
 use Rattle.trade_journal.specs.Journals.{all_rooms, room_of_caller}
 use Rattle.trade_journal.proofs.Rooms.{entries-fit}

@@ -7,9 +7,9 @@ use Rattle.market_model.specs.declared.setup.Caller.{Caller}
 use Rattle.market_text.specs.declared.session.Session.{Session}
 use Rattle.market_text.specs.Session.{IsSession}
 use Rattle.market_text.specs.Text.{session_of_text}
-use Rattle.text_grammar.specs.Contents.{CallerLine, CommandLine, Contents, IsAllowed, caller_names, caller_of_line, session_of_contents}
-use Rattle.text_grammar.proofs.Sessions.{texts-are-sessions}
-use Rattle.text_grammar.proofs.Texts.{accepted-in-grammar}
+use Rattle.laws_of_texts.specs.Contents.{CallerLine, CommandLine, Contents, IsAllowed, caller_names, caller_of_line, session_of_contents}
+use Rattle.laws_of_texts.proofs.Sessions.{texts-are-sessions}
+use Rattle.laws_of_texts.proofs.Texts.{accepted-in-grammar}
 use Rattle.session_journal.specs.Turns.{AreTurnsOf, taking_turns}
 use Rattle.session_journal.proofs.Once.{as-many}
 use Rattle.session_journal.proofs.TakingTurns.{own-turns, taking-turns}

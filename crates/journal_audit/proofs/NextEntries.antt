@@ -10,7 +10,7 @@ use Rattle.market_model.specs.declared.entry.Entry.{Entry}
 use Rattle.market_model.specs.declared.setup.Setup.{Setup}
 use Rattle.market_model.specs.Market.{Turn, entry_of, in_turn, in_turn_after, run_of, turn_at}
 use Rattle.market_model.specs.Sweep.{all_parts}
-use Rattle.market_laws.proofs.Journals.{run_after-more}
+use Rattle.laws_of_market.proofs.Journals.{run_after-more}
 use Rattle.journal_print.specs.Line.{entry_line}
 use Rattle.market_text.specs.Commands.{commands_of}
 use Rattle.market_text.specs.declared.session.Session.{Session}

@@ -27,10 +27,10 @@ use Rattle.market_model.specs.Grid.{graph_of}
 use Rattle.market_model.specs.History.{and_then}
 use Rattle.market_model.specs.Room.{halt_by, is_halted, is_open_phase, least, lots_of, phase_by, phase_of, quarter_room, room}
 use Rattle.market_model.specs.WellFormed.{FitAfter, OrderEnters}
-use Rattle.market_laws.proofs.Capacities.{allocated-more, last_said-more, offered-more}
-use Rattle.book_lines.specs.BookOf.{book_of, entered_resting, next_moment, resting_line}
-use Rattle.book_lines.proofs.ComesToRest.{book-entered}
-use Rattle.book_lines.proofs.PartLines.{line_of-book}
+use Rattle.laws_of_market.proofs.Capacities.{allocated-more, last_said-more, offered-more}
+use Rattle.laws_of_books.specs.BookOf.{book_of, entered_resting, next_moment, resting_line}
+use Rattle.laws_of_books.proofs.ComesToRest.{book-entered}
+use Rattle.laws_of_books.proofs.PartLines.{line_of-book}
 use Rattle.quarter_capacity.specs.Capacity.{flow_of, remaining_of}
 use Rattle.kept_certificate.specs.CertificateLaws.{EntriesLeaveTheBound}
 use Rattle.kept_certificate.specs.Crossing.{crossing_in}

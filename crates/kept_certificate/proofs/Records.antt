@@ -24,8 +24,8 @@ use Rattle.market_model.specs.Certificate.{crossing_lots, room_across}
 use Rattle.market_model.specs.Lines.{line}
 use Rattle.market_model.specs.Orders.{Placed, Standing, standing}
 use Rattle.market_model.specs.Room.{room}
-use Rattle.market_laws.proofs.Trades.{from_line}
-use Rattle.book_lines.specs.BookOf.{resting_line, resting_of}
+use Rattle.laws_of_market.proofs.Trades.{from_line}
+use Rattle.laws_of_books.specs.BookOf.{resting_line, resting_of}
 use Rattle.kept_certificate.specs.CertificateLaws.{BoundsAreThoseOfTheLine, HaveAtMost, RecordsTellWhatCrosses}
 use Rattle.kept_certificate.specs.Crossing.{crossing_in, crossing_of, crossing_peaks, lots_inside}
 use Rattle.kept_certificate.proofs.Crosses.{inside-sum}

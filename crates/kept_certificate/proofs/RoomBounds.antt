@@ -6,7 +6,7 @@ use Rattle.zone_graph.specs.declared.route.Arc.{Arc}
 use Rattle.market_model.specs.declared.event.Event.{Event}
 use Rattle.market_model.specs.Capacity.{remaining}
 use Rattle.market_model.specs.Room.{is_halted, is_open_phase, lots_of, phase_of, quarter_room, room}
-use Rattle.market_laws.proofs.Uses.{IsWithinOffers, remaining-within, within_offers}
+use Rattle.laws_of_market.proofs.Uses.{IsWithinOffers, remaining-within, within_offers}
 use Rattle.kept_certificate.specs.CertificateLaws.{RoomsOfEventsFit}
 
 lots_of-most : (z : ℤ) → z ≤ℤ pos 2000000 → lots_of z ≤ 2000000

@@ -15,7 +15,7 @@ use Rattle.market_model.specs.Entering.{name_of_next}
 use Rattle.market_model.specs.Grid.{graph_of}
 use Rattle.market_model.specs.Room.{room}
 use Rattle.market_model.specs.WellFormed.{FitAfter, OrderEnters}
-use Rattle.book_lines.specs.BookOf.{resting_line}
+use Rattle.laws_of_books.specs.BookOf.{resting_line}
 use Rattle.kept_certificate.specs.Crossing.{bound_in, crossing_in}
 
 -- no arc of a grid has more room than this

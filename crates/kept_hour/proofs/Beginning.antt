@@ -3,11 +3,11 @@ use Rattle.std.proofs.Common.{◌≡◌, ◌∙◌, ℕ, List, [], ◌*◌, repl
 use Rattle.zone_graph.specs.Graph.{Graph, IsGraph}
 use Rattle.market_model.specs.declared.event.Event.{Event}
 use Rattle.market_model.specs.Board.{IsBoard}
-use Rattle.book_lines.proofs.FoundOrders as books
-use Rattle.book_lines.proofs.WholeBlockBooks as blocks
-use Rattle.flow_lines.specs.Standing.{IsIdle}
-use Rattle.flow_lines.proofs.Ranges.{idle}
-use Rattle.hour_changes.proofs.NextEvents.{empty}
+use Rattle.laws_of_books.proofs.FoundOrders as books
+use Rattle.laws_of_books.proofs.WholeBlockBooks as blocks
+use Rattle.laws_of_flows.specs.Standing.{IsIdle}
+use Rattle.laws_of_flows.proofs.Ranges.{idle}
+use Rattle.laws_of_hours.proofs.NextEvents.{empty}
 use Rattle.hour_store.specs.Store.{Store}
 use Rattle.kept_hour.specs.Kept.{AreOf, IsKept, hour_of}
 use Rattle.kept_hour.specs.State.{empty_board}

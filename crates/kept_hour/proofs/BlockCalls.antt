@@ -10,11 +10,11 @@ use Rattle.market_model.specs.declared.event.Event.TheVariants as event
 use Rattle.market_model.specs.History.{and_then}
 use Rattle.market_model.specs.Orders.{next_name, open_names}
 use Rattle.market_model.specs.Refusals.{desk_room}
-use Rattle.book_lines.specs.BlocksOf.{blocks_of, entered_resting_block}
-use Rattle.flow_lines.specs.Standing.{Stands}
-use Rattle.hour_changes.specs.BlockEvents.{RestsAsBlock}
-use Rattle.hour_changes.proofs.BlockEntries.{enters}
-use Rattle.hour_changes.proofs.Numbers.{count-more, one_if}
+use Rattle.laws_of_books.specs.BlocksOf.{blocks_of, entered_resting_block}
+use Rattle.laws_of_flows.specs.Standing.{Stands}
+use Rattle.laws_of_hours.specs.BlockEvents.{RestsAsBlock}
+use Rattle.laws_of_hours.proofs.BlockEntries.{enters}
+use Rattle.laws_of_hours.proofs.Numbers.{count-more, one_if}
 use Rattle.hour_store.specs.Contents.{Contents}
 use Rattle.hour_store.specs.Store.{StillLeadsBack, Store}
 use Rattle.kept_hour.specs.Kept.{IsKept, hour_of}

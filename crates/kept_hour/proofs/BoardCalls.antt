@@ -14,9 +14,9 @@ use Rattle.market_model.specs.declared.event.Event.{Event}
 use Rattle.market_model.specs.declared.event.Event.TheVariants as event
 use Rattle.market_model.specs.declared.event.Leg.{Leg}
 use Rattle.market_model.specs.Board.{CanBeMade, Rests, RestsIn, resting_line, shown_behind}
-use Rattle.book_lines.proofs.Updates.{from_stands}
-use Rattle.hour_changes.proofs.Entries.{in-orders}
-use Rattle.hour_changes.proofs.OrderlyBooks.{orders_in}
+use Rattle.laws_of_books.proofs.Updates.{from_stands}
+use Rattle.laws_of_hours.proofs.Entries.{in-orders}
+use Rattle.laws_of_hours.proofs.OrderlyBooks.{orders_in}
 use Rattle.hour_store.specs.Store.{StillLeadsBack, Store}
 use Rattle.hour_store.specs.TakenBack.{LeadsBack}
 use Rattle.kept_hour.specs.Kept.{IsKept, hour_of}

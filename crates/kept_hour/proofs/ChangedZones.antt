@@ -20,21 +20,21 @@ use Rattle.market_model.specs.Board.{IsHourOf}
 use Rattle.market_model.specs.Lines.{line}
 use Rattle.market_model.specs.Orders.{Standing}
 use Rattle.market_model.specs.Room.{room}
-use Rattle.market_laws.proofs.Placed.{all_are_sound}
-use Rattle.market_laws.proofs.Rooms.{kept_part-is}
-use Rattle.market_laws.proofs.Trades.{from_line}
-use Rattle.market_laws.proofs.LocalLines.{line-agree}
-use Rattle.market_laws.proofs.Restrict.{filter-filter, map-same, filter-map}
-use Rattle.book_lines.specs.BookOf.{book_of, resting_of}
-use Rattle.book_lines.proofs.PartLines.{line_of-book}
-use Rattle.flow_lines.specs.Standing.{Stands}
-use Rattle.flow_lines.proofs.Rooms.{remains}
-use Rattle.hour_changes.specs.OrderEvents.{without_hand}
-use Rattle.hour_changes.proofs.NextEvents.{agrees}
-use Rattle.view_laws.specs.declared.trades.Maker.{Maker}
-use Rattle.view_laws.specs.Depth.{AreInZones, maker_of}
-use Rattle.view_laws.proofs.Views.{makers-known}
-use Rattle.view_near.specs.Nearby.{is_elsewhere, seen_elsewhere}
+use Rattle.laws_of_market.proofs.Placed.{all_are_sound}
+use Rattle.laws_of_market.proofs.Rooms.{kept_part-is}
+use Rattle.laws_of_market.proofs.Trades.{from_line}
+use Rattle.laws_of_market.proofs.LocalLines.{line-agree}
+use Rattle.laws_of_market.proofs.Restrict.{filter-filter, map-same, filter-map}
+use Rattle.laws_of_books.specs.BookOf.{book_of, resting_of}
+use Rattle.laws_of_books.proofs.PartLines.{line_of-book}
+use Rattle.laws_of_flows.specs.Standing.{Stands}
+use Rattle.laws_of_flows.proofs.Rooms.{remains}
+use Rattle.laws_of_hours.specs.OrderEvents.{without_hand}
+use Rattle.laws_of_hours.proofs.NextEvents.{agrees}
+use Rattle.laws_of_rows.specs.declared.trades.Maker.{Maker}
+use Rattle.laws_of_rows.specs.Depth.{AreInZones, maker_of}
+use Rattle.laws_of_rows.proofs.Views.{makers-known}
+use Rattle.laws_of_views.specs.Nearby.{is_elsewhere, seen_elsewhere}
 use Rattle.hour_store.specs.declared.change.Change.{Change}
 use Rattle.hour_store.specs.Changed.{AreChangedZones, changes_flows, has_changed, is_untouched, zones_of}
 use Rattle.hour_store.specs.Store.{Store}

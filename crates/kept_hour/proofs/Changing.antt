@@ -9,17 +9,17 @@ use Rattle.block_book.specs.Book as block_books
 use Rattle.market_model.specs.declared.event.Event.{Event}
 use Rattle.market_model.specs.History.{and_then, touches}
 use Rattle.market_model.specs.Refusals.{desk_room}
-use Rattle.book_lines.specs.BookOf.{book_of}
-use Rattle.flow_lines.specs.FlowLaws.{IsRangeIn}
-use Rattle.flow_lines.specs.Standing.{IsCarried, IsHaltSet, IsOffered, Stands}
-use Rattle.flow_lines.proofs.Noted as noted
-use Rattle.flow_lines.proofs.Ranges as ranges
-use Rattle.hour_changes.specs.FlowEvents.{changes_flows}
-use Rattle.hour_changes.specs.OrderEvents.{resting_count, without_hand}
-use Rattle.hour_changes.proofs.FlowChanges.{leaves_books}
-use Rattle.hour_changes.proofs.NextEvents.{next}
-use Rattle.hour_changes.proofs.Reduced.{is_reduced}
-use Rattle.hour_changes.proofs.TakenOut.{withdrawn}
+use Rattle.laws_of_books.specs.BookOf.{book_of}
+use Rattle.laws_of_flows.specs.FlowLaws.{IsRangeIn}
+use Rattle.laws_of_flows.specs.Standing.{IsCarried, IsHaltSet, IsOffered, Stands}
+use Rattle.laws_of_flows.proofs.Noted as noted
+use Rattle.laws_of_flows.proofs.Ranges as ranges
+use Rattle.laws_of_hours.specs.FlowEvents.{changes_flows}
+use Rattle.laws_of_hours.specs.OrderEvents.{resting_count, without_hand}
+use Rattle.laws_of_hours.proofs.FlowChanges.{leaves_books}
+use Rattle.laws_of_hours.proofs.NextEvents.{next}
+use Rattle.laws_of_hours.proofs.Reduced.{is_reduced}
+use Rattle.laws_of_hours.proofs.TakenOut.{withdrawn}
 use Rattle.hour_store.specs.Store.{StillLeadsBack, Store}
 use Rattle.kept_hour.specs.Kept.{Keeps}
 use Rattle.kept_hour.specs.State.{CanBeNext, HourState, gate_of, grant_of, halt_of, name_in, offer_of, reduction_of, resumption_of, withdrawal_of}

@@ -2,7 +2,7 @@
 use Rattle.std.proofs.Common.{◌≡◌, ℕ, ◌+◌, length, ap, arith}
 use Rattle.contract_book.specs.Book.{order_count}
 use Rattle.market_model.specs.Board.{resting_names}
-use Rattle.hour_changes.proofs.OpenCounts.{all_rest}
+use Rattle.laws_of_hours.proofs.OpenCounts.{all_rest}
 use Rattle.hour_store.specs.Store.{Store}
 use Rattle.kept_hour.specs.Kept.{Keeps}
 use Rattle.kept_hour.specs.State.{HourState}

@@ -9,25 +9,25 @@ use Rattle.contract_book.specs.Book.{order_count}
 use Rattle.block_book.specs.declared.block.RestingBlock.{RestingBlock}
 use Rattle.block_book.specs.Blocks.{number_cmp}
 use Rattle.block_book.specs.Book.{has_number, with_block, without}
-use Rattle.book_lines.specs.BlocksOf.{blocks_of, entered_resting_block}
-use Rattle.book_lines.specs.LegLaws.{without_both}
+use Rattle.laws_of_books.specs.BlocksOf.{blocks_of, entered_resting_block}
+use Rattle.laws_of_books.specs.LegLaws.{without_both}
 use Rattle.block_match.specs.declared.deal.BlockDeal.{BlockDeal}
 use Rattle.block_match.specs.Market.{deal_events}
-use Rattle.book_lines.specs.BookOf.{book_of}
-use Rattle.flow_lines.specs.Standing.{Stands}
+use Rattle.laws_of_books.specs.BookOf.{book_of}
+use Rattle.laws_of_flows.specs.Standing.{Stands}
 use Rattle.market_model.specs.declared.event.Event.{Event}
 use Rattle.market_model.specs.Board.{IsHourOf}
 use Rattle.market_model.specs.History.{and_then}
 use Rattle.market_model.specs.Orders.{next_name}
 use Rattle.market_model.specs.Refusals.{desk_room}
 use Rattle.market_model.specs.WellFormed.{BlockEnters}
-use Rattle.market_laws.proofs.Counts.{fewer-le}
-use Rattle.hour_changes.specs.BlockEvents.{RestsAsBlock}
-use Rattle.hour_changes.specs.OrderEvents.{resting_count}
-use Rattle.hour_changes.proofs.BlockEntries.{enters}
-use Rattle.hour_changes.proofs.NextEvents.{first_of_many, next}
-use Rattle.hour_changes.proofs.Numbers.{count-more, one_if}
-use Rattle.hour_changes.proofs.OpenCounts.{all_rest}
+use Rattle.laws_of_market.proofs.Counts.{fewer-le}
+use Rattle.laws_of_hours.specs.BlockEvents.{RestsAsBlock}
+use Rattle.laws_of_hours.specs.OrderEvents.{resting_count}
+use Rattle.laws_of_hours.proofs.BlockEntries.{enters}
+use Rattle.laws_of_hours.proofs.NextEvents.{first_of_many, next}
+use Rattle.laws_of_hours.proofs.Numbers.{count-more, one_if}
+use Rattle.laws_of_hours.proofs.OpenCounts.{all_rest}
 use Rattle.hour_store.specs.Store.{StillLeadsBack, Store}
 use Rattle.kept_hour.specs.Deals.{CanCarryAll, ClosesBoth, IsDealtIn, dealt_entry, with_entry}
 use Rattle.kept_hour.specs.Kept.{Keeps}

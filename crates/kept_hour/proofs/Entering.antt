@@ -7,11 +7,11 @@ use Rattle.market_model.specs.declared.event.Event.{Event}
 use Rattle.market_model.specs.History.{and_then}
 use Rattle.market_model.specs.Orders.{next_name, open_names, placed_by}
 use Rattle.market_model.specs.Refusals.{desk_room}
-use Rattle.market_laws.proofs.Members.{IsIn-filter_map}
-use Rattle.book_lines.specs.BookOf.{book_of}
-use Rattle.hour_changes.specs.OrderEvents.{IsInHand, resting_count, without_hand}
-use Rattle.hour_changes.proofs.Entries.{enters}
-use Rattle.hour_changes.proofs.Numbers.{count-more, one_if}
+use Rattle.laws_of_market.proofs.Members.{IsIn-filter_map}
+use Rattle.laws_of_books.specs.BookOf.{book_of}
+use Rattle.laws_of_hours.specs.OrderEvents.{IsInHand, resting_count, without_hand}
+use Rattle.laws_of_hours.proofs.Entries.{enters}
+use Rattle.laws_of_hours.proofs.Numbers.{count-more, one_if}
 use Rattle.hour_store.specs.Store.{Store}
 use Rattle.kept_hour.specs.Kept.{Keeps}
 use Rattle.kept_hour.specs.State.{CanBeNext, HourState, entry_of, name_in}

@@ -10,13 +10,13 @@ use Rattle.contract_book.specs.Book.{order_of, reduced, without}
 use Rattle.block_book.specs.Book as block_books
 use Rattle.flow_netting.specs.Flows as flow
 use Rattle.market_model.specs.declared.event.Event.{Event}
-use Rattle.book_lines.specs.BookOf.{book_of}
-use Rattle.flow_lines.specs.CallLaws.{CanGrant, CanOffer}
-use Rattle.flow_lines.specs.FlowLaws.{IsRangeIn}
-use Rattle.flow_lines.specs.Standing.{IsCarried, IsHaltSet, IsOffered, Stands}
-use Rattle.hour_changes.specs.OrderEvents.{CanReduce}
-use Rattle.hour_changes.proofs.FlowChanges.{grants_fit, halts_fit, offers_fit, resumptions_fit}
-use Rattle.hour_changes.proofs.Reduced.{is_reduced}
+use Rattle.laws_of_books.specs.BookOf.{book_of}
+use Rattle.laws_of_flows.specs.CallLaws.{CanGrant, CanOffer}
+use Rattle.laws_of_flows.specs.FlowLaws.{IsRangeIn}
+use Rattle.laws_of_flows.specs.Standing.{IsCarried, IsHaltSet, IsOffered, Stands}
+use Rattle.laws_of_hours.specs.OrderEvents.{CanReduce}
+use Rattle.laws_of_hours.proofs.FlowChanges.{grants_fit, halts_fit, offers_fit, resumptions_fit}
+use Rattle.laws_of_hours.proofs.Reduced.{is_reduced}
 use Rattle.hour_store.specs.Contents.{Contents, IsOfPart}
 use Rattle.hour_store.specs.Store.{StillLeadsBack, Store}
 use Rattle.kept_hour.specs.Kept.{IsKept, hour_of}

@@ -7,7 +7,7 @@ use Rattle.contract_book.specs.Resting.{IsSound}
 use Rattle.market_model.specs.declared.event.Event.{Event}
 use Rattle.market_model.specs.Orders.{open_names}
 use Rattle.market_model.specs.Refusals.{desk_room}
-use Rattle.book_lines.specs.BookOf.{book_of}
+use Rattle.laws_of_books.specs.BookOf.{book_of}
 use Rattle.hour_store.specs.Contents.{Contents, IsOfPart}
 use Rattle.hour_store.specs.Store.{StillLeadsBack, Store}
 use Rattle.kept_hour.specs.Kept.{IsKept, hour_of}

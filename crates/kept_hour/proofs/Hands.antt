@@ -7,14 +7,14 @@ use Rattle.market_model.specs.declared.event.Event.{Event}
 use Rattle.market_model.specs.declared.event.Event.TheVariants as event
 use Rattle.market_model.specs.Orders.{is_open, open_names}
 use Rattle.market_model.specs.Refusals.{desk_room}
-use Rattle.market_laws.proofs.LocalAnswers.{open_names-agree}
-use Rattle.book_lines.specs.BookOf.{book_of}
-use Rattle.book_lines.proofs.PartLines.{parts_of-book}
-use Rattle.book_lines.proofs.WholeBooks.{book-is_book}
-use Rattle.flow_lines.specs.Standing.{Stands}
-use Rattle.hour_changes.specs.OrderEvents.{resting_count, without_hand}
-use Rattle.hour_changes.proofs.NextEvents.{agrees, book-is}
-use Rattle.hour_changes.proofs.TakenOut.{gone, withdrawn}
+use Rattle.laws_of_market.proofs.LocalAnswers.{open_names-agree}
+use Rattle.laws_of_books.specs.BookOf.{book_of}
+use Rattle.laws_of_books.proofs.PartLines.{parts_of-book}
+use Rattle.laws_of_books.proofs.WholeBooks.{book-is_book}
+use Rattle.laws_of_flows.specs.Standing.{Stands}
+use Rattle.laws_of_hours.specs.OrderEvents.{resting_count, without_hand}
+use Rattle.laws_of_hours.proofs.NextEvents.{agrees, book-is}
+use Rattle.laws_of_hours.proofs.TakenOut.{gone, withdrawn}
 use Rattle.hour_store.specs.Contents.{Contents, IsOfPart}
 use Rattle.hour_store.specs.Store.{StillLeadsBack, Store}
 use Rattle.hour_store.proofs.Keeps.{parts-without}

@@ -6,22 +6,22 @@ use Rattle.order_kinds.specs.declared.order.OrderName.{OrderName}
 use Rattle.zone_graph.specs.declared.route.RouteLeg.{RouteLeg}
 use Rattle.zone_graph.specs.Graph.{Graph}
 use Rattle.block_book.specs.Book as block_books
-use Rattle.book_lines.specs.BlocksOf.{blocks_of}
-use Rattle.book_lines.specs.LegLaws.{without_both}
+use Rattle.laws_of_books.specs.BlocksOf.{blocks_of}
+use Rattle.laws_of_books.specs.LegLaws.{without_both}
 use Rattle.block_match.specs.declared.deal.BlockDeal.{BlockDeal}
 use Rattle.block_match.specs.Market.{deal_events, leg_event}
-use Rattle.book_lines.specs.BookOf.{book_of}
+use Rattle.laws_of_books.specs.BookOf.{book_of}
 use Rattle.flow_netting.specs.Flows.{Flows}
-use Rattle.flow_lines.specs.Standing.{Stands}
+use Rattle.laws_of_flows.specs.Standing.{Stands}
 use Rattle.market_model.specs.declared.event.Event.{Event}
 use Rattle.market_model.specs.declared.event.Leg.{Leg}
 use Rattle.market_model.specs.Board.{IsHourOf}
 use Rattle.market_model.specs.History.{and_then}
 use Rattle.market_model.specs.Orders.{is_open, next_name}
-use Rattle.hour_changes.specs.BlockLegEvents.{IsCarriedThrough}
-use Rattle.hour_changes.specs.OrderEvents.{resting_count}
-use Rattle.hour_changes.proofs.BlockLegs.{carried, closed_gone}
-use Rattle.hour_changes.proofs.NextEvents.{first_of_many}
+use Rattle.laws_of_hours.specs.BlockLegEvents.{IsCarriedThrough}
+use Rattle.laws_of_hours.specs.OrderEvents.{resting_count}
+use Rattle.laws_of_hours.proofs.BlockLegs.{carried, closed_gone}
+use Rattle.laws_of_hours.proofs.NextEvents.{first_of_many}
 use Rattle.hour_store.specs.Store.{StillLeadsBack, Store}
 use Rattle.kept_hour.specs.Deals.{AreCarried, CanCarryAll, ClosesBoth, IsDealtIn}
 use Rattle.kept_hour.specs.Kept.{Keeps}

@@ -12,11 +12,11 @@ use Rattle.market_model.specs.declared.event.Leg.{Leg}
 use Rattle.market_model.specs.Board.{CanBeMade, IsBoard, after_leg}
 use Rattle.market_model.specs.History.{and_then}
 use Rattle.market_model.specs.Orders.{next_name, placed, placed_by}
-use Rattle.board_laws.proofs.Legs.{leaves}
-use Rattle.book_lines.specs.BookOf.{book_of}
-use Rattle.book_lines.specs.BlockLaws.{IsOfOrder}
-use Rattle.hour_changes.specs.OrderEvents.{CanFill, IsMade, filled_beside, without_hand}
-use Rattle.hour_changes.proofs.Legs.{made}
+use Rattle.laws_of_boards.proofs.Legs.{leaves}
+use Rattle.laws_of_books.specs.BookOf.{book_of}
+use Rattle.laws_of_books.specs.BlockLaws.{IsOfOrder}
+use Rattle.laws_of_hours.specs.OrderEvents.{CanFill, IsMade, filled_beside, without_hand}
+use Rattle.laws_of_hours.proofs.Legs.{made}
 use Rattle.hour_store.specs.Store.{StillLeadsBack, Store}
 use Rattle.kept_hour.specs.Kept.{Keeps, names_given}
 use Rattle.kept_hour.specs.Legs.{CanMakeIn, IsMadeIn}

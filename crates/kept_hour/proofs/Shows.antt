@@ -10,10 +10,10 @@ use Rattle.market_model.specs.Board.{BoardState, first_shown, is_in_hand, restin
 use Rattle.market_model.specs.Board as boards
 use Rattle.market_model.specs.Lines.{line}
 use Rattle.market_model.specs.Orders.{Standing}
-use Rattle.book_lines.specs.BookOf.{book_of, resting_of}
-use Rattle.book_lines.proofs.PartLines.{line_of-book}
-use Rattle.hour_changes.specs.OrderEvents.{without_hand}
-use Rattle.hour_changes.proofs.Legs.{line-map}
+use Rattle.laws_of_books.specs.BookOf.{book_of, resting_of}
+use Rattle.laws_of_books.proofs.PartLines.{line_of-book}
+use Rattle.laws_of_hours.specs.OrderEvents.{without_hand}
+use Rattle.laws_of_hours.proofs.Legs.{line-map}
 use Rattle.kept_hour.specs.Showing.{shown_record}
 
 -- the number of the part of a number is that number, and there is such a part

@@ -9,7 +9,7 @@ use Rattle.zone_graph.specs.Graph.{Graph, HasArc, HasZone}
 use Rattle.zone_graph.specs.Route.{IsIn}
 use Rattle.market_model.specs.Board.{IsBoard}
 use Rattle.market_model.specs.Room.{room}
-use Rattle.view_near.specs.Nearby.{seen_elsewhere}
+use Rattle.laws_of_views.specs.Nearby.{seen_elsewhere}
 use Rattle.hour_store.specs.Changed.{zones_of}
 use Rattle.kept_hour.specs.State.{HourState, settled_board}
 

@@ -5,14 +5,14 @@ use Rattle.order_kinds.specs.declared.contract.Part.TheVariants as part
 use Rattle.order_kinds.specs.declared.order.BlockOrder.{BlockOrder}
 use Rattle.zone_graph.specs.declared.route.RouteLeg.{RouteLeg}
 use Rattle.zone_graph.specs.Pour.{uses}
-use Rattle.book_lines.specs.LegLaws.{without_both}
+use Rattle.laws_of_books.specs.LegLaws.{without_both}
 use Rattle.block_match.specs.declared.deal.BlockDeal.{BlockDeal}
 use Rattle.block_match.specs.Market.{deal_events}
 use Rattle.flow_netting.specs.declared.quarter_set.QuarterSet.{QuarterSet}
 use Rattle.flow_netting.specs.Flows.{Flows}
 use Rattle.flow_netting.specs.QuarterSet.{has}
-use Rattle.flow_lines.specs.CallLaws.{CanCarry}
-use Rattle.flow_lines.specs.Standing.{IsCarried, IsSetOf}
+use Rattle.laws_of_flows.specs.CallLaws.{CanCarry}
+use Rattle.laws_of_flows.specs.Standing.{IsCarried, IsSetOf}
 use Rattle.market_model.specs.declared.event.Event.{Event}
 use Rattle.market_model.specs.Orders.{is_open}
 use Rattle.hour_store.specs.Contents.{Contents}

@@ -1,14 +1,14 @@
 -- What the store of an hour keeps for its events: their books, without the order in hand, and their flows.
 use Rattle.std.specs.Prelude.{◌≡◌, ℕ, ◌≤◌, List, Option, Some, count_by, length, take}
 use Rattle.zone_graph.specs.Graph.{Graph}
-use Rattle.book_lines.specs.BookOf.{book_of}
-use Rattle.book_lines.specs.BlockLaws.{IsOfOrder}
-use Rattle.book_lines.specs.BlocksOf.{blocks_of}
-use Rattle.flow_lines.specs.Standing.{Stands}
+use Rattle.laws_of_books.specs.BookOf.{book_of}
+use Rattle.laws_of_books.specs.BlockLaws.{IsOfOrder}
+use Rattle.laws_of_books.specs.BlocksOf.{blocks_of}
+use Rattle.laws_of_flows.specs.Standing.{Stands}
 use Rattle.market_model.specs.declared.event.Event.{Event}
 use Rattle.market_model.specs.Board.{BoardState, IsBoard}
 use Rattle.market_model.specs.History.{enters_in}
-use Rattle.hour_changes.specs.OrderEvents.{without_hand}
+use Rattle.laws_of_hours.specs.OrderEvents.{without_hand}
 use Rattle.hour_store.specs.Contents.{Contents}
 use Rattle.hour_store.specs.Store.{GoesBackTo, Store}
 use Rattle.kept_hour.specs.State.{HourState, name_in, settled_board}

@@ -5,9 +5,9 @@ use Rattle.zone_graph.specs.Pour.{uses}
 use Rattle.market_model.specs.declared.event.Leg.{Leg}
 use Rattle.flow_netting.specs.declared.quarter_set.QuarterSet.{QuarterSet}
 use Rattle.flow_netting.specs.QuarterSet.{has}
-use Rattle.flow_lines.specs.CallLaws.{CanCarry}
-use Rattle.flow_lines.specs.Standing.{IsCarried, IsSetOf}
-use Rattle.hour_changes.specs.OrderEvents.{CanFill, filled_beside, holds}
+use Rattle.laws_of_flows.specs.CallLaws.{CanCarry}
+use Rattle.laws_of_flows.specs.Standing.{IsCarried, IsSetOf}
+use Rattle.laws_of_hours.specs.OrderEvents.{CanFill, filled_beside, holds}
 use Rattle.hour_store.specs.Contents.{Contents}
 
 -- a leg can be made: its orders rest, but for the one in hand, and its lots can be carried

@@ -1,7 +1,7 @@
 //! Blocks enter.
 
 ghost use Rattle.std.specs.Prelude.{◌≡◌, ◌-◌, ◌^◌, ◌<◌, ℕ, None, length, IfOk, OnErr};
-ghost use Rattle.book_lines.specs.BlocksOf.{entered_resting_block};
+ghost use Rattle.laws_of_books.specs.BlocksOf.{entered_resting_block};
 ghost use Rattle.market_model.specs.Orders.{next_name, open_names};
 ghost use Rattle.market_model.specs.Refusals.{desk_room};
 ghost use Rattle.kept_hour.specs.Kept.{names_given};

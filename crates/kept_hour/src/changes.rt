@@ -2,7 +2,7 @@
 
 ghost use Rattle.std.specs.Prelude.{◌≡◌, None, IfSome, OnOk, OnErr};
 ghost use Rattle.contract_book.specs.Book.{order_of};
-ghost use Rattle.book_lines.specs.BookOf.{book_of};
+ghost use Rattle.laws_of_books.specs.BookOf.{book_of};
 ghost use Rattle.hour_store.specs.Contents.{IsOfPart};
 ghost use Rattle.kept_hour.specs.State as states;
 

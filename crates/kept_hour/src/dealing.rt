@@ -1,7 +1,7 @@
 //! What a deal of two blocks changes of the events and of the store of an hour.
 
 ghost use Rattle.std.specs.Prelude.{◌≡◌, ◌+◌, ◌≤◌, [], ◌∷◌, ◌++◌, IfSome, OnOk, OnErr, if◌then◌else◌};
-ghost use Rattle.book_lines.specs.LegLaws.{without_both};
+ghost use Rattle.laws_of_books.specs.LegLaws.{without_both};
 ghost use Rattle.block_match.specs.Market.{deal_events, leg_event};
 ghost use Rattle.hour_store.specs.Store.{StillLeadsBack};
 ghost use Rattle.market_model.specs.declared.event.Event.TheVariants as event;

@@ -1,13 +1,13 @@
 //! The hour.
 
 ghost use Rattle.std.specs.Prelude.{◌≡◌, ◌+◌, ◌-◌, ◌^◌, ◌<◌, ◌≤◌, ℕ, [], None, Some, length, take, false, IsSome, IfOk, OnOk, OnErr};
-ghost use Rattle.book_lines.specs.BookOf.{book_of};
-ghost use Rattle.book_lines.specs.BlocksOf.{blocks_of};
-ghost use Rattle.flow_lines.specs.Standing.{Stands};
+ghost use Rattle.laws_of_books.specs.BookOf.{book_of};
+ghost use Rattle.laws_of_books.specs.BlocksOf.{blocks_of};
+ghost use Rattle.laws_of_flows.specs.Standing.{Stands};
 ghost use Rattle.market_model.specs.Board.{IsBoard, resting_names};
 ghost use Rattle.market_model.specs.Orders.{is_open, next_name, open_names};
 ghost use Rattle.market_model.specs.Refusals.{desk_room};
-ghost use Rattle.hour_changes.specs.OrderEvents.{without_hand};
+ghost use Rattle.laws_of_hours.specs.OrderEvents.{without_hand};
 ghost use Rattle.hour_store.specs.Contents.{IsOfPart};
 ghost use Rattle.kept_hour.specs.Kept.{names_given};
 ghost use Rattle.kept_hour.specs.State as states;

@@ -19,17 +19,17 @@ use Rattle.market_model.specs.Orders.{Standing}
 use Rattle.market_model.specs.Room.{room}
 use Rattle.market_model.specs.View.{view}
 use Rattle.market_model.specs.WellFormed.{IsLegalOver}
-use Rattle.market_laws.proofs.Placed.{all_are_sound}
-use Rattle.market_laws.proofs.Trades.{from_line}
-use Rattle.market_laws.proofs.LocalAnswers.{view-agree}
-use Rattle.market_laws.proofs.LocalLines.{contract-hours, line-agree}
-use Rattle.market_laws.proofs.LocalStates.{Agree, room-agree}
-use Rattle.market_laws.proofs.OfHours.{one-agrees}
-use Rattle.view_laws.specs.Depth.{maker_of}
-use Rattle.view_laws.specs.Filled.{rows_with}
-use Rattle.view_laws.proofs.Views.{view-is}
+use Rattle.laws_of_market.proofs.Placed.{all_are_sound}
+use Rattle.laws_of_market.proofs.Trades.{from_line}
+use Rattle.laws_of_market.proofs.LocalAnswers.{view-agree}
+use Rattle.laws_of_market.proofs.LocalLines.{contract-hours, line-agree}
+use Rattle.laws_of_market.proofs.LocalStates.{Agree, room-agree}
+use Rattle.laws_of_market.proofs.OfHours.{one-agrees}
+use Rattle.laws_of_rows.specs.Depth.{maker_of}
+use Rattle.laws_of_rows.specs.Filled.{rows_with}
+use Rattle.laws_of_rows.proofs.Views.{view-is}
 use Rattle.local_view.proofs.LineMakers.{makers-cross, makers-once}
-use Rattle.view_near.proofs.FirstMakers.{AllCross, AreOnce}
+use Rattle.laws_of_views.proofs.FirstMakers.{AllCross, AreOnce}
 use Rattle.local_view.proofs.Walking.{walked, walked-trades}
 
 -- a room of each arc, as a row of rooms

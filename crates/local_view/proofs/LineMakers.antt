@@ -19,16 +19,16 @@ use Rattle.market_model.specs.Lines.{line, stands_in}
 use Rattle.market_model.specs.Orders.{Placed, Standing, filled, left, placed, standing}
 use Rattle.market_model.specs.View.{any_price}
 use Rattle.market_model.specs.WellFormed.{FitAfter}
-use Rattle.market_laws.proofs.Balances.{covered}
-use Rattle.market_laws.proofs.LineSums.{one_if, sum-line, sum-map, times_placed}
-use Rattle.market_laws.proofs.Names.{names-once}
-use Rattle.market_laws.proofs.Tests.{same_name-refl}
-use Rattle.market_laws.proofs.Trades.{IsInLine, from_line}
-use Rattle.market_laws.proofs.Unique.{entered-order}
-use Rattle.market_laws.proofs.Prices.{prices-in-range}
-use Rattle.view_laws.specs.declared.trades.Maker.{Maker}
-use Rattle.view_laws.specs.Depth.{crosses_any, maker_of}
-use Rattle.view_near.proofs.FirstMakers.{AllCross, AreOnce}
+use Rattle.laws_of_market.proofs.Balances.{covered}
+use Rattle.laws_of_market.proofs.LineSums.{one_if, sum-line, sum-map, times_placed}
+use Rattle.laws_of_market.proofs.Names.{names-once}
+use Rattle.laws_of_market.proofs.Tests.{same_name-refl}
+use Rattle.laws_of_market.proofs.Trades.{IsInLine, from_line}
+use Rattle.laws_of_market.proofs.Unique.{entered-order}
+use Rattle.laws_of_market.proofs.Prices.{prices-in-range}
+use Rattle.laws_of_rows.specs.declared.trades.Maker.{Maker}
+use Rattle.laws_of_rows.specs.Depth.{crosses_any, maker_of}
+use Rattle.laws_of_views.proofs.FirstMakers.{AllCross, AreOnce}
 
 -- ---- the names of a line
 

@@ -10,8 +10,8 @@ use Rattle.market_model.specs.declared.board.Shown.{Shown}
 use Rattle.market_model.specs.Board.{BoardState, IsBoard, first_shown, has_number, resting_line, shown_behind, shown_of}
 use Rattle.market_model.specs.Lines.{line}
 use Rattle.market_model.specs.Orders.{Standing}
-use Rattle.view_laws.specs.Depth.{maker_of}
-use Rattle.view_near.proofs.FirstMakers.{AreOnce}
+use Rattle.laws_of_rows.specs.Depth.{maker_of}
+use Rattle.laws_of_views.proofs.FirstMakers.{AreOnce}
 use Rattle.local_view.proofs.Hours.{line-hour, line-once}
 
 -- the part of a line from the order of a number on, and from one that is shown

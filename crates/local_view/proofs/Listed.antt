@@ -16,7 +16,7 @@ use Rattle.market_model.specs.Lines.{line}
 use Rattle.market_model.specs.Orders.{Standing}
 use Rattle.route_carrying.specs.Carrying.{FitTogether}
 use Rattle.route_choice.specs.Poured.{AreRoomsAfter, lots_of, rooms_after as all_after}
-use Rattle.view_laws.specs.Depth.{maker_of}
+use Rattle.laws_of_rows.specs.Depth.{maker_of}
 use Rattle.local_view.specs.Boards.{AreRoomsOf, view_of}
 use Rattle.local_view.specs.Poured.{legs_with, row_if}
 use Rattle.local_view.proofs.Hours.{line-zones, view-empty, view-walked}

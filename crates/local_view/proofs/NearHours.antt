@@ -15,13 +15,13 @@ use Rattle.market_model.specs.Certificate.{zones_in_reach}
 use Rattle.market_model.specs.Lines.{line}
 use Rattle.market_model.specs.Room.{room}
 use Rattle.market_model.specs.View.{view}
-use Rattle.view_laws.specs.declared.trades.Fill.{Fill}
-use Rattle.view_laws.specs.Depth.{AreInZones, after_fill, maker_of, next_fill}
-use Rattle.view_laws.specs.Filled.{row_in, rows_with}
-use Rattle.view_laws.proofs.Views.{makers-known, view-rows}
-use Rattle.view_near.specs.Nearby.{DifferWithin, HaveNoZoneInCommon, is_elsewhere, zones_of_view}
-use Rattle.view_near.proofs.Near.{fills, fills-run, found-agree, in_reach, reach-own}
-use Rattle.view_near.proofs.Running.{run-same}
+use Rattle.laws_of_rows.specs.declared.trades.Fill.{Fill}
+use Rattle.laws_of_rows.specs.Depth.{AreInZones, after_fill, maker_of, next_fill}
+use Rattle.laws_of_rows.specs.Filled.{row_in, rows_with}
+use Rattle.laws_of_rows.proofs.Views.{makers-known, view-rows}
+use Rattle.laws_of_views.specs.Nearby.{DifferWithin, HaveNoZoneInCommon, is_elsewhere, zones_of_view}
+use Rattle.laws_of_views.proofs.Near.{fills, fills-run, found-agree, in_reach, reach-own}
+use Rattle.laws_of_views.proofs.Running.{run-same}
 use Rattle.local_view.proofs.Hours.{hour-graph, line-of, rooms-of, view-of}
 
 module _ (graph : Graph) (hour : ℕ) (before after : List Event) (was : IsHourOf graph hour before) (is : IsHourOf graph hour after) (part : ℕ) (side : Side) (zone : ℕ)

@@ -20,8 +20,8 @@ use Rattle.market_model.specs.declared.reply.ViewRow.{ViewRow}
 use Rattle.market_model.specs.Board.{BoardState, IsBoard}
 use Rattle.market_model.specs.Certificate.{zones_in_reach}
 use Rattle.market_model.specs.Room.{room}
-use Rattle.view_near.specs.Nearby.{HaveNoZoneInCommon, zones_of_view}
-use Rattle.market_laws.proofs.Restrict.{filter-same}
+use Rattle.laws_of_views.specs.Nearby.{HaveNoZoneInCommon, zones_of_view}
+use Rattle.laws_of_market.proofs.Restrict.{filter-same}
 use Rattle.local_view.specs.declared.part_views.PartViews.{PartViews}
 use Rattle.local_view.specs.Boards.{view_of}
 use Rattle.local_view.specs.Kept.{AreNext, AreSized, IsSized, Views, line_of, no_part, on_side}

@@ -5,7 +5,7 @@ use Rattle.order_kinds.specs.declared.contract.Contract.{Contract}
 use Rattle.order_kinds.specs.declared.side.Side.{Side}
 use Rattle.order_kinds.specs.Contract.{contract_at}
 use Rattle.order_kinds.specs.Side.{opposite}
-use Rattle.certified_maximum.specs.FlowPlan.{bound_with}
+use Rattle.laws_of_maximum.specs.FlowPlan.{bound_with}
 use Rattle.zone_graph.specs.declared.route.Arc.{Arc}
 use Rattle.zone_graph.specs.Graph.{Graph, HasZone, zone_count}
 use Rattle.zone_graph.proofs.Membership.{from_map}
@@ -19,11 +19,11 @@ use Rattle.market_model.specs.Lines.{line}
 use Rattle.market_model.specs.Orders.{Standing}
 use Rattle.market_model.specs.View.{hidden_withdrawn, unlimited_taker, view, without_hidden}
 use Rattle.market_model.specs.WellFormed.{IsHistory, IsMarketSetup}
-use Rattle.market_laws.proofs.LocalAnswers.{unfilled_zones-agree}
-use Rattle.market_laws.proofs.NamedByHour.{AreNamedByHour, IsNamedByHour}
-use Rattle.market_laws.proofs.LocalStates.{Agree, agree-append}
-use Rattle.view_near.specs.Views.{bound_shown, zones_viewed}
-use Rattle.view_near.proofs.Viewed.{add_up}
+use Rattle.laws_of_market.proofs.LocalAnswers.{unfilled_zones-agree}
+use Rattle.laws_of_market.proofs.NamedByHour.{AreNamedByHour, IsNamedByHour}
+use Rattle.laws_of_market.proofs.LocalStates.{Agree, agree-append}
+use Rattle.laws_of_views.specs.Views.{bound_shown, zones_viewed}
+use Rattle.laws_of_views.proofs.Viewed.{add_up}
 use Rattle.local_view.specs.Kept.{AreAllNext, AreNext, Views, line_of}
 use Rattle.local_view.specs.Rows.{LineRows}
 use Rattle.local_view.specs.Sums.{AddUp, AllNextAddUp, NextAddUp}

@@ -19,17 +19,17 @@ use Rattle.zone_graph.specs.Steps.{IsRun}
 use Rattle.zone_graph.proofs.Membership.{IsIn-append}
 use Rattle.cut_proof.proofs.ReachLaws.{reach_from_start, reach_to_end}
 use Rattle.market_model.specs.declared.reply.ViewRow.{ViewRow}
-use Rattle.market_laws.proofs.Repeats.{map-some}
-use Rattle.market_laws.proofs.Tests.{same_name-refl}
+use Rattle.laws_of_market.proofs.Repeats.{map-some}
+use Rattle.laws_of_market.proofs.Tests.{same_name-refl}
 use Rattle.route_choice.specs.Poured.{lots_of, rooms_after}
 use Rattle.route_choice.proofs.Pours.{Poured, pour-run, pour_leg-is}
-use Rattle.view_laws.specs.declared.trades.Fill.{Fill}
-use Rattle.view_laws.specs.declared.trades.Maker.{Maker}
-use Rattle.view_laws.specs.declared.trades.MakerRow.{MakerRow}
-use Rattle.view_laws.specs.Depth.{Depth, after_fill, can_fill, crosses_any, fill_over, fill_with, next_fill, route_with, taken_of}
-use Rattle.view_laws.specs.Filled.{is_row_of, row_in, rows_with, with_fill, with_lots}
-use Rattle.view_laws.proofs.RowLemmas.{rows-same, same_name-sym}
-use Rattle.view_near.proofs.FirstMakers.{AllCross, AreApart, AreOnce, taken, taken-append}
+use Rattle.laws_of_rows.specs.declared.trades.Fill.{Fill}
+use Rattle.laws_of_rows.specs.declared.trades.Maker.{Maker}
+use Rattle.laws_of_rows.specs.declared.trades.MakerRow.{MakerRow}
+use Rattle.laws_of_rows.specs.Depth.{Depth, after_fill, can_fill, crosses_any, fill_over, fill_with, next_fill, route_with, taken_of}
+use Rattle.laws_of_rows.specs.Filled.{is_row_of, row_in, rows_with, with_fill, with_lots}
+use Rattle.laws_of_rows.proofs.RowLemmas.{rows-same, same_name-sym}
+use Rattle.laws_of_views.proofs.FirstMakers.{AllCross, AreApart, AreOnce, taken, taken-append}
 use Rattle.local_view.specs.Poured.{legs_with, row_if, sent_from, sent_to}
 
 -- ---- what a walk shows

@@ -22,16 +22,16 @@ use Rattle.market_model.specs.Certificate.{zones_in_reach}
 use Rattle.market_model.specs.Lines.{line}
 use Rattle.market_model.specs.Orders.{Standing}
 use Rattle.market_model.specs.Room.{room}
-use Rattle.market_laws.proofs.LineSums.{sum-map}
+use Rattle.laws_of_market.proofs.LineSums.{sum-map}
 use Rattle.route_choice.specs.Poured.{lots_of, rooms_after}
 use Rattle.route_choice.proofs.Pours.{pour-within}
-use Rattle.certified_maximum.specs.FlowPlan.{FlowPlan, IsBalanced, IsFlowPlan, value_of}
-use Rattle.certified_maximum.proofs.Duality.{no_plan_more, sum_same_in}
-use Rattle.view_laws.specs.declared.trades.Maker.{Maker}
-use Rattle.view_laws.specs.Depth.{Depth, after_fill, maker_of}
-use Rattle.view_laws.proofs.RowLemmas.{rows-are}
-use Rattle.view_near.proofs.FirstMakers.{AllCross, AreOnce, all-bound, lots_filled, own_reached, shown_in as makers_shown}
-use Rattle.view_near.proofs.RowSums.{rows-lots}
+use Rattle.laws_of_maximum.specs.FlowPlan.{FlowPlan, IsBalanced, IsFlowPlan, value_of}
+use Rattle.laws_of_maximum.proofs.Duality.{no_plan_more, sum_same_in}
+use Rattle.laws_of_rows.specs.declared.trades.Maker.{Maker}
+use Rattle.laws_of_rows.specs.Depth.{Depth, after_fill, maker_of}
+use Rattle.laws_of_rows.proofs.RowLemmas.{rows-are}
+use Rattle.laws_of_views.proofs.FirstMakers.{AllCross, AreOnce, all-bound, lots_filled, own_reached, shown_in as makers_shown}
+use Rattle.laws_of_views.proofs.RowSums.{rows-lots}
 use Rattle.local_view.specs.declared.whole.WholeLine.{WholeLine}
 use Rattle.local_view.specs.Boards.{AreRoomsOf, view_of}
 use Rattle.local_view.specs.Poured.{legs_with, row_if, sent_from, sent_to}

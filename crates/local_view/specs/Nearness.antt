@@ -16,7 +16,7 @@ use Rattle.market_model.specs.declared.reply.ViewRow.{ViewRow}
 use Rattle.market_model.specs.Board.{BoardState, IsHourOf}
 use Rattle.market_model.specs.Room.{room}
 use Rattle.market_model.specs.View.{view}
-use Rattle.view_near.specs.Nearby.{DifferWithin}
+use Rattle.laws_of_views.specs.Nearby.{DifferWithin}
 
 -- a zone can trade with a taker in a zone: it reaches that one's zone, or is reached from there
 abbrev pub is_joined : Graph → (Arc → ℕ) → Side → (zone other : ℕ) → Bool

@@ -11,7 +11,7 @@ use Rattle.market_model.specs.Grid.{graph_of}
 use Rattle.market_model.specs.History.{of_hour}
 use Rattle.market_model.specs.Lines.{line}
 use Rattle.market_model.specs.WellFormed.{IsHistory, IsMarketSetup}
-use Rattle.view_near.specs.Views.{bound_shown, zones_viewed}
+use Rattle.laws_of_views.specs.Views.{bound_shown, zones_viewed}
 use Rattle.local_view.specs.Kept.{Views, line_of}
 use Rattle.local_view.specs.Rows.{LineRows}
 

@@ -10,8 +10,8 @@ use Rattle.market_model.specs.Board.{BoardState, IsBoard, IsHourOf, resting_line
 use Rattle.market_model.specs.Lines.{line}
 use Rattle.market_model.specs.Orders.{Standing}
 use Rattle.market_model.specs.View.{view}
-use Rattle.certified_maximum.specs.FlowPlan.{FlowPlan}
-use Rattle.view_near.specs.Views.{IsPlanOver}
+use Rattle.laws_of_maximum.specs.FlowPlan.{FlowPlan}
+use Rattle.laws_of_views.specs.Views.{IsPlanOver}
 use Rattle.local_view.specs.declared.whole.WholeLine.{WholeLine}
 use Rattle.local_view.specs.Poured.{row_if}
 

@@ -10,9 +10,9 @@ use Rattle.iceberg_peak.proofs.PeakLemmas.{peak_number-stays}
 use Rattle.contract_book.specs.Resting.{AgreesWith, IsSound}
 use Rattle.contract_book.proofs.Peaks.{showing-allowed}
 use Rattle.market_model.specs.Orders.{Placed, ends_peak, price_now, shown_lots}
-use Rattle.certified_maximum.proofs.CrossingPeaks.{HasPeaks}
-use Rattle.book_lines.specs.BookOf.{ice_of, resting_of}
-use Rattle.book_lines.proofs.Untouched.{standing_at}
+use Rattle.laws_of_maximum.proofs.CrossingPeaks.{HasPeaks}
+use Rattle.laws_of_books.specs.BookOf.{ice_of, resting_of}
+use Rattle.laws_of_books.proofs.Untouched.{standing_at}
 use Rattle.match_core.specs.declared.taker.Taker.{Taker}
 use Rattle.match_core.specs.Takers.{CanFill, CanHide, HasLots, after_fill, price_at, shown_by, taker_at}
 

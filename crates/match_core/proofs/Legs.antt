@@ -16,15 +16,15 @@ use Rattle.market_model.specs.History.{and_then}
 use Rattle.market_model.specs.Orders.{Placed, Standing, ends_peak, filled, filled_by, gives_moment, left, moment, names, placed_by, standing}
 use Rattle.market_model.specs.Room.{room}
 use Rattle.market_model.specs.Taking.{next_leg}
-use Rattle.market_laws.proofs.Balances.{left-leg, names-taker}
-use Rattle.market_laws.proofs.Placed.{picked-same}
-use Rattle.market_laws.proofs.States.{filled-more}
-use Rattle.market_laws.proofs.LocalLines.{contract-hours, next_leg-agree, next_leg-named}
-use Rattle.market_laws.proofs.LocalMoments.{moment-more}
-use Rattle.market_laws.proofs.LocalStates.{Agree, agree-more, room-agree}
-use Rattle.certified_maximum.proofs.Takers.{IsTakersLeg, rooms-after, takers-leg}
-use Rattle.board_laws.proofs.Legs.{leaves, next_legs}
-use Rattle.board_laws.proofs.Shared.{board-agrees}
+use Rattle.laws_of_market.proofs.Balances.{left-leg, names-taker}
+use Rattle.laws_of_market.proofs.Placed.{picked-same}
+use Rattle.laws_of_market.proofs.States.{filled-more}
+use Rattle.laws_of_market.proofs.LocalLines.{contract-hours, next_leg-agree, next_leg-named}
+use Rattle.laws_of_market.proofs.LocalMoments.{moment-more}
+use Rattle.laws_of_market.proofs.LocalStates.{Agree, agree-more, room-agree}
+use Rattle.laws_of_maximum.proofs.Takers.{IsTakersLeg, rooms-after, takers-leg}
+use Rattle.laws_of_boards.proofs.Legs.{leaves, next_legs}
+use Rattle.laws_of_boards.proofs.Shared.{board-agrees}
 use Rattle.match_core.specs.Takers.{after_fill, taker_at, taker_of}
 use Rattle.match_core.specs.Walks.{TakesOn}
 use Rattle.match_core.proofs.Fills.{filled-is, shown-within}

@@ -17,16 +17,16 @@ use Rattle.market_model.specs.Lines.{line}
 use Rattle.market_model.specs.Orders.{Placed, Standing, left, placed}
 use Rattle.market_model.specs.Room.{room}
 use Rattle.market_model.specs.Taking.{next_leg, take}
-use Rattle.market_laws.proofs.Falls.{take-run}
-use Rattle.market_laws.proofs.LocalLines.{contract-hours, line-agree, take-agree, take-named}
-use Rattle.market_laws.proofs.LocalStates.{Agree, agree-append, left-agree, room-agree}
-use Rattle.market_laws.proofs.Repeats.{fold-and_then, run-end}
-use Rattle.certified_maximum.specs.FlowPlan.{FlowPlan, bound_with, value_of}
-use Rattle.certified_maximum.specs.Takings.{HasNoDelta, lots_traded}
-use Rattle.certified_maximum.proofs.BoundsFall.{left_bound}
-use Rattle.certified_maximum.proofs.Duality.{no_plan_beats_bound}
-use Rattle.certified_maximum.proofs.Runs.{HasTaken, ended, own_reached, taken-by}
-use Rattle.board_laws.proofs.Shared.{board-graph}
+use Rattle.laws_of_market.proofs.Falls.{take-run}
+use Rattle.laws_of_market.proofs.LocalLines.{contract-hours, line-agree, take-agree, take-named}
+use Rattle.laws_of_market.proofs.LocalStates.{Agree, agree-append, left-agree, room-agree}
+use Rattle.laws_of_market.proofs.Repeats.{fold-and_then, run-end}
+use Rattle.laws_of_maximum.specs.FlowPlan.{FlowPlan, bound_with, value_of}
+use Rattle.laws_of_maximum.specs.Takings.{HasNoDelta, lots_traded}
+use Rattle.laws_of_maximum.proofs.BoundsFall.{left_bound}
+use Rattle.laws_of_maximum.proofs.Duality.{no_plan_beats_bound}
+use Rattle.laws_of_maximum.proofs.Runs.{HasTaken, ended, own_reached, taken-by}
+use Rattle.laws_of_boards.proofs.Shared.{board-graph}
 use Rattle.match_core.specs.declared.taker.Taker.{Taker}
 use Rattle.match_core.specs.Takers.{taker_of}
 use Rattle.match_core.specs.Takings.{HasEntered, HasObtainedTheMost, IsPlanOn, after_taking, bound_on, lots_made, orders_on, rooms_on, zones_on}

@@ -19,23 +19,23 @@ use Rattle.market_model.specs.Board.{BoardState, IsBoard, IsHourOf, is_in_hand, 
 use Rattle.market_model.specs.History.{and_then, of_hour, touches}
 use Rattle.market_model.specs.Lines.{line}
 use Rattle.market_model.specs.Orders.{Placed, Standing, is_open, left, moment, open_order, placed, placed_by, standing}
-use Rattle.market_laws.proofs.Members.{IsIn-filter_map}
-use Rattle.market_laws.proofs.Placed.{OrderIsSound, all_are_sound}
-use Rattle.market_laws.proofs.Tests.{same_name-eq, same_name-refl}
-use Rattle.market_laws.proofs.Trades.{from_line}
-use Rattle.market_laws.proofs.Unique.{one_order}
-use Rattle.market_laws.proofs.LocalLines.{placed-named, standing-agree}
-use Rattle.market_laws.proofs.LocalMoments.{hour-more, moment-more}
-use Rattle.market_laws.proofs.Restrict.{filter-filter}
-use Rattle.market_laws.proofs.LocalStates.{Agree, is_open-agree}
-use Rattle.certified_maximum.proofs.CrossingPeaks.{HasPeaks}
-use Rattle.certified_maximum.proofs.Obtained.{fit-can_take}
-use Rattle.certified_maximum.proofs.Takers.{CanTake}
-use Rattle.book_lines.specs.BookOf.{resting_of}
-use Rattle.book_lines.proofs.LineOrders.{same_names}
-use Rattle.book_lines.proofs.SoundRecords.{record-sound}
-use Rattle.board_laws.specs.Takers.{EndsWithEntry}
-use Rattle.board_laws.proofs.Shared.{board-agrees, placed-shared}
+use Rattle.laws_of_market.proofs.Members.{IsIn-filter_map}
+use Rattle.laws_of_market.proofs.Placed.{OrderIsSound, all_are_sound}
+use Rattle.laws_of_market.proofs.Tests.{same_name-eq, same_name-refl}
+use Rattle.laws_of_market.proofs.Trades.{from_line}
+use Rattle.laws_of_market.proofs.Unique.{one_order}
+use Rattle.laws_of_market.proofs.LocalLines.{placed-named, standing-agree}
+use Rattle.laws_of_market.proofs.LocalMoments.{hour-more, moment-more}
+use Rattle.laws_of_market.proofs.Restrict.{filter-filter}
+use Rattle.laws_of_market.proofs.LocalStates.{Agree, is_open-agree}
+use Rattle.laws_of_maximum.proofs.CrossingPeaks.{HasPeaks}
+use Rattle.laws_of_maximum.proofs.Obtained.{fit-can_take}
+use Rattle.laws_of_maximum.proofs.Takers.{CanTake}
+use Rattle.laws_of_books.specs.BookOf.{resting_of}
+use Rattle.laws_of_books.proofs.LineOrders.{same_names}
+use Rattle.laws_of_books.proofs.SoundRecords.{record-sound}
+use Rattle.laws_of_boards.specs.Takers.{EndsWithEntry}
+use Rattle.laws_of_boards.proofs.Shared.{board-agrees, placed-shared}
 use Rattle.match_core.specs.declared.taker.Taker.{Taker}
 use Rattle.match_core.specs.Takings.{HasEntered}
 use Rattle.match_core.specs.Walks.{TakesOn}

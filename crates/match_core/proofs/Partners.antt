@@ -27,10 +27,10 @@ use Rattle.market_model.specs.Lines.{buyer_zone, can_trade, line, partner, rooms
 use Rattle.market_model.specs.Orders.{Placed, Standing, filled, left, open_order, standing}
 use Rattle.market_model.specs.Room.{room}
 use Rattle.market_model.specs.Taking.{leg_over, next_leg, standing_order, trade}
-use Rattle.market_laws.proofs.Legs.{open_order-is}
-use Rattle.market_laws.proofs.Repeats.{bind-some, map-some}
-use Rattle.book_lines.proofs.LineOrders.{same_names}
-use Rattle.board_laws.proofs.Shared.{board-graph}
+use Rattle.laws_of_market.proofs.Legs.{open_order-is}
+use Rattle.laws_of_market.proofs.Repeats.{bind-some, map-some}
+use Rattle.laws_of_books.proofs.LineOrders.{same_names}
+use Rattle.laws_of_boards.proofs.Shared.{board-graph}
 use Rattle.match_core.specs.declared.walk.Partner.{Partner}
 use Rattle.match_core.specs.declared.walk.Walk.{Walk}
 use Rattle.match_core.specs.Takers.{shown_by}

@@ -12,10 +12,10 @@ use Rattle.market_model.specs.Board.{BoardState, IsBoard, with_events}
 use Rattle.market_model.specs.History.{and_then}
 use Rattle.market_model.specs.Orders.{Placed, left, placed, placed_by}
 use Rattle.market_model.specs.Taking.{IsTaking, next_leg, take}
-use Rattle.market_laws.proofs.Placed.{picked-stays}
-use Rattle.market_laws.proofs.Repeats.{run-kept}
-use Rattle.board_laws.proofs.Legs.{next_legs}
-use Rattle.board_laws.proofs.Runs.{takings}
+use Rattle.laws_of_market.proofs.Placed.{picked-stays}
+use Rattle.laws_of_market.proofs.Repeats.{run-kept}
+use Rattle.laws_of_boards.proofs.Legs.{next_legs}
+use Rattle.laws_of_boards.proofs.Runs.{takings}
 use Rattle.match_core.specs.declared.taker.Taker.{Taker}
 use Rattle.match_core.specs.declared.walk.Walk.{Walk}
 use Rattle.match_core.specs.Takers.{taker_of}

@@ -23,11 +23,11 @@ use Rattle.market_model.specs.Lines.{buyer_zone, seller_zone}
 use Rattle.market_model.specs.Orders.{Standing, filled, left, moment, standing}
 use Rattle.market_model.specs.Room.{room}
 use Rattle.market_model.specs.Taking.{next_leg}
-use Rattle.book_lines.proofs.LineOrders.{same_names}
-use Rattle.board_laws.specs.Takers.{StandsInFront}
-use Rattle.board_laws.proofs.Behind.{stay}
-use Rattle.board_laws.proofs.Passing.{pass}
-use Rattle.board_laws.proofs.Shared.{board-graph}
+use Rattle.laws_of_books.proofs.LineOrders.{same_names}
+use Rattle.laws_of_boards.specs.Takers.{StandsInFront}
+use Rattle.laws_of_boards.proofs.Behind.{stay}
+use Rattle.laws_of_boards.proofs.Passing.{pass}
+use Rattle.laws_of_boards.proofs.Shared.{board-graph}
 use Rattle.match_core.specs.declared.taker.Taker.{Taker}
 use Rattle.match_core.specs.declared.walk.Partner.{Partner}
 use Rattle.match_core.specs.declared.walk.Walk.{Walk}

@@ -20,10 +20,10 @@ use Rattle.market_model.specs.Board.{shown_of as shown_order}
 use Rattle.market_model.specs.Lines.{buyer_zone, line, priority_cmp, rooms_for, seller_zone}
 use Rattle.market_model.specs.Orders.{Placed, Standing, filled, left, standing}
 use Rattle.market_model.specs.Taking.{next_leg}
-use Rattle.market_laws.proofs.LocalLines.{line-agree}
-use Rattle.book_lines.proofs.LineOrders.{line-strict}
-use Rattle.board_laws.proofs.Shared.{board-graph}
-use Rattle.board_laws.proofs.Walks.{go_on, in_front-differs, one_number}
+use Rattle.laws_of_market.proofs.LocalLines.{line-agree}
+use Rattle.laws_of_books.proofs.LineOrders.{line-strict}
+use Rattle.laws_of_boards.proofs.Shared.{board-graph}
+use Rattle.laws_of_boards.proofs.Walks.{go_on, in_front-differs, one_number}
 use Rattle.match_core.specs.declared.walk.Walk.{Walk}
 use Rattle.match_core.specs.Walks.{EndAt, IsPartnerOf, Stands, StandsAt, StandsIn, TakesOn, trades}
 use Rattle.match_core.proofs.Apart.{none-behind-apart}

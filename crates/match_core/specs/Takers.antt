@@ -8,7 +8,7 @@ use Rattle.iceberg_peak.specs.Peak.{peak_shown, showing_price}
 use Rattle.contract_book.specs.declared.resting.Ice.{Ice}
 use Rattle.market_model.specs.declared.event.Event.{Event}
 use Rattle.market_model.specs.Orders.{Placed, filled, left, moment, price_now}
-use Rattle.book_lines.specs.BookOf.{ice_of}
+use Rattle.laws_of_books.specs.BookOf.{ice_of}
 use Rattle.match_core.specs.declared.taker.Taker.{Taker}
 
 -- the price of an order of which so much is filled and left: that of the peak that shows, and where

@@ -14,9 +14,9 @@ use Rattle.market_model.specs.Lines.{line}
 use Rattle.market_model.specs.Orders.{Placed, Standing}
 use Rattle.market_model.specs.Room.{room}
 use Rattle.market_model.specs.Taking.{take}
-use Rattle.certified_maximum.specs.FlowPlan.{FlowPlan, IsFlowPlan, bound_with, value_of}
-use Rattle.certified_maximum.specs.Takings.{lots_traded}
-use Rattle.board_laws.specs.Takers.{EndsWithEntry}
+use Rattle.laws_of_maximum.specs.FlowPlan.{FlowPlan, IsFlowPlan, bound_with, value_of}
+use Rattle.laws_of_maximum.specs.Takings.{lots_traded}
+use Rattle.laws_of_boards.specs.Takers.{EndsWithEntry}
 use Rattle.match_core.specs.declared.taker.Taker.{Taker}
 use Rattle.match_core.specs.Takers.{taker_of}
 

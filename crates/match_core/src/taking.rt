@@ -5,7 +5,7 @@ ghost use Rattle.zone_graph.specs.Route.{IsIn};
 ghost use Rattle.market_model.specs.Board.{IsBoard};
 ghost use Rattle.market_model.specs.Orders.{Placed, placed};
 ghost use Rattle.market_model.specs.Taking.{next_leg};
-ghost use Rattle.certified_maximum.specs.Takings.{HasNoDelta};
+ghost use Rattle.laws_of_maximum.specs.Takings.{HasNoDelta};
 ghost use Rattle.match_core.specs.Takers.{taker_of};
 ghost use Rattle.match_core.specs.Takings as takings;
 

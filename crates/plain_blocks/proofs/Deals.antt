@@ -9,7 +9,7 @@ use Rattle.order_kinds.specs.Side.{crosses}
 use Rattle.zone_graph.specs.Graph.{Graph}
 use Rattle.market_model.specs.declared.event.Event.{Event}
 use Rattle.market_model.specs.Blocks.{StandingBlock, block_legs, block_time_cmp, can_trade_blocks, carries_whole, resting_block_legs}
-use Rattle.market_laws.proofs.Roles.{same_pour}
+use Rattle.laws_of_market.proofs.Roles.{same_pour}
 use Rattle.plain_blocks.specs.Meeting.{ArePoured, Meet, deal_if, is_match, legs_if}
 use Rattle.plain_blocks.proofs.Meetings.{equal-left}
 

@@ -17,11 +17,11 @@ use Rattle.market_model.specs.declared.event.Event.TheVariants as event
 use Rattle.market_model.specs.Blocks.{StandingBlock, block_legs, block_line, block_partner, block_time_cmp, entering_block, legs_with, partner_found, resting_block_legs, standing_block, with_block}
 use Rattle.market_model.specs.History.{and_then}
 use Rattle.market_model.specs.Orders.{PlacedBlock, block_placed_by, blocks_placed, left, next_name}
-use Rattle.market_laws.proofs.BlockDeals.{block_partner-is}
-use Rattle.market_laws.proofs.Members.{IsIn-filter_map}
-use Rattle.market_laws.proofs.Placed.{all_are_sound}
-use Rattle.market_laws.proofs.Soundness.{block_fault-none, lots_in_range-bounds}
-use Rattle.market_laws.proofs.Wholes.{history-more, new_block-whole}
+use Rattle.laws_of_market.proofs.BlockDeals.{block_partner-is}
+use Rattle.laws_of_market.proofs.Members.{IsIn-filter_map}
+use Rattle.laws_of_market.proofs.Placed.{all_are_sound}
+use Rattle.laws_of_market.proofs.Soundness.{block_fault-none, lots_in_range-bounds}
+use Rattle.laws_of_market.proofs.Wholes.{history-more, new_block-whole}
 use Rattle.plain_orders.specs.Listed.{block_line_of, blocks_of, is_block_of}
 use Rattle.plain_matching.specs.Grown.{Grew}
 use Rattle.plain_blocks.specs.Entering.{CanEnterBlock, IsHistoryOver}

@@ -10,8 +10,8 @@ use Rattle.zone_graph.specs.Route.{IsIn}
 use Rattle.market_model.specs.declared.event.Event.{Event}
 use Rattle.market_model.specs.Blocks.{StandingBlock, block_deal, block_line, block_partner, can_trade_blocks, deal_of_buy, resting_block_legs}
 use Rattle.market_model.specs.Sweep.{first_answer}
-use Rattle.market_laws.proofs.BlockDeals.{IsInBlockLine, from_block_line}
-use Rattle.market_laws.proofs.LocalLines.{first_answer-same}
+use Rattle.laws_of_market.proofs.BlockDeals.{IsInBlockLine, from_block_line}
+use Rattle.laws_of_market.proofs.LocalLines.{first_answer-same}
 use Rattle.plain_orders.specs.Listed.{block_line_of, blocks_of}
 use Rattle.plain_orders.proofs.LineLaws.{line-of_blocks}
 use Rattle.plain_blocks.specs.Entering.{IsHistoryOver}

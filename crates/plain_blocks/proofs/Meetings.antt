@@ -7,8 +7,8 @@ use Rattle.zone_graph.specs.Graph.{Graph, HasZone}
 use Rattle.market_model.specs.declared.event.Event.{Event}
 use Rattle.market_model.specs.Blocks.{StandingBlock, standing_block}
 use Rattle.market_model.specs.Orders.{left}
-use Rattle.market_laws.proofs.Placed.{all_are_sound}
-use Rattle.market_laws.proofs.Pours.{ArePair}
+use Rattle.laws_of_market.proofs.Placed.{all_are_sound}
+use Rattle.laws_of_market.proofs.Pours.{ArePair}
 use Rattle.plain_orders.specs.Histories.{IsSomeHistory}
 use Rattle.plain_blocks.specs.Entering.{IsHistoryOver}
 use Rattle.plain_blocks.specs.Meeting.{ArePoured, Stands}

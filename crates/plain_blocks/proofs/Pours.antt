@@ -11,7 +11,7 @@ use Rattle.market_model.specs.Grid.{graph_of}
 use Rattle.market_model.specs.History.{and_then}
 use Rattle.market_model.specs.Orders.{PlacedBlock, blocks_placed, left}
 use Rattle.market_model.specs.WellFormed.{IsMarketSetup, IsLegalOver}
-use Rattle.market_laws.proofs.Pours.{ArePair, PourKeeps, pour-run, pour-step}
+use Rattle.laws_of_market.proofs.Pours.{ArePair, PourKeeps, pour-run, pour-step}
 use Rattle.plain_blocks.specs.Meeting.{ArePoured}
 use Rattle.plain_blocks.proofs.Meetings.{quantities-pair}
 

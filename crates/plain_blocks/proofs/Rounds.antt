@@ -7,7 +7,7 @@ use Rattle.market_model.specs.declared.event.Event.{Event}
 use Rattle.market_model.specs.Blocks.{block_deal, block_deals}
 use Rattle.market_model.specs.Grid.{graph_of}
 use Rattle.market_model.specs.WellFormed.{IsHistory, IsMarketSetup}
-use Rattle.market_laws.proofs.BlockEntries.{deal_step-closes, deals-run}
+use Rattle.laws_of_market.proofs.BlockEntries.{deal_step-closes, deals-run}
 use Rattle.plain_matching.proofs.Legs.{IsSoFar}
 use Rattle.plain_blocks.specs.Entering.{IsHistoryOver}
 

@@ -17,13 +17,13 @@ use Rattle.market_model.specs.Blocks.{StandingBlock, block_time_cmp, standing_bl
 use Rattle.market_model.specs.History.{and_then, of_hour, touches}
 use Rattle.market_model.specs.Orders.{PlacedBlock, block_moment, block_placed_by, blocks_placed, enters_block, last_place_from}
 use Rattle.market_model.specs.WellFormed.{BlockEnters, FitAfter}
-use Rattle.market_laws.proofs.Members.{from_filter_map}
-use Rattle.market_laws.proofs.Names.{block_name-new, names-once, times_entered}
-use Rattle.market_laws.proofs.Placed.{from_picked-more}
-use Rattle.market_laws.proofs.Tests.{same_name-refl}
-use Rattle.market_laws.proofs.Unique.{enters-block_placed, times-some}
-use Rattle.market_laws.proofs.Wholes.{other_name}
-use Rattle.market_laws.proofs.LocalMoments.{block_moment-more}
+use Rattle.laws_of_market.proofs.Members.{from_filter_map}
+use Rattle.laws_of_market.proofs.Names.{block_name-new, names-once, times_entered}
+use Rattle.laws_of_market.proofs.Placed.{from_picked-more}
+use Rattle.laws_of_market.proofs.Tests.{same_name-refl}
+use Rattle.laws_of_market.proofs.Unique.{enters-block_placed, times-some}
+use Rattle.laws_of_market.proofs.Wholes.{other_name}
+use Rattle.laws_of_market.proofs.LocalMoments.{block_moment-more}
 
 -- a last place is among the places
 place-within : (test : List Event → Event → Bool) (before : List Event) (found most : ℕ) (xs : List Event) → found ≤ most → length before + length xs ≤ most

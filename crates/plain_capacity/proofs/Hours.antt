@@ -15,8 +15,8 @@ use Rattle.market_model.specs.Grid.{graph_of}
 use Rattle.market_model.specs.History.{and_then}
 use Rattle.market_model.specs.Room.{halt_by, phase_by}
 use Rattle.market_model.specs.WellFormed.{Fits}
-use Rattle.market_laws.proofs.Capacities.{last_said-more}
-use Rattle.market_laws.proofs.Uses.{IsWithinOffers}
+use Rattle.laws_of_market.proofs.Capacities.{last_said-more}
+use Rattle.laws_of_market.proofs.Uses.{IsWithinOffers}
 use Rattle.plain_capacity.specs.Rows.{IsNoted, IsQuarterOf}
 use Rattle.plain_capacity.specs.Hour.{CanNoteIn, Capacity, HasBorder, IsCapacityOf, halted_at, idle, is_of_orders, rows_in, size_of}
 use Rattle.plain_capacity.proofs.Legal.{can-note, noted-is}

@@ -19,8 +19,8 @@ use Rattle.market_model.specs.Capacity.{allocated, allocated_by, offered_by, rem
 use Rattle.market_model.specs.Grid.{graph_of}
 use Rattle.market_model.specs.History.{and_then}
 use Rattle.market_model.specs.WellFormed.{Carries, Fits}
-use Rattle.market_laws.proofs.Capacities.{allocated-more, offered-more}
-use Rattle.market_laws.proofs.Uses.{IsWithinOffers, range_has-is, uses-remaining}
+use Rattle.laws_of_market.proofs.Capacities.{allocated-more, offered-more}
+use Rattle.laws_of_market.proofs.Uses.{IsWithinOffers, range_has-is, uses-remaining}
 use Rattle.plain_capacity.specs.Rows.{CanCarry, CanNote, IsNoted, IsQuarterOf, flow_at, remaining_at}
 
 -- ---- the rows of a quarter

@@ -12,11 +12,11 @@ use Rattle.market_model.specs.declared.event.Event.TheVariants as event
 use Rattle.market_model.specs.History.{last_said, touches}
 use Rattle.market_model.specs.Room.{halt_by, is_halted, phase_by, phase_of}
 use Rattle.market_model.specs.WellFormed.{FitAfter, IsLegalOver}
-use Rattle.market_laws.proofs.Growing.{fit-back, fit-front}
-use Rattle.market_laws.proofs.LocalStates.{Agree, allocated-agree, halted-agree, offered-agree, phase-agree}
-use Rattle.market_laws.proofs.NamedByHour.{history-named}
-use Rattle.market_laws.proofs.Restrict.{filter-filter, fold-filter}
-use Rattle.market_laws.proofs.Uses.{within_offers}
+use Rattle.laws_of_market.proofs.Growing.{fit-back, fit-front}
+use Rattle.laws_of_market.proofs.LocalStates.{Agree, allocated-agree, halted-agree, offered-agree, phase-agree}
+use Rattle.laws_of_market.proofs.NamedByHour.{history-named}
+use Rattle.laws_of_market.proofs.Restrict.{filter-filter, fold-filter}
+use Rattle.laws_of_market.proofs.Uses.{within_offers}
 use Rattle.event_history.specs.Near.{IsNear}
 use Rattle.plain_capacity.specs.Rows.{IsNoted}
 use Rattle.plain_capacity.specs.Hour.{CanNoteIn, Capacity, IsCapacityOf, halted_at, is_of_orders, rows_in, size_of}

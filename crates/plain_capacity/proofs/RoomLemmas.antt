@@ -15,7 +15,7 @@ use Rattle.zone_graph.specs.Graph.{Graph, HasArc}
 use Rattle.market_model.specs.declared.event.Event.{Event}
 use Rattle.market_model.specs.Capacity.{remaining}
 use Rattle.market_model.specs.Room.{least, quarter_room, room}
-use Rattle.market_laws.proofs.Rooms.{kept_part-is, kept_quarter-is}
+use Rattle.laws_of_market.proofs.Rooms.{kept_part-is, kept_quarter-is}
 use Rattle.plain_capacity.specs.Hour.{Capacity, IsCapacityOf, halted_at, part_room, remaining_in, room_in}
 
 -- one more border

@@ -12,13 +12,13 @@ use Rattle.market_model.specs.declared.event.Event.TheVariants as event
 use Rattle.market_model.specs.History.{entered_count, enters}
 use Rattle.market_model.specs.Lines.{line, priority_cmp, stands_in}
 use Rattle.market_model.specs.Orders.{Placed, Standing, filled, left, placed, placed_by, standing}
-use Rattle.market_laws.proofs.Lefts.{left-most}
-use Rattle.market_laws.proofs.Balances.{covered}
-use Rattle.market_laws.proofs.Counts.{length-in_order}
-use Rattle.market_laws.proofs.Members.{from_in_order}
-use Rattle.market_laws.proofs.Names.{names-once}
-use Rattle.market_laws.proofs.Placed.{all_are_sound}
-use Rattle.market_laws.proofs.Unique.{entered-order}
+use Rattle.laws_of_market.proofs.Lefts.{left-most}
+use Rattle.laws_of_market.proofs.Balances.{covered}
+use Rattle.laws_of_market.proofs.Counts.{length-in_order}
+use Rattle.laws_of_market.proofs.Members.{from_in_order}
+use Rattle.laws_of_market.proofs.Names.{names-once}
+use Rattle.laws_of_market.proofs.Placed.{all_are_sound}
+use Rattle.laws_of_market.proofs.Unique.{entered-order}
 use Rattle.plain_orders.specs.Histories.{IsSomeHistory}
 use Rattle.plain_certificate.specs.Crossing.{AreSound, IsSound}
 use Rattle.zone_graph.specs.InOrder.{in_order}

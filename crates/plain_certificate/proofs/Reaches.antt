@@ -14,7 +14,7 @@ use Rattle.market_model.specs.Capacity.{remaining}
 use Rattle.market_model.specs.Certificate.{room_across}
 use Rattle.market_model.specs.Room.{is_halted, is_open_phase, lots_of, phase_of, quarter_room, room}
 use Rattle.market_model.specs.WellFormed.{IsLegalOver}
-use Rattle.market_laws.proofs.Uses.{IsWithinOffers, remaining-within, within_offers}
+use Rattle.laws_of_market.proofs.Uses.{IsWithinOffers, remaining-within, within_offers}
 
 -- ---- how much room there can be
 

@@ -17,7 +17,7 @@ use Rattle.market_model.specs.History.{entered_count, enters_in}
 use Rattle.market_model.specs.Refusals.{basket_order_refusal}
 use Rattle.market_model.specs.Rules.{ascends, basket_is_good}
 use Rattle.market_model.specs.Sweep.{all_parts, first_answer}
-use Rattle.market_laws.proofs.HoursAlone.{ascends-later, ascends-rest}
+use Rattle.laws_of_market.proofs.HoursAlone.{ascends-later, ascends-rest}
 use Rattle.plain_matching.proofs.Places.{first_answer-found, first_answer-next, from_place}
 use Rattle.plain_entering.specs.Entering.{CanEnter}
 use Rattle.plain_entering.proofs.Fitting.{can-one, can-still}

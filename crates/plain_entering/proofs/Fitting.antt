@@ -17,9 +17,9 @@ use Rattle.market_model.specs.Grid.{graph_of}
 use Rattle.market_model.specs.Orders.{left, next_name}
 use Rattle.market_model.specs.Sweep.{sweep}
 use Rattle.market_model.specs.WellFormed.{FitAfter, IsMarketSetup, OrderEnters, IsLegalOver}
-use Rattle.market_laws.proofs.Growing.{fit-append}
-use Rattle.market_laws.proofs.Legs.{sweep-fits, take-fits}
-use Rattle.market_laws.proofs.Repeats.{fit-more}
+use Rattle.laws_of_market.proofs.Growing.{fit-append}
+use Rattle.laws_of_market.proofs.Legs.{sweep-fits, take-fits}
+use Rattle.laws_of_market.proofs.Repeats.{fit-more}
 use Rattle.plain_entering.specs.Entering.{CanEnter}
 use Rattle.plain_entering.proofs.Parts.{IsTaken, enter-is}
 

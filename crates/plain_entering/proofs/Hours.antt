@@ -7,7 +7,7 @@ use Rattle.order_kinds.specs.declared.order.Order.{Order}
 use Rattle.order_kinds.specs.declared.order.OrderName.{OrderName}
 use Rattle.zone_graph.specs.Graph.{Graph}
 use Rattle.zone_graph.specs.Route.{IsIn}
-use Rattle.market_laws.proofs.Closing.{AreQuiet, quiet-append, rest-quiet, sweep-quiet, take-quiet}
+use Rattle.laws_of_market.proofs.Closing.{AreQuiet, quiet-append, rest-quiet, sweep-quiet, take-quiet}
 use Rattle.market_model.specs.declared.event.Event.{Event}
 use Rattle.market_model.specs.declared.event.Event.TheVariants as event
 use Rattle.market_model.specs.Entering.{enter, legs_taken, name_of_next, rest_of, rest_withdrawn, with_order}

@@ -15,7 +15,7 @@ use Rattle.market_model.specs.Refusals.{basket_order_refusal, order_desk_refusal
 use Rattle.market_model.specs.Rules.{first_broken}
 use Rattle.market_model.specs.Sweep.{or_else}
 use Rattle.market_model.specs.StateRules.{filling_rules}
-use Rattle.market_laws.proofs.Replaced.{of_kind}
+use Rattle.laws_of_market.proofs.Replaced.{of_kind}
 use Rattle.plain_entering.proofs.Parts.{IsTaken}
 use Rattle.plain_entering.specs.Judging.{refusal_after, unless_filled, unless_full}
 

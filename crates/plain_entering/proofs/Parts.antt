@@ -14,7 +14,7 @@ use Rattle.market_model.specs.History.{and_then, entered_count, enters, enters_i
 use Rattle.market_model.specs.Orders.{left}
 use Rattle.market_model.specs.Sweep.{sweep}
 use Rattle.plain_matching.specs.Grown.{Grew}
-use Rattle.market_laws.proofs.Names.{entered_in-few}
+use Rattle.laws_of_market.proofs.Names.{entered_in-few}
 use Rattle.plain_entering.specs.Entering.{IsCut}
 
 -- what stood before an event, with it, whatever follows

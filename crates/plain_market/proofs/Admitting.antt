@@ -24,10 +24,10 @@ use Rattle.market_model.specs.Rules.{ascends, basket_is_good}
 use Rattle.market_model.specs.Sweep.{all_parts}
 use Rattle.market_model.specs.WellFormed.{IsHistory, IsMarketSetup, OrderEnters}
 use Rattle.market_model.specs.LetIn.{IsLetIn, IsNoEntry}
-use Rattle.market_laws.proofs.Admitted.{NamesWhatIs, NumbersAreGood, all-pass, naming-none, numbers-none, refusal-none}
-use Rattle.market_laws.proofs.Replies.{done-history, kills-peaks, right-within}
-use Rattle.market_laws.proofs.Soundness.{block_fault-sound, order_fault-sound}
-use Rattle.market_laws.proofs.Admitting.{let_in-refusal, no_entry-rules}
+use Rattle.laws_of_market.proofs.Admitted.{NamesWhatIs, NumbersAreGood, all-pass, naming-none, numbers-none, refusal-none}
+use Rattle.laws_of_market.proofs.Replies.{done-history, kills-peaks, right-within}
+use Rattle.laws_of_market.proofs.Soundness.{block_fault-sound, order_fault-sound}
+use Rattle.laws_of_market.proofs.Admitting.{let_in-refusal, no_entry-rules}
 use Rattle.plain_blocks.specs.Entering.{CanEnterBlock}
 use Rattle.plain_entering.specs.Entering.{CanEnter}
 

@@ -16,8 +16,8 @@ use Rattle.market_model.specs.Refusals.{block_desk_refusal, has_desk_room}
 use Rattle.market_model.specs.Rules.{unless}
 use Rattle.market_model.specs.Sweep.{all_parts, sweeps}
 use Rattle.market_model.specs.WellFormed.{FitAfter, IsMarketSetup, IsLegalOver}
-use Rattle.market_laws.proofs.BlockEntries.{MayEnterBlock, enter_block-history}
-use Rattle.market_laws.proofs.Growing.{fit-front}
+use Rattle.laws_of_market.proofs.BlockEntries.{MayEnterBlock, enter_block-history}
+use Rattle.laws_of_market.proofs.Growing.{fit-front}
 use Rattle.plain_blocks.specs.Entering.{CanEnterBlock}
 
 -- the legs of a block with the partner that it finds

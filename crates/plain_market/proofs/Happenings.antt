@@ -19,8 +19,8 @@ use Rattle.market_model.specs.Orders.{left}
 use Rattle.market_model.specs.Sweep.{all_parts, sweeps}
 use Rattle.market_model.specs.WellFormed.{FitAfter, Fits, IsHistory, IsMarketSetup, IsLegalOver}
 use Rattle.market_model.specs.LetIn.{IsNoEntry}
-use Rattle.market_laws.proofs.BlockEntries.{deals-history}
-use Rattle.market_laws.proofs.Growing.{fit-back, fit-front}
+use Rattle.laws_of_market.proofs.BlockEntries.{deals-history}
+use Rattle.laws_of_market.proofs.Growing.{fit-back, fit-front}
 use Rattle.plain_blocks.specs.Entering.{IsHistoryOver}
 use Rattle.plain_market.specs.declared.border_events.BorderEvent.{BorderEvent}
 use Rattle.plain_market.specs.Borders.{border_event, grant, halt, offer, resumption}

@@ -19,7 +19,7 @@ use Rattle.market_model.specs.declared.event.Event.{Event}
 use Rattle.market_model.specs.Lines.{buyer_zone, can_trade, line, partner, priority_cmp, rooms_for, seller_zone, stands_in, time_cmp}
 use Rattle.market_model.specs.Orders.{Standing, placed, standing}
 use Rattle.market_model.specs.Sweep.{leg_in, leg_of_buy, resting_trade}
-use Rattle.market_laws.proofs.Trades.{from_line}
+use Rattle.laws_of_market.proofs.Trades.{from_line}
 use Rattle.plain_orders.specs.Listed.{first_price}
 use Rattle.plain_matching.specs.Over.{IsBestOfSells, best_cross, crosses_best, crosses_price, leg_with_partner}
 use Rattle.plain_matching.proofs.Here.{no_partner-leg}

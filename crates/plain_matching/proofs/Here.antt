@@ -16,8 +16,8 @@ use Rattle.market_model.specs.Orders.{Standing}
 use Rattle.market_model.specs.Room.{room}
 use Rattle.market_model.specs.Sweep.{first_answer, leg_in, leg_of_buy, resting_trade}
 use Rattle.market_model.specs.Taking.{next_leg, standing_order, trade}
-use Rattle.market_laws.proofs.Trades.{IsInLine, from_line, partner-is}
-use Rattle.market_laws.proofs.LocalLines.{first_answer-same}
+use Rattle.laws_of_market.proofs.Trades.{IsInLine, from_line, partner-is}
+use Rattle.laws_of_market.proofs.LocalLines.{first_answer-same}
 use Rattle.plain_matching.specs.Over.{AreRoomsFor, leg_of_buy_over, leg_with_partner, partner_in, resting_trade_over, trade_over}
 use Rattle.plain_matching.proofs.SameRooms.{partner_in-rooms, trade_over-rooms}
 

@@ -14,9 +14,9 @@ use Rattle.market_model.specs.Orders.{left}
 use Rattle.market_model.specs.Sweep.{left_in_hour, sweep, sweep_leg}
 use Rattle.market_model.specs.Taking.{next_leg, take}
 use Rattle.market_model.specs.WellFormed.{IsMarketSetup, IsLegalOver}
-use Rattle.market_laws.proofs.Falls.{next_leg-lowers, sweep-run, sweep_leg-lowers, take-run}
-use Rattle.market_laws.proofs.Legs.{next_leg-fits, sweep_leg-fits}
-use Rattle.market_laws.proofs.Repeats.{fit-more}
+use Rattle.laws_of_market.proofs.Falls.{next_leg-lowers, sweep-run, sweep_leg-lowers, take-run}
+use Rattle.laws_of_market.proofs.Legs.{next_leg-fits, sweep_leg-fits}
+use Rattle.laws_of_market.proofs.Repeats.{fit-more}
 
 -- a history grew by a first part of its legs, and the others are those of the history as it is now
 pub record IsSoFar (legs : List Event → List Event) (old now : List Event) : Type 0 where

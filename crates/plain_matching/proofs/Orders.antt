@@ -19,10 +19,10 @@ use Rattle.market_model.specs.Lines.{line}
 use Rattle.market_model.specs.Orders.{Placed, Standing, left, placed, standing}
 use Rattle.market_model.specs.Taking.{standing_order}
 use Rattle.market_model.specs.WellFormed.{IsLegalOver}
-use Rattle.market_laws.proofs.Placed.{all_are_sound}
-use Rattle.market_laws.proofs.Tests.{same_name-eq}
-use Rattle.market_laws.proofs.Trades.{from_line}
-use Rattle.market_laws.proofs.Restrict.{find-filter}
+use Rattle.laws_of_market.proofs.Placed.{all_are_sound}
+use Rattle.laws_of_market.proofs.Tests.{same_name-eq}
+use Rattle.laws_of_market.proofs.Trades.{from_line}
+use Rattle.laws_of_market.proofs.Restrict.{find-filter}
 use Rattle.plain_orders.specs.Listed.{is_order_of, line_of, open_orders, stands_open}
 use Rattle.plain_orders.proofs.LineLaws.{line-of_orders}
 use Rattle.plain_matching.specs.Over.{AreInZones, AreRoomsFor, is_open_as}

@@ -9,7 +9,7 @@ use Rattle.market_model.specs.declared.event.Event.{Event}
 use Rattle.market_model.specs.Lines.{buyer_zone, can_trade, seller_zone}
 use Rattle.market_model.specs.Orders.{Standing}
 use Rattle.market_model.specs.Taking.{leg_over}
-use Rattle.market_laws.proofs.Restrict.{find-same}
+use Rattle.laws_of_market.proofs.Restrict.{find-same}
 use Rattle.route_carrying.proofs.Carrying.{carried-rooms, best_route-arcs}
 use Rattle.plain_matching.specs.Over.{crosses_price, partner_in, trade_over}
 

@@ -11,8 +11,8 @@ use Rattle.zone_graph.proofs.Finding.{from_find}
 use Rattle.cut_proof.specs.Cut.{reaches_in}
 use Rattle.market_model.specs.Lines.{buyer_zone, can_trade, seller_zone}
 use Rattle.market_model.specs.Orders.{Standing}
-use Rattle.market_laws.proofs.Restrict.{find-same}
-use Rattle.market_laws.proofs.Replaced.{on}
+use Rattle.laws_of_market.proofs.Restrict.{find-same}
+use Rattle.laws_of_market.proofs.Replaced.{on}
 use Rattle.plain_routes.specs.declared.reach.ReachedZones.{ReachedZones}
 use Rattle.plain_routes.specs.Reached.{has_zone}
 use Rattle.plain_matching.specs.Over.{AreInZones, crosses_price, is_buy, is_in_reach, partner_in}

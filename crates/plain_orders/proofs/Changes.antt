@@ -12,7 +12,7 @@ use Rattle.order_kinds.specs.declared.side.Side.{Side}
 use Rattle.order_kinds.specs.declared.side.Side.TheVariants.{Buy, Sell}
 use Rattle.order_kinds.specs.Order.{last_peak, last_peak_price, peak_count, peak_price, peaks_allowed}
 use Rattle.order_kinds.specs.Price.{price_in_range}
-use Rattle.market_laws.proofs.Soundness.{lots_in_range-bounds, order_fault-none, peak-some}
+use Rattle.laws_of_market.proofs.Soundness.{lots_in_range-bounds, order_fault-none, peak-some}
 use Rattle.plain_orders.specs.Histories.{HasSoundNumbers}
 use Rattle.plain_orders.specs.Tallies.{HasPeak}
 

@@ -5,8 +5,8 @@ use Rattle.order_kinds.specs.declared.order.OrderName.{OrderName}
 use Rattle.order_kinds.specs.Same.{same_name}
 use Rattle.market_model.specs.declared.event.Event.{Event}
 use Rattle.market_model.specs.Orders.{is_open}
-use Rattle.market_laws.proofs.Tests.{same_name-eq}
-use Rattle.market_laws.proofs.Restrict.{find-same}
+use Rattle.laws_of_market.proofs.Tests.{same_name-eq}
+use Rattle.laws_of_market.proofs.Restrict.{find-same}
 
 both-open : (events : List Event) (given name : OrderName) (b : Bool) → is_open events name ≡ b → (same_name given name && is_open events given) ≡ (same_name given name && b)
 both-open events given name b is = go (same_name given name) refl

@@ -8,10 +8,10 @@ use Rattle.market_model.specs.declared.setup.Setup.{Setup}
 use Rattle.market_model.specs.History.{and_then}
 use Rattle.market_model.specs.Orders.{entered_by, filled_by, left, taken_off_by}
 use Rattle.market_model.specs.WellFormed.{FitAfter, Fits}
-use Rattle.market_laws.proofs.Balances.{covered, takes-le-left}
-use Rattle.market_laws.proofs.Growing.{fit-back, fit-front}
-use Rattle.market_laws.proofs.States.{entered-more, filled-more, taken_off-more}
-use Rattle.market_laws.proofs.Lefts.{left-most}
+use Rattle.laws_of_market.proofs.Balances.{covered, takes-le-left}
+use Rattle.laws_of_market.proofs.Growing.{fit-back, fit-front}
+use Rattle.laws_of_market.proofs.States.{entered-more, filled-more, taken_off-more}
+use Rattle.laws_of_market.proofs.Lefts.{left-most}
 use Rattle.plain_orders.specs.Histories.{IsSomeHistory}
 
 -- the events up to a place of a history, and the event there

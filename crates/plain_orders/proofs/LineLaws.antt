@@ -14,9 +14,9 @@ use Rattle.market_model.specs.declared.event.Event.{Event}
 use Rattle.market_model.specs.Blocks.{StandingBlock, block_line, block_priority_cmp, block_stands_in, is_of_period, standing_block}
 use Rattle.market_model.specs.Lines.{line, priority_cmp, stands_in}
 use Rattle.market_model.specs.Orders.{Placed, PlacedBlock, blocks_placed, is_open, placed, standing}
-use Rattle.market_laws.proofs.Placed.{all_are_sound}
-use Rattle.market_laws.proofs.Tests.{same_contract-eq}
-use Rattle.market_laws.proofs.Restrict.{filter-filter, filter-map}
+use Rattle.laws_of_market.proofs.Placed.{all_are_sound}
+use Rattle.laws_of_market.proofs.Tests.{same_contract-eq}
+use Rattle.laws_of_market.proofs.Restrict.{filter-filter, filter-map}
 use Rattle.plain_orders.specs.Histories.{IsSomeHistory}
 use Rattle.plain_orders.specs.Listed.{block_line_of, blocks_of, is_block_of, is_in_block_line, is_in_line, is_order_of, line_of, open_orders, stands_open}
 use Rattle.zone_graph.specs.InOrder.{in_order}

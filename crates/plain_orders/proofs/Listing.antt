@@ -15,12 +15,12 @@ use Rattle.market_model.specs.Blocks.{standing_block}
 use Rattle.market_model.specs.History.{and_then, enters_in, touches}
 use Rattle.market_model.specs.Orders.{Placed, PlacedBlock, block_placed_by, blocks_placed, is_open, left, name_given, placed, placed_by, price_now, shown_lots, standing}
 use Rattle.market_model.specs.Refusals.{desk_room, has_desk_room}
-use Rattle.market_laws.proofs.Balances.{left-filled-taken_off}
-use Rattle.market_laws.proofs.Members.{IsIn-filter_map, from_filter_map}
-use Rattle.market_laws.proofs.Names.{enters_as, names-once}
-use Rattle.market_laws.proofs.Placed.{all_are_sound, picked-same}
-use Rattle.market_laws.proofs.Tests.{same_name-refl}
-use Rattle.market_laws.proofs.Unique.{enters-block_placed, enters-placed, entered-order, times-some}
+use Rattle.laws_of_market.proofs.Balances.{left-filled-taken_off}
+use Rattle.laws_of_market.proofs.Members.{IsIn-filter_map, from_filter_map}
+use Rattle.laws_of_market.proofs.Names.{enters_as, names-once}
+use Rattle.laws_of_market.proofs.Placed.{all_are_sound, picked-same}
+use Rattle.laws_of_market.proofs.Tests.{same_name-refl}
+use Rattle.laws_of_market.proofs.Unique.{enters-block_placed, enters-placed, entered-order, times-some}
 use Rattle.plain_orders.specs.declared.tally.Tally.{Tally}
 use Rattle.plain_orders.specs.Histories.{HasSoundNumbers, IsSomeHistory}
 use Rattle.plain_orders.specs.Listed.{block_given, is_block_of, is_order_of, kept, open_orders, order_given, stands_open, blocks_of}

@@ -14,13 +14,13 @@ use Rattle.market_model.specs.declared.setup.Setup.{Setup}
 use Rattle.market_model.specs.History.{and_then, enters_in, of_hour, touches}
 use Rattle.market_model.specs.Orders.{Placed, PlacedBlock, block_placed_by, blocks_placed, left, name_given, placed, placed_by}
 use Rattle.market_model.specs.WellFormed.{FitAfter}
-use Rattle.market_laws.proofs.Balances.{left-filled-taken_off}
-use Rattle.market_laws.proofs.LocalStates.{Agree, agree-more, blocks_placed-agree, left-agree, next_name-agree, placed-agree}
-use Rattle.market_laws.proofs.Members.{from_filter_map}
-use Rattle.market_laws.proofs.NamedByHour.{history-named}
-use Rattle.market_laws.proofs.Names.{names-once, times_entered}
-use Rattle.market_laws.proofs.Restrict.{filter-filter, fold-filter}
-use Rattle.market_laws.proofs.Unique.{entered-none, enters-block_placed, enters-placed, times-some}
+use Rattle.laws_of_market.proofs.Balances.{left-filled-taken_off}
+use Rattle.laws_of_market.proofs.LocalStates.{Agree, agree-more, blocks_placed-agree, left-agree, next_name-agree, placed-agree}
+use Rattle.laws_of_market.proofs.Members.{from_filter_map}
+use Rattle.laws_of_market.proofs.NamedByHour.{history-named}
+use Rattle.laws_of_market.proofs.Names.{names-once, times_entered}
+use Rattle.laws_of_market.proofs.Restrict.{filter-filter, fold-filter}
+use Rattle.laws_of_market.proofs.Unique.{entered-none, enters-block_placed, enters-placed, times-some}
 use Rattle.event_history.specs.Near.{IsNear}
 use Rattle.plain_orders.specs.Histories.{IsSomeHistory}
 use Rattle.plain_orders.specs.Listed.{block_given, is_block_of, is_order_of, order_given}

@@ -12,7 +12,7 @@ use Rattle.zone_graph.specs.Route.{IsIn}
 use Rattle.zone_graph.proofs.Membership.{from_filter}
 use Rattle.zone_graph.proofs.Places.{place_of}
 use Rattle.zone_graph.specs.InOrder.{put_in_order, in_order}
-use Rattle.market_laws.proofs.Ascending.{Ascends, ascends-fold, ascends-put, before_too, itself}
+use Rattle.laws_of_market.proofs.Ascending.{Ascends, ascends-fold, ascends-put, before_too, itself}
 
 module _ {X : Type 0} (cmp : X → X → Ordering) (o : IsStrictWeakOrder (λ (x y : X). is_lt (cmp x y))) where
   -- an item comes before another

@@ -14,21 +14,21 @@ use Rattle.market_model.specs.declared.setup.Setup.{Setup}
 use Rattle.market_model.specs.History.{and_then, enters_in, of_hour, touches}
 use Rattle.market_model.specs.Orders.{Placed, PlacedBlock, block_placed_by, blocks_placed, entered, entered_by, filled, left, placed}
 use Rattle.market_model.specs.WellFormed.{BlockLegFits, FitAfter, LegFits}
-use Rattle.market_laws.proofs.Balances.{left-filled-taken_off, maker_has-leg, taker_has-leg}
-use Rattle.market_laws.proofs.Members.{from_filter_map}
-use Rattle.market_laws.proofs.Names.{enters_as, names-once, times_entered}
-use Rattle.market_laws.proofs.Placed.{all_are_sound}
-use Rattle.market_laws.proofs.Soundness.{block_fault-none, lots_in_range-bounds, order_fault-none}
-use Rattle.market_laws.proofs.Tests.{same_name-refl}
-use Rattle.market_laws.proofs.Unique.{entered-is, entered-none, entered-order, enters-block_placed, one_block, one_order, times-some}
-use Rattle.market_laws.proofs.Wholes.{other_name}
+use Rattle.laws_of_market.proofs.Balances.{left-filled-taken_off, maker_has-leg, taker_has-leg}
+use Rattle.laws_of_market.proofs.Members.{from_filter_map}
+use Rattle.laws_of_market.proofs.Names.{enters_as, names-once, times_entered}
+use Rattle.laws_of_market.proofs.Placed.{all_are_sound}
+use Rattle.laws_of_market.proofs.Soundness.{block_fault-none, lots_in_range-bounds, order_fault-none}
+use Rattle.laws_of_market.proofs.Tests.{same_name-refl}
+use Rattle.laws_of_market.proofs.Unique.{entered-is, entered-none, entered-order, enters-block_placed, one_block, one_order, times-some}
+use Rattle.laws_of_market.proofs.Wholes.{other_name}
 use Rattle.plain_orders.specs.declared.tally.Change.{Change}
 use Rattle.plain_orders.specs.declared.tally.Change.TheVariants as change
 use Rattle.plain_orders.specs.declared.tally.Tally.{Tally}
 use Rattle.plain_orders.specs.Tallies.{AreTallies, CanApply, CanChange, CanTakeIn, HasPeak, Tells, after_event, changed, entered_in, name_in}
 use Rattle.plain_orders.proofs.Changes.{sound-peak}
 use Rattle.plain_orders.proofs.Histories.{IsAt}
-use Rattle.market_laws.proofs.LocalMoments.{hour-more, hour-same}
+use Rattle.laws_of_market.proofs.LocalMoments.{hour-more, hour-same}
 use Rattle.plain_orders.proofs.Tells.{Comes, tells-after, tells-elsewhere}
 
 -- ---- what was entered of a block

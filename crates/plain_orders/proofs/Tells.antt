@@ -17,19 +17,19 @@ use Rattle.market_model.specs.declared.setup.Setup.{Setup}
 use Rattle.market_model.specs.History.{and_then, of_hour, touches}
 use Rattle.market_model.specs.Orders.{Placed, PlacedBlock, block_moment, block_placed_by, blocks_placed, ends_peak, entered, entered_by, enters_block, filled, filled_by, gives_moment, last_place, moment, names, placed, placed_by, taken_off, taken_off_by}
 use Rattle.market_model.specs.WellFormed.{FitAfter, Fits, LegFits}
-use Rattle.market_laws.proofs.Balances.{covered}
-use Rattle.market_laws.proofs.Members.{from_filter_map}
-use Rattle.market_laws.proofs.Names.{block_name-new, names-once, order_name-new, times_entered}
-use Rattle.market_laws.proofs.Placed.{from_picked-more}
-use Rattle.market_laws.proofs.States.{filled-more}
-use Rattle.market_laws.proofs.Tests.{same_name-eq}
-use Rattle.market_laws.proofs.Unique.{entered-none, enters-block_placed, enters-placed, order_is_no_block, times-some}
-use Rattle.market_laws.proofs.LocalStates.{Agree, blocks_placed-agree, filled-agree, left-agree, placed-agree}
+use Rattle.laws_of_market.proofs.Balances.{covered}
+use Rattle.laws_of_market.proofs.Members.{from_filter_map}
+use Rattle.laws_of_market.proofs.Names.{block_name-new, names-once, order_name-new, times_entered}
+use Rattle.laws_of_market.proofs.Placed.{from_picked-more}
+use Rattle.laws_of_market.proofs.States.{filled-more}
+use Rattle.laws_of_market.proofs.Tests.{same_name-eq}
+use Rattle.laws_of_market.proofs.Unique.{entered-none, enters-block_placed, enters-placed, order_is_no_block, times-some}
+use Rattle.laws_of_market.proofs.LocalStates.{Agree, blocks_placed-agree, filled-agree, left-agree, placed-agree}
 use Rattle.plain_orders.specs.declared.tally.Tally.{Tally}
 use Rattle.plain_orders.specs.declared.tally.Change.TheVariants as change
 use Rattle.plain_orders.specs.Tallies.{Tells, after_event, changed, entering, name_in, traded}
 use Rattle.plain_orders.proofs.Histories.{left-is}
-use Rattle.market_laws.proofs.LocalMoments.{agree-elsewhere, block_moment-more, filled-hour, moment-more}
+use Rattle.laws_of_market.proofs.LocalMoments.{agree-elsewhere, block_moment-more, filled-hour, moment-more}
 
 -- an event of a history and the events before it
 pub record Comes (setup : Setup) (before : List Event) (e : Event) : Type 0 where

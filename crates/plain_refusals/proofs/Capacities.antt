@@ -22,7 +22,7 @@ use Rattle.market_model.specs.Sweep.{first_answer, or_else}
 use Rattle.market_model.specs.WellFormed.{IsLegalOver}
 use Rattle.market_model.specs.declared.asked.Asked.{Asked}
 use Rattle.market_model.specs.Asked.{first_in_hour, is_asked}
-use Rattle.market_laws.proofs.Uses.{within_offers}
+use Rattle.laws_of_market.proofs.Uses.{within_offers}
 use Rattle.plain_capacity.specs.Hour.{Capacity, IsCapacityOf}
 use Rattle.plain_capacity.proofs.RoomLemmas.{room-is}
 use Rattle.plain_refusals.specs.Asked.{FlowsAtMost, asked_between, below_flow_at, first_below_flow, first_no_room, no_room_at}

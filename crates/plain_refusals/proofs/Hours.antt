@@ -9,7 +9,7 @@ use Rattle.order_kinds.proofs.Hours.{hours-next, hours-none}
 use Rattle.market_model.specs.Sweep.{first_answer, or_else}
 use Rattle.market_model.specs.declared.asked.Asked.{Asked}
 use Rattle.market_model.specs.Asked.{first_in_hour, is_asked}
-use Rattle.market_laws.proofs.StateRules.{first_answer-append}
+use Rattle.laws_of_market.proofs.StateRules.{first_answer-append}
 
 -- ---- the first hour that passes
 

@@ -9,8 +9,8 @@ use Rattle.market_model.specs.Orders.{Standing}
 use Rattle.market_model.specs.WellFormed.{IsLegalOver}
 use Rattle.plain_orders.specs.Listed.{line_of, open_orders}
 use Rattle.plain_orders.proofs.LineLaws.{line-of_orders}
-use Rattle.view_laws.specs.declared.trades.Maker.{Maker}
-use Rattle.view_laws.specs.Depth.{maker_of}
+use Rattle.laws_of_rows.specs.declared.trades.Maker.{Maker}
+use Rattle.laws_of_rows.specs.Depth.{maker_of}
 
 -- the makers that are made of the orders of an hour are those of the line
 pub makers-made : (graph : Graph) (events : List Event) (legal : IsLegalOver graph events) (contract : Contract) (side : Side)

@@ -9,13 +9,13 @@ use Rattle.order_kinds.specs.Same.{same_side}
 use Rattle.zone_graph.specs.declared.route.Arc.{Arc}
 use Rattle.zone_graph.specs.Graph.{Graph, HasZone}
 use Rattle.zone_graph.proofs.Finding.{from_find}
-use Rattle.market_laws.proofs.Restrict.{find-same}
+use Rattle.laws_of_market.proofs.Restrict.{find-same}
 use Rattle.cut_proof.specs.Cut.{reaches_in}
 use Rattle.plain_routes.specs.declared.reach.ReachedZones.{ReachedZones}
 use Rattle.plain_routes.specs.Reached.{has_zone}
-use Rattle.view_laws.specs.declared.trades.Maker.{Maker}
+use Rattle.laws_of_rows.specs.declared.trades.Maker.{Maker}
 use Rattle.plain_view.specs.InReach.{is_in_reach}
-use Rattle.view_laws.specs.Depth.{AreInZones, can_fill, crosses_any, fill_with, next_fill, route_with}
+use Rattle.laws_of_rows.specs.Depth.{AreInZones, can_fill, crosses_any, fill_with, next_fill, route_with}
 
 -- the zones in reach are those to or from which a route leads
 reached-is : (graph : Graph) (room : Arc → ℕ) (side : Side) (zone : ℕ) (maker : Maker)

@@ -9,14 +9,14 @@ ghost use Rattle.market_model.specs.View as market;
 ghost use Rattle.order_kinds.specs.Same.{same_side};
 ghost use Rattle.order_kinds.specs.declared.side.Side.TheVariants.{Sell};
 ghost use Rattle.plain_routes.specs.Reached.{IsFoundIn};
-ghost use Rattle.view_laws.specs.Depth as depth;
+ghost use Rattle.laws_of_rows.specs.Depth as depth;
 ghost use Rattle.plain_view.specs.InReach as in_reach;
 
 use market_model::{NoMemory, Price, Side};
 use plain_routes::{ReachedZones, reached};
 use route_carrying::carried;
 use std::alloc::Global;
-use view_laws::{Fill, Maker};
+use laws_of_rows::{Fill, Maker};
 use zone_graph::{Grid, Rooms};
 
 /// The next trade of a taker in a zone, of which so many lots are left: with the first maker of the

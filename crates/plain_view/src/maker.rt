@@ -1,12 +1,12 @@
 //! The orders of a line as makers: what they show, and what is left of it.
 
 ghost use Rattle.std.specs.Prelude.{◌≡◌, IfOk, map};
-ghost use Rattle.view_laws.specs.Depth as depth;
+ghost use Rattle.laws_of_rows.specs.Depth as depth;
 
 use market_model::{NoMemory, OrderName};
 use plain_orders::StandingOrder;
 use std::alloc::Global;
-use view_laws::Maker;
+use laws_of_rows::Maker;
 
 /// The orders of a line as makers, of which nothing is taken yet.
 pub(crate) fn makers_of(alloc: Global, line: &[StandingOrder]) -> Result<Vec<Maker>, NoMemory>

@@ -5,10 +5,10 @@ use Rattle.std.proofs.lemmas.Bool.{and_parts, true≢false}
 use Rattle.std.proofs.lemmas.List.Elements.{All-cons, All-nil}
 use Rattle.market_text.specs.declared.session.Session.{Session}
 use Rattle.market_text.specs.Text.{is_passed_over, session_of_text, words_of}
-use Rattle.text_grammar.specs.Contents.{CallerLine, CommandLine, Contents, border_line, caller_line, command_line, lines_of_contents, zone_line}
-use Rattle.text_grammar.specs.Grammar.{IsSessionText}
-use Rattle.text_grammar.specs.Lines.{IsLine, counting_lines}
-use Rattle.text_grammar.proofs.Texts.{accepted-in-grammar}
+use Rattle.laws_of_texts.specs.Contents.{CallerLine, CommandLine, Contents, border_line, caller_line, command_line, lines_of_contents, zone_line}
+use Rattle.laws_of_texts.specs.Grammar.{IsSessionText}
+use Rattle.laws_of_texts.specs.Lines.{IsLine, counting_lines}
+use Rattle.laws_of_texts.proofs.Texts.{accepted-in-grammar}
 use Rattle.divided_text.specs.Laws.{IsDivided}
 use Rattle.divided_text.specs.Reading.{session_of_divided, with_rest}
 use Rattle.divided_text.proofs.Answering.{divided-read}

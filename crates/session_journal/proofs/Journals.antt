@@ -15,7 +15,7 @@ use Rattle.market_model.specs.History.{events_of, journal_events}
 use Rattle.market_model.specs.Market.{Turn, entry_of, in_turn, in_turn_after, reply_to, run_after, run_of, turn_at}
 use Rattle.market_model.specs.Sweep.{all_parts}
 use Rattle.market_model.specs.WellFormed.{IsHistory, IsMarketSetup}
-use Rattle.market_laws.proofs.Journals.{journal_events-more, run-history, run_after-more}
+use Rattle.laws_of_market.proofs.Journals.{journal_events-more, run-history, run_after-more}
 use Rattle.market_text.specs.Commands.{commands_of}
 use Rattle.session_journal.proofs.Turns.{turn_count}
 

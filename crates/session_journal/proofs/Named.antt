@@ -8,9 +8,9 @@ use Rattle.market_model.specs.Market.{Turn, entry_of, in_turn, run_after}
 use Rattle.market_model.specs.Naming.{IsEntryIn, IsReplyIn}
 use Rattle.market_model.specs.Sweep.{all_parts}
 use Rattle.market_model.specs.WellFormed.{IsHistory, IsMarketSetup}
-use Rattle.market_laws.proofs.Journals.{journal_events-more, run-history}
-use Rattle.market_laws.proofs.Replies.{reply-history}
-use Rattle.market_laws.proofs.ReplyNames.{reply-names}
+use Rattle.laws_of_market.proofs.Journals.{journal_events-more, run-history}
+use Rattle.laws_of_market.proofs.Replies.{reply-history}
+use Rattle.laws_of_market.proofs.ReplyNames.{reply-names}
 use Rattle.session_journal.specs.Laws.{EntriesNameTheSetup}
 use Rattle.session_journal.proofs.Once.{each-command-once}
 

@@ -15,8 +15,8 @@ use Rattle.market_model.specs.Market.{entry_of, in_turn, run_after, run_of}
 use Rattle.market_model.specs.Naming.{IsEntryIn}
 use Rattle.market_model.specs.Sweep.{all_parts}
 use Rattle.market_model.specs.WellFormed.{IsHistory, IsMarketSetup}
-use Rattle.market_laws.proofs.Journals.{run-history}
-use Rattle.market_laws.proofs.ReplyNames.{reply-names}
+use Rattle.laws_of_market.proofs.Journals.{run-history}
+use Rattle.laws_of_market.proofs.ReplyNames.{reply-names}
 use Rattle.market_text.specs.Commands.{commands_of}
 use Rattle.market_text.specs.Session.{IsSession}
 use Rattle.market_text.specs.declared.session.Session.{Session}

@@ -16,9 +16,9 @@ use Rattle.market_model.specs.declared.event.Leg.{Leg}
 use Rattle.market_model.specs.declared.setup.Setup.{Setup}
 use Rattle.market_model.specs.History.{and_then}
 use Rattle.market_model.specs.WellFormed.{BlockLegFits, FitAfter, Fits, LegFits}
-use Rattle.market_laws.proofs.Growing.{fit-front}
-use Rattle.market_laws.proofs.Names.{names-once}
-use Rattle.market_laws.proofs.Placed.{all_are_sound}
+use Rattle.laws_of_market.proofs.Growing.{fit-front}
+use Rattle.laws_of_market.proofs.Names.{names-once}
+use Rattle.laws_of_market.proofs.Placed.{all_are_sound}
 use Rattle.schedule_rows.specs.declared.period.Period.{Period}
 use Rattle.schedule_rows.specs.declared.period.Period.TheVariants as period
 use Rattle.schedule_rows.specs.Rows.{is_number}

@@ -17,7 +17,7 @@ use Rattle.market_model.specs.declared.entry.Entry.{Entry}
 use Rattle.market_model.specs.declared.event.Event.{Event}
 use Rattle.market_model.specs.declared.event.Event.TheVariants as event
 use Rattle.market_model.specs.History.{and_then, events_of, journal_events}
-use Rattle.market_laws.proofs.Journals.{journal_events-more}
+use Rattle.laws_of_market.proofs.Journals.{journal_events-more}
 use Rattle.market_model.specs.declared.event.Leg.{Leg}
 use Rattle.order_kinds.specs.declared.contract.Quarter.{Quarter}
 use Rattle.schedule_rows.specs.declared.balance.Balance.{Balance}

@@ -24,10 +24,10 @@ use Rattle.market_model.specs.Lines.{buyer_zone, seller_zone}
 use Rattle.market_model.specs.Orders.{Placed, PlacedBlock, block_placed_by, blocks_placed, placed, placed_by, standing}
 use Rattle.market_model.specs.Room.{room}
 use Rattle.market_model.specs.WellFormed.{BlockLegFits, FitAfter, Fits, LegFits}
-use Rattle.market_laws.proofs.Growing.{fit-back}
-use Rattle.market_laws.proofs.Names.{NamesOnce, names-once}
-use Rattle.market_laws.proofs.Placed.{AllAreSound, all_are_sound, picked-stays}
-use Rattle.market_laws.proofs.Unique.{one_block, one_order}
+use Rattle.laws_of_market.proofs.Growing.{fit-back}
+use Rattle.laws_of_market.proofs.Names.{NamesOnce, names-once}
+use Rattle.laws_of_market.proofs.Placed.{AllAreSound, all_are_sound, picked-stays}
+use Rattle.laws_of_market.proofs.Unique.{one_block, one_order}
 use Rattle.route_choice.specs.Flow.{sent_out, taken_in}
 use Rattle.route_choice.proofs.Flows.{sum_same}
 use Rattle.ship_schedule.specs.Schedule.{block_in, is_trade, order_in, traded_by}

@@ -11,7 +11,7 @@ use Rattle.market_model.specs.declared.event.Event.TheVariants as event
 use Rattle.market_model.specs.declared.setup.Setup.{Setup}
 use Rattle.market_model.specs.Capacity.{allocated, allocated_by, flow, offered}
 use Rattle.market_model.specs.WellFormed.{FitAfter}
-use Rattle.market_laws.proofs.Uses.{within_offers}
+use Rattle.laws_of_market.proofs.Uses.{within_offers}
 use Rattle.ship_schedule.specs.Schedule.{exchange, explicit, forward_arc, is_grant, is_trade}
 
 -- an event that allocates is a trade or a grant

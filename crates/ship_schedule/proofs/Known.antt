@@ -12,8 +12,8 @@ use Rattle.market_model.specs.declared.setup.Setup.{Setup}
 use Rattle.market_model.specs.History.{and_then, enters_in}
 use Rattle.market_model.specs.Orders.{Placed, PlacedBlock, block_placed_by, blocks_placed, next_name, placed, placed_by}
 use Rattle.market_model.specs.WellFormed.{FitAfter, Fits}
-use Rattle.market_laws.proofs.Growing.{grows}
-use Rattle.market_laws.proofs.Placed.{from_picked-more}
+use Rattle.laws_of_market.proofs.Growing.{grows}
+use Rattle.laws_of_market.proofs.Placed.{from_picked-more}
 use Rattle.ship_schedule.specs.declared.party_index.Party.{Party}
 use Rattle.ship_schedule.specs.Tally.{parties_in, party_in, party_of, sells}
 

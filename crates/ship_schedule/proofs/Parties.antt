@@ -10,8 +10,8 @@ use Rattle.order_kinds.specs.Side.{opposite}
 use Rattle.zone_graph.specs.Route.{IsIn}
 use Rattle.market_model.specs.declared.event.Leg.{Leg}
 use Rattle.market_model.specs.Orders.{names}
-use Rattle.market_laws.proofs.Balances.{names-maker, names-taker}
-use Rattle.market_laws.proofs.Tests.{same_name-eq}
+use Rattle.laws_of_market.proofs.Balances.{names-maker, names-taker}
+use Rattle.laws_of_market.proofs.Tests.{same_name-eq}
 
 -- ---- a test that one item alone can pass
 

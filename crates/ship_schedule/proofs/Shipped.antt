@@ -25,9 +25,9 @@ use Rattle.market_model.specs.Orders.{Placed, PlacedBlock, standing}
 use Rattle.market_model.specs.Room.{room}
 use Rattle.market_model.specs.Sweep.{all_parts}
 use Rattle.market_model.specs.WellFormed.{FitAfter, Fits, IsHistory, IsMarketSetup, IsOpenBlock, IsOpenOrder}
-use Rattle.market_laws.proofs.Growing.{fit-back, fit-front}
-use Rattle.market_laws.proofs.Journals.{run-history}
-use Rattle.market_laws.proofs.Placed.{AllAreSound, all_are_sound}
+use Rattle.laws_of_market.proofs.Growing.{fit-back, fit-front}
+use Rattle.laws_of_market.proofs.Journals.{run-history}
+use Rattle.laws_of_market.proofs.Placed.{AllAreSound, all_are_sound}
 use Rattle.schedule_rows.specs.Places.{quarter_at}
 use Rattle.schedule_rows.specs.Rows.{row_at}
 use Rattle.ship_schedule.specs.declared.tally.Tally.{Tally}

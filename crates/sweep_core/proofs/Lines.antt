@@ -22,15 +22,15 @@ use Rattle.market_model.specs.Board.{BoardState, IsBoard, Rests, RestsIn, first_
 use Rattle.market_model.specs.Grid.{graph_of}
 use Rattle.market_model.specs.Lines.{line, priority_cmp, time_cmp}
 use Rattle.market_model.specs.Orders.{Standing}
-use Rattle.market_laws.proofs.Ascending.{Ascends, itself}
-use Rattle.market_laws.proofs.Lines.{line-ascends, priority_weak}
-use Rattle.market_laws.proofs.Placed.{all_are_sound}
-use Rattle.market_laws.proofs.Trades.{from_line}
-use Rattle.market_laws.proofs.LocalLines.{line-agree}
-use Rattle.book_lines.proofs.ChangedOrders.{hour_of}
-use Rattle.book_lines.proofs.LineOrders.{line-strict}
-use Rattle.board_laws.proofs.Shared.{board-agrees}
-use Rattle.board_laws.proofs.Walks.{one_number}
+use Rattle.laws_of_market.proofs.Ascending.{Ascends, itself}
+use Rattle.laws_of_market.proofs.Lines.{line-ascends, priority_weak}
+use Rattle.laws_of_market.proofs.Placed.{all_are_sound}
+use Rattle.laws_of_market.proofs.Trades.{from_line}
+use Rattle.laws_of_market.proofs.LocalLines.{line-agree}
+use Rattle.laws_of_books.proofs.ChangedOrders.{hour_of}
+use Rattle.laws_of_books.proofs.LineOrders.{line-strict}
+use Rattle.laws_of_boards.proofs.Shared.{board-agrees}
+use Rattle.laws_of_boards.proofs.Walks.{one_number}
 use Rattle.sweep_core.specs.Meeting.{first_of, shown_line}
 use Rattle.sweep_core.proofs.Walks.{Differ, behind_in}
 

@@ -31,22 +31,22 @@ use Rattle.market_model.specs.Orders.{Placed, is_open, names, placed, placed_by,
 use Rattle.market_model.specs.Room.{halt_by, is_halted, is_open_phase, least, lots_of, phase_by, phase_of, quarter_room, room}
 use Rattle.market_model.specs.Sweep.{all_parts, leg_in}
 use Rattle.market_model.specs.WellFormed.{FitAfter, LegFits}
-use Rattle.market_laws.proofs.Ascending.{itself}
-use Rattle.market_laws.proofs.Capacities.{allocated-more, last_said-more, offered-more}
-use Rattle.market_laws.proofs.Lines.{IsIn-line, priority_weak}
-use Rattle.market_laws.proofs.Names.{names-once}
-use Rattle.market_laws.proofs.Placed.{picked-same}
-use Rattle.market_laws.proofs.Tests.{same_name-eq}
-use Rattle.market_laws.proofs.Trades.{from_line}
-use Rattle.market_laws.proofs.Unique.{one_order}
-use Rattle.market_laws.proofs.Uses.{contract_has-is, lots_of-remaining, room-le}
-use Rattle.market_laws.proofs.LocalLines.{line-agree, sweep_leg-named}
-use Rattle.market_laws.proofs.LocalStates.{agree-more}
-use Rattle.book_lines.proofs.Untouched.{left-kept, standing-kept}
-use Rattle.line_fronts.specs.Fronts.{StandInFor}
-use Rattle.line_fronts.proofs.Unopened.{unopened}
-use Rattle.board_laws.proofs.Legs.{made-fits}
-use Rattle.board_laws.proofs.Shared.{board-agrees, board-graph}
+use Rattle.laws_of_market.proofs.Ascending.{itself}
+use Rattle.laws_of_market.proofs.Capacities.{allocated-more, last_said-more, offered-more}
+use Rattle.laws_of_market.proofs.Lines.{IsIn-line, priority_weak}
+use Rattle.laws_of_market.proofs.Names.{names-once}
+use Rattle.laws_of_market.proofs.Placed.{picked-same}
+use Rattle.laws_of_market.proofs.Tests.{same_name-eq}
+use Rattle.laws_of_market.proofs.Trades.{from_line}
+use Rattle.laws_of_market.proofs.Unique.{one_order}
+use Rattle.laws_of_market.proofs.Uses.{contract_has-is, lots_of-remaining, room-le}
+use Rattle.laws_of_market.proofs.LocalLines.{line-agree, sweep_leg-named}
+use Rattle.laws_of_market.proofs.LocalStates.{agree-more}
+use Rattle.laws_of_books.proofs.Untouched.{left-kept, standing-kept}
+use Rattle.laws_of_lines.specs.Fronts.{StandInFor}
+use Rattle.laws_of_lines.proofs.Unopened.{unopened}
+use Rattle.laws_of_boards.proofs.Legs.{made-fits}
+use Rattle.laws_of_boards.proofs.Shared.{board-agrees, board-graph}
 use Rattle.sweep_core.specs.declared.part_set.PartSet.{PartSet}
 use Rattle.sweep_core.specs.Meeting.{part_room}
 use Rattle.sweep_core.specs.Parts.{has_part}

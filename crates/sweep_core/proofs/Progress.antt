@@ -14,9 +14,9 @@ use Rattle.market_model.specs.Board.{BoardState, CanBeMade, IsBoard, after_leg, 
 use Rattle.market_model.specs.History.{and_then}
 use Rattle.market_model.specs.Lines.{line}
 use Rattle.market_model.specs.Sweep.{all_parts, left_in_hour, leg_of_buy, sweep, sweep_leg}
-use Rattle.market_laws.proofs.Members.{first_answer-none}
-use Rattle.line_fronts.proofs.Worse.{trades-none}
-use Rattle.board_laws.proofs.Legs.{lower as lowers, sweep_legs}
+use Rattle.laws_of_market.proofs.Members.{first_answer-none}
+use Rattle.laws_of_lines.proofs.Worse.{trades-none}
+use Rattle.laws_of_boards.proofs.Legs.{lower as lowers, sweep_legs}
 use Rattle.sweep_core.specs.Sweeping.{IsSweptInPart, NothingTrades, event_in, first_leg, hour_sweep, next_event, order_numbers, part_leg, swept}
 
 -- the parts are tried in the order of their numbers

@@ -22,8 +22,8 @@ use Rattle.route_choice.proofs.Fresh.{known_is_reached, searched_arcs, searched_
 use Rattle.market_model.specs.declared.board.Shown.{Shown}
 use Rattle.market_model.specs.declared.event.Leg.{Leg}
 use Rattle.market_model.specs.Board.{BoardState, IsBoard}
-use Rattle.market_laws.proofs.Restrict.{find-same}
-use Rattle.board_laws.proofs.Shared.{board-graph}
+use Rattle.laws_of_market.proofs.Restrict.{find-same}
+use Rattle.laws_of_boards.proofs.Shared.{board-graph}
 use Rattle.sweep_core.specs.Meeting.{AreFronts, AreRoomsOf, can_meet, is_earlier, is_marked, is_met, leg_between, leg_of_buy, leg_of_shown, leg_with, part_room, resting_leg, shown_line}
 
 -- the leg of a buy and a sell over a route of the graph is the same where its rooms are

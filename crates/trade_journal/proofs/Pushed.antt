@@ -9,7 +9,7 @@ use Rattle.market_model.specs.declared.entry.Entry.{Entry}
 use Rattle.market_model.specs.declared.setup.Setup.{Setup}
 use Rattle.market_model.specs.Market.{IsLegal, Turn, entry_of, run_after, run_of, turn_of}
 use Rattle.market_model.specs.Sweep.{all_parts}
-use Rattle.market_laws.proofs.Journals.{run_after-more}
+use Rattle.laws_of_market.proofs.Journals.{run_after-more}
 use Rattle.trade_journal.specs.Inside.{IsInside}
 use Rattle.trade_journal.specs.Journals.{IsJournal, JournalState, MayFollow, all_rooms, made_by, room_of_caller, with_entry}
 use Rattle.trade_journal.proofs.Rooms.{entries-fit, made_by-more, one-other, one-own, one_if, room-there}

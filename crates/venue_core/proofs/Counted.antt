@@ -31,11 +31,11 @@ use Rattle.market_model.specs.Orders.{left}
 use Rattle.market_model.specs.Refusals.{refusal_of_command}
 use Rattle.market_model.specs.Rules.{ascends}
 use Rattle.market_model.specs.Sweep.{all_parts, sweep}
-use Rattle.market_laws.proofs.Admitted.{IsAdmitted, refusal-none}
-use Rattle.market_laws.proofs.HoursAlone.{ascends-later, ascends-rest}
-use Rattle.market_laws.proofs.Closing.{AreQuiet, at_arc-quiet, gate-quiet, match_blocks-quiet, quiet-one, rest-quiet, sweep-quiet, take-quiet, then-quiet}
-use Rattle.market_laws.proofs.Names.{entered_in-few}
-use Rattle.market_laws.proofs.ReplyEntries.{enter_block-one, enter-one}
+use Rattle.laws_of_market.proofs.Admitted.{IsAdmitted, refusal-none}
+use Rattle.laws_of_market.proofs.HoursAlone.{ascends-later, ascends-rest}
+use Rattle.laws_of_market.proofs.Closing.{AreQuiet, at_arc-quiet, gate-quiet, match_blocks-quiet, quiet-one, rest-quiet, sweep-quiet, take-quiet, then-quiet}
+use Rattle.laws_of_market.proofs.Names.{entered_in-few}
+use Rattle.laws_of_market.proofs.ReplyEntries.{enter_block-one, enter-one}
 
 -- what enters by the events of an hour is what enters by all events and is named by the hour
 module _ (hour : ℕ) where

@@ -18,9 +18,9 @@ use Rattle.market_model.specs.HourSet.{IsSetOf, has_hour}
 use Rattle.market_model.specs.Market.{IsLegal}
 use Rattle.market_model.specs.Rules.{touched_hours}
 use Rattle.market_model.specs.WellFormed.{IsMarketSetup}
-use Rattle.market_laws.proofs.Journals.{journal_events-more}
-use Rattle.market_laws.proofs.Restrict.{filter-same, filter-map}
-use Rattle.market_laws.proofs.Names.{entered_in-few}
+use Rattle.laws_of_market.proofs.Journals.{journal_events-more}
+use Rattle.laws_of_market.proofs.Restrict.{filter-same, filter-map}
+use Rattle.laws_of_market.proofs.Names.{entered_in-few}
 use Rattle.desk_locks.specs.Desk.{DeskState, carried, planning, with_nothing_planned}
 use Rattle.journal_front.specs.Fronts.{DeskSeatState, FrontState, IsDeskOf, with_entries}
 use Rattle.journal_front.specs.Seats as seats

@@ -14,7 +14,7 @@ use Rattle.market_model.specs.Market.{IsLegal, reply_to, turn_of}
 use Rattle.market_model.specs.Sweep.{all_parts}
 use Rattle.market_model.specs.WellFormed.{IsMarketSetup}
 use Rattle.market_model.proofs.Concerned.{current-callers, current-hours}
-use Rattle.market_laws.proofs.Keeping.{run-keeping}
+use Rattle.laws_of_market.proofs.Keeping.{run-keeping}
 use Rattle.trade_journal.specs.Journals.{IsJournal, JournalState, MayFollow, made_by, room_of_caller}
 
 -- a caller has no more of some entries than there are

@@ -5,8 +5,8 @@ use Rattle.market_model.specs.History.{events_of, journal_events}
 use Rattle.market_model.specs.Market.{reply_to}
 use Rattle.joint_plan.specs.Desk.{DeskState}
 use Rattle.joint_plan.specs.Rows.{AreAsked, IsHistoryOf, dropped, planning_all}
-use Rattle.certified_maximum.specs.Unfilled.{IsUnfilledBasket}
-use Rattle.certified_maximum.proofs.Certified.{basket_certified}
+use Rattle.laws_of_maximum.specs.Unfilled.{IsUnfilledBasket}
+use Rattle.laws_of_maximum.proofs.Certified.{basket_certified}
 use Rattle.joint_plan.proofs.Dropped.{asked-dropped, journal-dropped, planning-dropped, twice-dropped}
 use Rattle.joint_plan.proofs.Histories.{journal-history}
 use Rattle.basket_match.proofs.basket.plan_basket.Goals as goal

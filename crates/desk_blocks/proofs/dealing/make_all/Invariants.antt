@@ -1,5 +1,5 @@
 use Rattle.std.proofs.Common.{◌≡◌, drop, false, take}
-use Rattle.joint_laws.specs.MatchingBlocks.{legs_of}
+use Rattle.laws_of_joint_commands.specs.MatchingBlocks.{legs_of}
 use Rattle.desk_changes.specs.Planned.{CanFollow, after_events}
 use Rattle.desk_changes.specs.Quiet.{HasNoLeg}
 use Rattle.desk_blocks.specs.Plans.{CloseInTurn}

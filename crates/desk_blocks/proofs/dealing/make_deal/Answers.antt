@@ -1,5 +1,5 @@
 use Rattle.std.proofs.Common.{◌∙◌, sym, ap, subst}
-use Rattle.joint_laws.specs.PeriodRooms.{hour_room}
+use Rattle.laws_of_joint_commands.specs.PeriodRooms.{hour_room}
 use Rattle.desk_changes.specs.State.{HourState}
 use Rattle.desk_changes.specs.Quiet.{HasNoLeg}
 use Rattle.desk_blocks.specs.Openings.{AreOver, may_open}

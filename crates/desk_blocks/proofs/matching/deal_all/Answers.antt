@@ -5,7 +5,7 @@ use Rattle.zone_graph.specs.Rooms.{room_of}
 use Rattle.block_match.specs.declared.deal.BlockDeal.{BlockDeal}
 use Rattle.block_match.specs.Deals.{deal_of_period}
 use Rattle.block_match.specs.Meeting.{HaveZones}
-use Rattle.joint_laws.specs.MatchingBlocks.{legs_of}
+use Rattle.laws_of_joint_commands.specs.MatchingBlocks.{legs_of}
 use Rattle.desk_changes.specs.Planned.{after_events}
 use Rattle.desk_blocks.specs.Rooms.{CanCarryEach}
 use Rattle.zone_graph.specs.declared.route.Arc.{Arc}

@@ -1,5 +1,5 @@
 use Rattle.std.proofs.Common.{◌∙◌, nat_lt, not, ap}
-use Rattle.joint_laws.specs.PeriodRooms.{hour_room}
+use Rattle.laws_of_joint_commands.specs.PeriodRooms.{hour_room}
 use Rattle.desk_blocks.proofs.openings.is_shut_back.Goals as goal
 
 pub returns : goal.returns

@@ -3,7 +3,7 @@ use Rattle.std.proofs.Math.Seq.{drop-cons}
 use Rattle.std.specs.List.{list_any}
 use Rattle.zone_graph.specs.declared.route.Arc.{Arc}
 use Rattle.zone_graph.proofs.Places.{at_place}
-use Rattle.joint_laws.specs.PeriodRooms.{hour_room}
+use Rattle.laws_of_joint_commands.specs.PeriodRooms.{hour_room}
 use Rattle.desk_blocks.specs.Openings.{is_shut_back}
 use Rattle.desk_blocks.proofs.openings.opens.Goals as goal
 

@@ -1,5 +1,5 @@
 use Rattle.std.proofs.Common.{◌≡◌, drop}
-use Rattle.joint_laws.specs.PeriodRooms.{hour_room}
+use Rattle.laws_of_joint_commands.specs.PeriodRooms.{hour_room}
 use Rattle.desk_blocks.specs.Openings.{opens}
 use Rattle.desk_blocks.proofs.openings.opens.Given as goal
 

@@ -1,6 +1,6 @@
 use Rattle.std.proofs.Common.{◌<◌, sym, subst}
 use Rattle.zone_graph.specs.Graph.{border_count}
-use Rattle.hour_changes.proofs.FlowChanges.{resumptions_fit}
+use Rattle.laws_of_hours.proofs.FlowChanges.{resumptions_fit}
 use Rattle.kept_hour.specs.State.{HourState, resumption_of}
 use Rattle.desk_changes.proofs.Opened.{resumption-on}
 use Rattle.desk_changes.proofs.Planning.{opened-quiet}

@@ -4,7 +4,7 @@ use Rattle.zone_graph.specs.Graph.{HasZone}
 use Rattle.market_model.specs.declared.refusal.Refusal.TheVariants as refusal
 use Rattle.market_model.specs.Certificate.{bound_of}
 use Rattle.market_model.specs.Entering.{name_of_next}
-use Rattle.book_lines.specs.BookOf.{book_of}
+use Rattle.laws_of_books.specs.BookOf.{book_of}
 use Rattle.hour_store.specs.Contents.{IsOfPart}
 use Rattle.kept_hour.specs.State.{undone}
 use Rattle.desk_entering.specs.Entries.{HasEnded, rest_record}

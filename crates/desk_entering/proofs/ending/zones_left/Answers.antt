@@ -4,7 +4,7 @@ use Rattle.zone_graph.specs.declared.route.Arc.{Arc}
 use Rattle.zone_graph.specs.Graph.{HasArc, IsGraph}
 use Rattle.zone_graph.specs.Rooms.{room_of}
 use Rattle.market_model.specs.Room.{room}
-use Rattle.board_laws.proofs.Shared.{board-graph}
+use Rattle.laws_of_boards.proofs.Shared.{board-graph}
 use Rattle.desk_entering.proofs.Certified.{ok-then, reach-by}
 use Rattle.desk_entering.proofs.ending.zones_left.Goals as goal
 

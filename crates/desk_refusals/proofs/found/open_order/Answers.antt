@@ -1,7 +1,7 @@
 use Rattle.std.proofs.Common.{◌∙◌, ap}
 use Rattle.contract_book.specs.Book.{order_of}
-use Rattle.book_lines.specs.BookOf.{book_of}
-use Rattle.hour_changes.specs.OrderEvents.{without_hand}
+use Rattle.laws_of_books.specs.BookOf.{book_of}
+use Rattle.laws_of_hours.specs.OrderEvents.{without_hand}
 use Rattle.kept_hour.specs.State.{name_in}
 use Rattle.desk_refusals.proofs.Books.{found-number, order-found}
 use Rattle.desk_refusals.proofs.found.open_order.Goals as goal

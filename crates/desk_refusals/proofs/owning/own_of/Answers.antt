@@ -1,6 +1,6 @@
 use Rattle.std.proofs.Common.{◌≡◌, ◌∙◌, ap, IfSome, None, Some, Option, subst, sym}
 use Rattle.contract_book.specs.Book.{order_of}
-use Rattle.book_lines.specs.BookOf.{book_of}
+use Rattle.laws_of_books.specs.BookOf.{book_of}
 use Rattle.hour_store.specs.Contents.{IsOfPart}
 use Rattle.kept_hour.specs.State.{name_in}
 use Rattle.market_model.specs.Orders.{open_order}

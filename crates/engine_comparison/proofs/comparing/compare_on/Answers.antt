@@ -1,4 +1,4 @@
-use Rattle.text_grammar.proofs.Grids.{sessions-make-grids}
+use Rattle.laws_of_texts.proofs.Grids.{sessions-make-grids}
 use Rattle.engine_comparison.proofs.comparing.compare_on.Goals as goal
 
 -- a session that is read makes a grid

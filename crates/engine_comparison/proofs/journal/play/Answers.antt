@@ -9,8 +9,8 @@ use Rattle.market_model.specs.History.{enters, entered_count, events_of}
 use Rattle.market_model.specs.Market.{reply_to}
 use Rattle.market_model.specs.Naming.{IsEntryIn, IsReplyIn}
 use Rattle.session_journal.proofs.Journals.{IsNextEntry, IsPlayed, nothing-played, played-history, played-more}
-use Rattle.market_laws.proofs.ReplyEntries.{reply-enters-few}
-use Rattle.market_laws.proofs.ReplyNames.{reply-names}
+use Rattle.laws_of_market.proofs.ReplyEntries.{reply-enters-few}
+use Rattle.laws_of_market.proofs.ReplyNames.{reply-names}
 use Rattle.session_journal.proofs.Turns.{CountsTurns, CountsTurns-more, CountsTurns-none, turn_left}
 use Rattle.engine_comparison.proofs.journal.play.Goals as goal
 

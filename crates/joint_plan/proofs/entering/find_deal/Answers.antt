@@ -4,7 +4,7 @@ use Rattle.zone_graph.specs.Graph.{HasZone}
 use Rattle.zone_graph.specs.Rooms.{room_of}
 use Rattle.zone_graph.specs.Route.{IsIn}
 use Rattle.block_book.specs.declared.block.RestingBlock.{RestingBlock}
-use Rattle.book_lines.specs.BlocksOf.{blocks_of, entered_resting_block}
+use Rattle.laws_of_books.specs.BlocksOf.{blocks_of, entered_resting_block}
 use Rattle.block_match.specs.Deals.{deal_of_block}
 use Rattle.market_model.specs.declared.event.Event.{Event}
 use Rattle.market_model.specs.Orders.{next_name}

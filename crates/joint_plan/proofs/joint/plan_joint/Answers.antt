@@ -1,8 +1,8 @@
 use Rattle.std.proofs.Common.{◌∙◌, List, ap, subst, sym}
 use Rattle.market_model.specs.History.{events_of, journal_events}
 use Rattle.hour_desk.specs.Desk.{DeskState}
-use Rattle.certified_maximum.specs.Unfilled.{IsUnfilledOrder}
-use Rattle.certified_maximum.proofs.Certified.{unfilled_certified}
+use Rattle.laws_of_maximum.specs.Unfilled.{IsUnfilledOrder}
+use Rattle.laws_of_maximum.proofs.Certified.{unfilled_certified}
 use Rattle.joint_plan.specs.Rows.{AreAsked, IsHistoryOf, dropped, planning_all}
 use Rattle.joint_plan.proofs.Dropped.{asked-dropped, journal-dropped, planning-dropped, twice-dropped}
 use Rattle.joint_plan.proofs.Histories.{journal-history}

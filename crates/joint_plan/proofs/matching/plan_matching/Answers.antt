@@ -3,7 +3,7 @@ use Rattle.block_match.specs.declared.deal.BlockDeal.{BlockDeal}
 use Rattle.market_model.specs.declared.command.Command.TheVariants as command
 use Rattle.hour_desk.specs.Desk.{planning, with_nothing_planned}
 use Rattle.hour_desk.specs.Shared.{then_swept}
-use Rattle.joint_laws.specs.MatchingBlocks.{legs_of}
+use Rattle.laws_of_joint_commands.specs.MatchingBlocks.{legs_of}
 use Rattle.joint_plan.specs.Rows.{dropped}
 use Rattle.joint_plan.proofs.Asked.{asked-hours}
 use Rattle.joint_plan.proofs.AskedPeriods.{closed-alone, period-can, period-some}

@@ -1,5 +1,5 @@
 use Rattle.std.proofs.Common.{◌≡◌, length, take}
-use Rattle.joint_laws.specs.MatchingBlocks.{legs_of}
+use Rattle.laws_of_joint_commands.specs.MatchingBlocks.{legs_of}
 use Rattle.joint_plan.proofs.parts.legs_in.Given as goal
 
 abbrev pub invariant-loop-deal : goal.invariant-loop-deal

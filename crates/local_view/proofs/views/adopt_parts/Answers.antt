@@ -1,7 +1,7 @@
 use Rattle.std.proofs.Common.{subst, arith}
 use Rattle.local_view.specs.Kept.{IsSized, no_part, part_adopted}
 use Rattle.local_view.proofs.Parts.{sized_set, there_at}
-use Rattle.view_laws.proofs.Places.{set-next}
+use Rattle.laws_of_rows.proofs.Places.{set-next}
 use Rattle.local_view.proofs.views.adopt_parts.Goals as goal
 
 pub loop-part-preserved : goal.loop-part-preserved

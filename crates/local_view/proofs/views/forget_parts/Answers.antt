@@ -1,5 +1,5 @@
 use Rattle.local_view.specs.Kept.{part_forgotten}
-use Rattle.view_laws.proofs.Places.{set-next}
+use Rattle.laws_of_rows.proofs.Places.{set-next}
 use Rattle.local_view.proofs.views.forget_parts.Goals as goal
 
 pub loop-part-preserved : goal.loop-part-preserved

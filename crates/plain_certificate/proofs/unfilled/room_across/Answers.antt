@@ -4,7 +4,7 @@ use Rattle.zone_graph.specs.Rooms.{room_of}
 use Rattle.market_model.specs.Room.{room}
 use Rattle.cut_proof.specs.Cut.{crossing_room}
 use Rattle.plain_certificate.proofs.Reaches.{across-most}
-use Rattle.certified_maximum.proofs.SameRooms.{across-same}
+use Rattle.laws_of_maximum.proofs.SameRooms.{across-same}
 use Rattle.plain_certificate.proofs.unfilled.room_across.Goals as goal
 
 pub returns-clause-room : goal.returns-clause-room

@@ -4,7 +4,7 @@ use Rattle.zone_graph.specs.Rooms.{room_of}
 use Rattle.market_model.specs.Room.{room}
 use Rattle.cut_proof.specs.Cut.{reached_zones}
 use Rattle.plain_capacity.proofs.RoomLemmas.{said_again}
-use Rattle.certified_maximum.proofs.SameRooms.{reach-same}
+use Rattle.laws_of_maximum.proofs.SameRooms.{reach-same}
 use Rattle.plain_certificate.proofs.unfilled.zones_in_reach.Goals as goal
 
 pub returns-clause-zones : goal.returns-clause-zones

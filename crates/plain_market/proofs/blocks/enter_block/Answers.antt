@@ -1,6 +1,6 @@
 use Rattle.std.proofs.Common.{◌∙◌, sym, ap, subst, arith}
 use Rattle.zone_graph.specs.Graph.{IsGraph}
-use Rattle.market_laws.proofs.Names.{entered_in-few}
+use Rattle.laws_of_market.proofs.Names.{entered_in-few}
 use Rattle.plain_market.proofs.BlockEntries.{dealt-legal, desk_answer, entered-is, stays-answer}
 use Rattle.plain_market.proofs.blocks.enter_block.Goals as goal
 

@@ -7,7 +7,7 @@ use Rattle.market_model.specs.Rules.{basket_is_good}
 use Rattle.market_model.specs.LetIn.{IsLetIn}
 use Rattle.plain_entering.specs.Entering.{CanEnter}
 use Rattle.plain_market.proofs.Admitting.{basket-done, basket-enters, basket-good, block-done, block-enters, no_entry-history, order-done, order-enters}
-use Rattle.market_laws.proofs.Admitting.{is-no_entry}
+use Rattle.laws_of_market.proofs.Admitting.{is-no_entry}
 use Rattle.plain_market.proofs.replying.carry_out.Goals as goal
 
 pub enter-requires-clause-can : goal.enter-requires-clause-can

@@ -1,7 +1,7 @@
 use Rattle.std.proofs.Common.{◌∙◌, refl, sym, ap}
 use Rattle.market_model.specs.StateRules.{state_refusal}
-use Rattle.market_laws.proofs.Admitting.{early-none, early-some, state-some}
-use Rattle.market_laws.proofs.Answered.{Answers, refused}
+use Rattle.laws_of_market.proofs.Admitting.{early-none, early-some, state-some}
+use Rattle.laws_of_market.proofs.Answered.{Answers, refused}
 use Rattle.plain_market.proofs.replying.reply_and_append.Goals as goal
 use Rattle.market_model.specs.declared.reply.Reply.TheVariants as reply
 

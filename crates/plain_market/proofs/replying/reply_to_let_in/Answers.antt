@@ -3,8 +3,8 @@ use Rattle.zone_graph.specs.Graph.{Graph, HasZone}
 use Rattle.market_model.specs.declared.reply.Reply.TheVariants as reply
 use Rattle.market_model.specs.View.{view}
 use Rattle.market_model.specs.LetIn.{IsLetIn}
-use Rattle.market_laws.proofs.Admitting.{view-named}
-use Rattle.market_laws.proofs.Answered.{done, refused_late, seen}
+use Rattle.laws_of_market.proofs.Admitting.{view-named}
+use Rattle.laws_of_market.proofs.Answered.{done, refused_late, seen}
 use Rattle.plain_market.proofs.replying.reply_to_let_in.Goals as goal
 
 pub view-requires-clause-part : goal.view-requires-clause-part

@@ -3,7 +3,7 @@ use Rattle.std.proofs.lemmas.List.{take_all}
 use Rattle.std.specs.List.{filter_map}
 use Rattle.std.specs.Vec.{vec_len}
 use Rattle.market_model.specs.Orders.{is_open, name_given}
-use Rattle.market_laws.proofs.Changes.{withdrawn}
+use Rattle.laws_of_market.proofs.Changes.{withdrawn}
 use Rattle.plain_orders.proofs.Listing.{filtered-listed-more, filtered-same, listed-same, name-at, told-at}
 use Rattle.plain_orders.proofs.Near.{near-at, near-names}
 use Rattle.plain_orders.proofs.hour.withdrawals.Goals as goal

@@ -5,7 +5,7 @@ use Rattle.std.specs.Ordering.{is_lt}
 use Rattle.market_model.specs.Lines.{priority_cmp}
 use Rattle.market_model.specs.Orders.{Standing}
 use Rattle.plain_orders.specs.Listed.{is_in_line}
-use Rattle.market_laws.proofs.Lines.{priority_weak}
+use Rattle.laws_of_market.proofs.Lines.{priority_weak}
 use Rattle.plain_orders.proofs.Stable.{sorted-in_order}
 use Rattle.plain_orders.proofs.lines.line.Goals as goal
 use Rattle.zone_graph.specs.InOrder.{in_order}

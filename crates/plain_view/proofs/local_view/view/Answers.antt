@@ -1,9 +1,9 @@
 use Rattle.std.proofs.Common.{◌≡◌, ◌∙◌, IfOk, map, sym, ap, subst}
 use Rattle.market_model.specs.Lines.{line}
-use Rattle.view_laws.specs.Depth.{AreInZones, depth_of, maker_of}
-use Rattle.view_laws.specs.Filled.{AreRowsFilled, row_in}
+use Rattle.laws_of_rows.specs.Depth.{AreInZones, depth_of, maker_of}
+use Rattle.laws_of_rows.specs.Filled.{AreRowsFilled, row_in}
 use Rattle.plain_view.proofs.Made.{makers-made}
-use Rattle.view_laws.proofs.Views.{fit-together, makers-in_zones, view-is}
+use Rattle.laws_of_rows.proofs.Views.{fit-together, makers-in_zones, view-is}
 use Rattle.plain_view.proofs.local_view.view.Goals as goal
 
 -- the makers are those of the line

@@ -1,5 +1,5 @@
 use Rattle.std.proofs.Common.{◌≡◌, map, take}
-use Rattle.view_laws.specs.Depth.{maker_of}
+use Rattle.laws_of_rows.specs.Depth.{maker_of}
 use Rattle.plain_view.proofs.maker.makers_of.Given as goal
 
 -- the makers of the orders so far

@@ -1,5 +1,5 @@
-use Rattle.view_laws.specs.Depth.{taken_of}
-use Rattle.view_laws.proofs.Places.{set-next}
+use Rattle.laws_of_rows.specs.Depth.{taken_of}
+use Rattle.laws_of_rows.proofs.Places.{set-next}
 use Rattle.plain_view.proofs.maker.take_of.Goals as goal
 
 pub loop-maker-preserved : goal.loop-maker-preserved

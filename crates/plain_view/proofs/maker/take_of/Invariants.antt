@@ -1,5 +1,5 @@
 use Rattle.std.proofs.Common.{◌≡◌, ◌++◌, drop, map, take}
-use Rattle.view_laws.specs.Depth.{taken_of}
+use Rattle.laws_of_rows.specs.Depth.{taken_of}
 use Rattle.plain_view.proofs.maker.take_of.Given as goal
 
 -- lots are taken of the makers so far that bear the name

@@ -1,7 +1,7 @@
 use Rattle.std.proofs.Common.{get_or, pos}
-use Rattle.view_laws.specs.declared.trades.MakerRow.{MakerRow}
-use Rattle.view_laws.specs.Filled.{with_lots}
-use Rattle.view_laws.proofs.Places.{at-now-in, set-next}
+use Rattle.laws_of_rows.specs.declared.trades.MakerRow.{MakerRow}
+use Rattle.laws_of_rows.specs.Filled.{with_lots}
+use Rattle.laws_of_rows.proofs.Places.{at-now-in, set-next}
 use Rattle.plain_view.proofs.rows.add_lots.Goals as goal
 
 -- what stands for a row that is not there

@@ -1,5 +1,5 @@
 use Rattle.std.proofs.Common.{◌≡◌, ◌++◌, drop, map, take}
-use Rattle.view_laws.specs.Filled.{with_lots}
+use Rattle.laws_of_rows.specs.Filled.{with_lots}
 use Rattle.plain_view.proofs.rows.add_lots.Given as goal
 
 -- the lots are added to the rows so far that are the maker's

@@ -2,8 +2,8 @@ use Rattle.std.proofs.Common.{◌≡◌, length}
 use Rattle.zone_graph.specs.Graph.{border_count}
 use Rattle.zone_graph.specs.Rooms.{room_of}
 use Rattle.route_carrying.specs.Carrying.{FitTogether}
-use Rattle.view_laws.specs.Depth.{AreInZones, depth_of}
-use Rattle.view_laws.proofs.Fills.{IsSoFar}
+use Rattle.laws_of_rows.specs.Depth.{AreInZones, depth_of}
+use Rattle.laws_of_rows.proofs.Fills.{IsSoFar}
 use Rattle.plain_view.proofs.rows.rows_filled.Given as goal
 
 -- the rows are those of the first trades, and what the makers show, the rooms and what is left are

@@ -1,5 +1,5 @@
 use Rattle.std.proofs.Common.{◌≡◌, map, take}
-use Rattle.view_laws.specs.Filled.{row_in}
+use Rattle.laws_of_rows.specs.Filled.{row_in}
 use Rattle.plain_view.proofs.rows.rows_of.Given as goal
 
 -- the rows so far

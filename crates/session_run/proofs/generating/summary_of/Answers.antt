@@ -1,7 +1,7 @@
 use Rattle.std.proofs.Common.{◌≡◌, ◌∙◌, Err, subst}
 use Rattle.load_maker.specs.Session.{session_text}
 use Rattle.market_text.specs.Text.{session_of_text}
-use Rattle.text_grammar.proofs.Grids.{sessions-make-grids}
+use Rattle.laws_of_texts.proofs.Grids.{sessions-make-grids}
 use Rattle.session_run.proofs.Generated.{no-bad-line}
 use Rattle.session_run.proofs.generating.summary_of.Goals as goal
 

@@ -1,4 +1,4 @@
-use Rattle.text_grammar.proofs.Grids.{sessions-make-grids}
+use Rattle.laws_of_texts.proofs.Grids.{sessions-make-grids}
 use Rattle.session_run.proofs.sessions.session_from.Goals as goal
 
 -- a session that is read makes a grid

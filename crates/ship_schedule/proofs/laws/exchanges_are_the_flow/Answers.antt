@@ -3,7 +3,7 @@ use Rattle.zone_graph.specs.Pour.{opposite_arc}
 use Rattle.market_model.specs.Capacity.{offered}
 use Rattle.market_model.specs.HistoryLaws.{history_of}
 use Rattle.market_model.specs.Sweep.{all_parts}
-use Rattle.market_laws.proofs.Journals.{run-history}
+use Rattle.laws_of_market.proofs.Journals.{run-history}
 use Rattle.ship_schedule.specs.Schedule.{forward_arc}
 use Rattle.ship_schedule.proofs.Flows.{exchange-flow, flow-offered}
 use Rattle.ship_schedule.proofs.laws.exchanges_are_the_flow.Goals as goal

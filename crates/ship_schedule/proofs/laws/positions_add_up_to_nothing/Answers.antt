@@ -1,6 +1,6 @@
 use Rattle.market_model.specs.HistoryLaws.{history_of}
 use Rattle.market_model.specs.Sweep.{all_parts}
-use Rattle.market_laws.proofs.Journals.{run-history}
+use Rattle.laws_of_market.proofs.Journals.{run-history}
 use Rattle.ship_schedule.proofs.Positions.{positions-nothing}
 use Rattle.ship_schedule.proofs.laws.positions_add_up_to_nothing.Goals as goal
 

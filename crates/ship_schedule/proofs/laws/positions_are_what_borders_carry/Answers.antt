@@ -1,6 +1,6 @@
 use Rattle.market_model.specs.HistoryLaws.{history_of}
 use Rattle.market_model.specs.Sweep.{all_parts}
-use Rattle.market_laws.proofs.Journals.{run-history}
+use Rattle.laws_of_market.proofs.Journals.{run-history}
 use Rattle.ship_schedule.proofs.Positions.{position-carried}
 use Rattle.ship_schedule.proofs.laws.positions_are_what_borders_carry.Goals as goal
 

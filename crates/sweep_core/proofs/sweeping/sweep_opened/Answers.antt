@@ -1,7 +1,7 @@
 use Rattle.std.proofs.Common.{◌∙◌, ◌<◌, Result, Ok, Err, OnErr, IfSome, refl, sym, ap, subst}
 use Rattle.std.specs.Option.{option_map}
 use Rattle.market_model.specs.Sweep.{left_in_hour}
-use Rattle.board_laws.proofs.Legs.{lower}
+use Rattle.laws_of_boards.proofs.Legs.{lower}
 use Rattle.sweep_core.specs.Sweeping.{IsNext, IsSweptInPart, IsToBeSwept, OthersAreQuiet, leg_event}
 use Rattle.sweep_core.proofs.Progress.{IsUnderWay, begun, can-be-made, ended, in-part, nothing-trades, one_more}
 use Rattle.sweep_core.proofs.Opening.{quiet-after}

@@ -1,5 +1,0 @@
-use Rattle.book_lines.proofs.EnteredAndWithdrawn.{book-withdrawn}
-use Rattle.book_lines.proofs.block_changes.withdrawn_blocks_leave.Goals as goal
-
-pub returns : goal.returns
-returns c = λ setup events name lots fit fits. book-withdrawn setup events fit name lots fits

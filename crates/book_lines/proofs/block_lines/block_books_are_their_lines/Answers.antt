@@ -1,5 +1,0 @@
-use Rattle.book_lines.proofs.WholeBlockBooks.{lines-are}
-use Rattle.book_lines.proofs.block_lines.block_books_are_their_lines.Goals as goal
-
-pub returns : goal.returns
-returns c = λ setup events first last side fit. lines-are setup events fit first last side

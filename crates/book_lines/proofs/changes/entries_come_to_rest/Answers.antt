@@ -1,5 +1,0 @@
-use Rattle.book_lines.proofs.ComesToRest.{book-entered}
-use Rattle.book_lines.proofs.changes.entries_come_to_rest.Goals as goal
-
-pub returns : goal.returns
-returns c = λ setup events name caller order fit fits. book-entered setup events fit name caller order fits

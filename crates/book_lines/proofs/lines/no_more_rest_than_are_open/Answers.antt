@@ -1,5 +1,0 @@
-use Rattle.book_lines.proofs.WholeBooks.{few-in_book}
-use Rattle.book_lines.proofs.lines.no_more_rest_than_are_open.Goals as goal
-
-pub returns : goal.returns
-returns c = λ setup events hour fit. few-in_book setup events fit hour

@@ -1,5 +1,0 @@
-use Rattle.book_lines.proofs.FoundOrders.{order-found}
-use Rattle.book_lines.proofs.lines.open_orders_are_found.Goals as goal
-
-pub returns : goal.returns
-returns c = λ setup events name fit. order-found setup events fit name

@@ -1,5 +1,0 @@
-use Rattle.certified_maximum.proofs.Shortfall.{stops_short}
-use Rattle.certified_maximum.proofs.examples.falling_iceberg_stops_short.Goals as goal
-
-pub returns : goal.returns
-returns c = stops_short

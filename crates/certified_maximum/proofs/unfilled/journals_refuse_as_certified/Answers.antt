@@ -1,5 +1,0 @@
-use Rattle.certified_maximum.proofs.Entries.{journals_certified}
-use Rattle.certified_maximum.proofs.unfilled.journals_refuse_as_certified.Goals as goal
-
-pub returns : goal.returns
-returns c = journals_certified

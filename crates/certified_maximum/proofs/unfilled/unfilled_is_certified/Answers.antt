@@ -1,5 +1,0 @@
-use Rattle.certified_maximum.proofs.Certified.{unfilled_certified}
-use Rattle.certified_maximum.proofs.unfilled.unfilled_is_certified.Goals as goal
-
-pub returns : goal.returns
-returns c = unfilled_certified

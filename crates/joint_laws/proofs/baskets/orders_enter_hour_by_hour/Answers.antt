@@ -1,5 +1,0 @@
-use Rattle.joint_laws.proofs.BasketHours.{enter_by_hour}
-use Rattle.joint_laws.proofs.baskets.orders_enter_hour_by_hour.Goals as goal
-
-pub returns : goal.returns
-returns c = enter_by_hour

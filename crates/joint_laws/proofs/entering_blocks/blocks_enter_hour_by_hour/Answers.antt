@@ -1,5 +1,0 @@
-use Rattle.joint_laws.proofs.EnteredBlocks.{enter_by_hour}
-use Rattle.joint_laws.proofs.entering_blocks.blocks_enter_hour_by_hour.Goals as goal
-
-pub returns : goal.returns
-returns c = enter_by_hour

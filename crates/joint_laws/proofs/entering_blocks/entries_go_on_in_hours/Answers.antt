@@ -1,5 +1,0 @@
-use Rattle.joint_laws.proofs.EnteredBlocks.{go_on_in_hours}
-use Rattle.joint_laws.proofs.entering_blocks.entries_go_on_in_hours.Goals as goal
-
-pub returns : goal.returns
-returns c = go_on_in_hours

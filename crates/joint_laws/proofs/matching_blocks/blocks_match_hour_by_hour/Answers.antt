@@ -1,5 +1,0 @@
-use Rattle.joint_laws.proofs.PeriodDeals.{match_by_hour}
-use Rattle.joint_laws.proofs.matching_blocks.blocks_match_hour_by_hour.Goals as goal
-
-pub returns : goal.returns
-returns c = match_by_hour

@@ -1,5 +1,0 @@
-use Rattle.joint_laws.proofs.PeriodDeals.{match_of_hour}
-use Rattle.joint_laws.proofs.matching_blocks.matches_of_an_hour.Goals as goal
-
-pub returns : goal.returns
-returns c = match_of_hour

@@ -1,5 +1,0 @@
-use Rattle.joint_laws.proofs.PeriodDeals.{deals_go_on}
-use Rattle.joint_laws.proofs.matching_blocks.period_deals_go_on_in_hours.Goals as goal
-
-pub returns : goal.returns
-returns c = deals_go_on

@@ -1,5 +1,0 @@
-use Rattle.joint_laws.proofs.LeastRooms.{least_of_hours}
-use Rattle.joint_laws.proofs.period_rooms.period_rooms_are_the_least_of_hours.Goals as goal
-
-pub returns : goal.returns
-returns c = least_of_hours

@@ -1,5 +1,0 @@
-use Rattle.joint_laws.proofs.SharedEvents.{of_hour_shared}
-use Rattle.joint_laws.proofs.ranges.shared_events_of_an_hour.Goals as goal
-
-pub returns : goal.returns
-returns c = of_hour_shared

@@ -1,0 +1,5 @@
+use Rattle.laws_of_joint_commands.proofs.EnteredBlocks.{enter_by_hour}
+use Rattle.laws_of_joint_commands.proofs.entering_blocks.blocks_enter_hour_by_hour.Goals as goal
+
+pub returns : goal.returns
+returns c = enter_by_hour

@@ -1,5 +1,0 @@
-use Rattle.line_fronts.proofs.Stays.{roomy-quiet}
-use Rattle.line_fronts.proofs.quiet.events_stay_quiet_where_there_was_room.Goals as goal
-
-pub returns : goal.returns
-returns c = roomy-quiet

@@ -1,5 +1,0 @@
-use Rattle.market_laws.proofs.MomentsDiffer.{moments-differ}
-use Rattle.market_laws.proofs.bounds.moments_differ.Goals as goal
-
-pub returns : goal.returns
-returns c = λ setup events one other history. moments-differ setup events history.fit one other

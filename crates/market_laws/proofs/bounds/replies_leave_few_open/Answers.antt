@@ -1,5 +1,0 @@
-use Rattle.market_laws.proofs.HoursAlone.{few-reply}
-use Rattle.market_laws.proofs.bounds.replies_leave_few_open.Goals as goal
-
-pub returns : goal.returns
-returns c = λ setup parts events caller given is_setup history few. few-reply setup is_setup parts events caller given history few

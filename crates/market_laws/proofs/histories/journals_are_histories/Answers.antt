@@ -1,5 +1,0 @@
-use Rattle.market_laws.proofs.Journals.{run-history}
-use Rattle.market_laws.proofs.histories.journals_are_histories.Goals as goal
-
-pub returns : goal.returns
-returns c = λ setup parts turns is_setup. run-history setup is_setup parts turns

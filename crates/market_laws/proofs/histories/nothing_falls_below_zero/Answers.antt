@@ -1,5 +1,0 @@
-use Rattle.market_laws.proofs.Balances.{left-filled-taken_off}
-use Rattle.market_laws.proofs.histories.nothing_falls_below_zero.Goals as goal
-
-pub returns : goal.returns
-returns c = λ setup events name history. left-filled-taken_off setup events history.fit name

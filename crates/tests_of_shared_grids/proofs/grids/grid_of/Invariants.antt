@@ -1,0 +1,6 @@
+use Rattle.std.proofs.Common.{◌≡◌, length}
+use Rattle.tests_of_shared_grids.proofs.grids.grid_of.Given as goal
+
+-- a name for each zone so far
+abbrev pub invariant-loop-zone : goal.invariant-loop-zone
+invariant-loop-zone l = length l.names ≡ l.zone

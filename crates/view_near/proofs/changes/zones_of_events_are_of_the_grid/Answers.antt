@@ -1,5 +1,0 @@
-use Rattle.view_near.proofs.Differing.{grid_zones}
-use Rattle.view_near.proofs.changes.zones_of_events_are_of_the_grid.Goals as goal
-
-pub returns : goal.returns
-returns c = grid_zones

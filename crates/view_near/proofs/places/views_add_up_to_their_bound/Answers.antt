@@ -1,5 +1,0 @@
-use Rattle.view_near.proofs.Viewed.{add_up}
-use Rattle.view_near.proofs.places.views_add_up_to_their_bound.Goals as goal
-
-pub returns : goal.returns
-returns c = add_up
