@@ -6,7 +6,7 @@ ghost use Rattle.zone_graph.specs.Rooms.{room_of};
 ghost use Rattle.block_match.specs.Deals as deals;
 ghost use Rattle.block_match.specs.Meeting as meeting;
 ghost use Rattle.block_match.specs.Walking as walking;
-ghost use Rattle.route_carrying.specs.Carrying.{FitTogether};
+ghost use Rattle.cut_proof.specs.Carrying.{FitTogether};
 
 use crate::deal::{BlockDeal, deal_over, is_earlier};
 use crate::partner::{Partner, partner_of};

@@ -9,7 +9,7 @@ ghost use Rattle.block_book.specs.declared.block.RestingBlock.{RestingBlock as B
 ghost use Rattle.block_book.specs.Book as books;
 ghost use Rattle.block_match.specs.Meeting as meeting;
 ghost use Rattle.block_match.specs.Walking as walking;
-ghost use Rattle.route_carrying.specs.Carrying.{FitTogether};
+ghost use Rattle.cut_proof.specs.Carrying.{FitTogether};
 
 use crate::pouring::pour_whole;
 use block_book::{BlockBook, RestingBlock};

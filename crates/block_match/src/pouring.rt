@@ -6,7 +6,7 @@ ghost use Rattle.zone_graph.specs.Graph.{HasZone, border_count};
 ghost use Rattle.zone_graph.specs.Grid.{IsGrid};
 ghost use Rattle.zone_graph.specs.Rooms.{room_of};
 ghost use Rattle.block_match.specs.Meeting as meeting;
-ghost use Rattle.route_carrying.specs.Carrying.{FitTogether};
+ghost use Rattle.cut_proof.specs.Carrying.{FitTogether};
 ghost use Rattle.route_choice.specs.Poured.{lots_of};
 
 use block_book::RestingBlock;

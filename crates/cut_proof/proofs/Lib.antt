@@ -1,3 +1,6 @@
+pub mod Nearest
+pub mod Neighbours
+pub mod Searches
 pub mod ArcSums
 pub mod Bounds
 pub mod Crossing
@@ -6,3 +9,4 @@ pub mod Reaching
 pub mod SameRooms
 pub mod Ways
 pub mod ZoneSets
+pub mod Carrying

@@ -12,8 +12,8 @@ use Rattle.zone_graph.specs.Route.{IsWay}
 use Rattle.zone_graph.proofs.Membership.{from_filter, from_range}
 use Rattle.zone_graph.proofs.Arcs.{opposite-start, opposite-end, opposite-twice}
 use Rattle.zone_graph.proofs.Places.{at_place}
-use Rattle.zone_search.specs.Distance.{AreDistances, arcs_of_distance, directed_room, distance_at}
-use Rattle.zone_search.proofs.Nearest.{way_reached}
+use Rattle.cut_proof.specs.Distance.{AreDistances, arcs_of_distance, directed_room, distance_at}
+use Rattle.cut_proof.proofs.Nearest.{way_reached}
 use Rattle.cut_proof.specs.Cut.{reached_zones, reaches_in}
 use Rattle.cut_proof.proofs.ArcSums.{range_more}
 use Rattle.cut_proof.proofs.ReachLaws.{reaches-way, way-reaches}

@@ -1,2 +1,4 @@
+pub mod Distance
 pub mod Cut
 pub mod ZoneSet
+pub mod Carrying

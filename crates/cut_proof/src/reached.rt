@@ -5,9 +5,9 @@ ghost use Rattle.zone_graph.specs.Graph.{HasZone, border_count};
 ghost use Rattle.zone_graph.specs.Rooms.{room_of};
 ghost use Rattle.cut_proof.specs.Cut.{reached_zones};
 
+use crate::distances;
 use std::alloc::Global;
 use zone_graph::{Grid, NoMemory, Rooms, Zones};
-use zone_search::distances;
 
 /// The zones from which a route over arcs with room leads to a zone (`towards`), or those to which
 /// one leads from it (not `towards`), by ascending number. The zone itself is among them.

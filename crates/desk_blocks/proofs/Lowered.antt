@@ -12,8 +12,8 @@ use Rattle.zone_graph.specs.Route.{IsIn}
 use Rattle.zone_graph.proofs.Arcs.{opposite-twice}
 use Rattle.zone_graph.proofs.Membership.{IsIn-flat_map, IsIn-range}
 use Rattle.cut_proof.proofs.Ways.{way_has_arc}
-use Rattle.route_carrying.specs.Carrying.{CanCarry, FitTogether}
-use Rattle.route_carrying.proofs.Carrying.{can_carry-keep, route_can_carry}
+use Rattle.cut_proof.specs.Carrying.{CanCarry, FitTogether}
+use Rattle.cut_proof.proofs.Carrying.{can_carry-keep, route_can_carry}
 use Rattle.route_choice.specs.Poured.{rooms_after}
 use Rattle.block_match.specs.declared.deal.BlockDeal.{BlockDeal}
 use Rattle.block_match.specs.Market.{leg_event, rooms_over}

@@ -21,7 +21,7 @@ use Rattle.market_model.specs.declared.event.Event.{Event}
 use Rattle.market_model.specs.declared.event.Event.TheVariants as event
 use Rattle.market_model.specs.Board.{IsHourOf}
 use Rattle.laws_of_market.proofs.Uses.{room-le}
-use Rattle.laws_of_lines.specs.Quiet.{IsAside}
+use Rattle.laws_of_boards.specs.Quiet.{IsAside}
 use Rattle.laws_of_joint_commands.specs.PeriodRooms.{hour_room}
 use Rattle.desk_changes.specs.Quiet.{HasNoLeg}
 use Rattle.desk_blocks.specs.Openings.{is_shut_back, may_open, opens}

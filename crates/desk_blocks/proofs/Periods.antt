@@ -11,7 +11,7 @@ use Rattle.zone_graph.specs.Graph.{Graph, HasArc, HasZone, IsGraph, border_count
 use Rattle.zone_graph.specs.Rooms.{room_of}
 use Rattle.zone_graph.specs.Route.{IsIn}
 use Rattle.zone_graph.proofs.Membership.{has-IsIn}
-use Rattle.route_carrying.specs.Carrying.{FitTogether}
+use Rattle.cut_proof.specs.Carrying.{FitTogether}
 use Rattle.route_choice.specs.Poured.{rooms_after}
 use Rattle.laws_of_books.specs.BlocksOf.{blocks_of}
 use Rattle.laws_of_books.proofs.MarketBooks.{from-book}

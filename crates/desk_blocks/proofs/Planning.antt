@@ -3,7 +3,7 @@ use Rattle.std.proofs.Common.{◌≡◌, ◌∙◌, ℕ, [], ◌∷◌, ◌++◌
 use Rattle.std.proofs.lemmas.List.{append-nil}
 use Rattle.market_model.specs.declared.event.Event.{Event}
 use Rattle.market_model.specs.Board.{with_events}
-use Rattle.laws_of_desks.specs.Settled.{IsSettled}
+use Rattle.laws_of_boards.specs.Settled.{IsSettled}
 use Rattle.sweep_core.specs.Sweeping.{swept}
 use Rattle.block_match.specs.declared.deal.BlockDeal.{BlockDeal}
 use Rattle.block_match.specs.Market.{deal_events}

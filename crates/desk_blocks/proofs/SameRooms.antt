@@ -13,7 +13,7 @@ use Rattle.zone_graph.specs.Route.{best_route, carried}
 use Rattle.zone_graph.specs.Route.{IsIn}
 use Rattle.zone_graph.proofs.BestRoute.{best_route-is, best_route-rooms}
 use Rattle.cut_proof.proofs.Ways.{way_has_arc}
-use Rattle.route_carrying.proofs.Carrying.{carried-rooms}
+use Rattle.cut_proof.proofs.Carrying.{carried-rooms}
 use Rattle.route_choice.specs.Poured.{lots_of}
 use Rattle.route_choice.proofs.Pours.{Poured, pour-run, runs_to_its_end}
 use Rattle.block_book.specs.declared.block.RestingBlock.{RestingBlock}

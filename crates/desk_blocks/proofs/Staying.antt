@@ -25,11 +25,11 @@ use Rattle.market_model.specs.Room.{least, quarter_room}
 use Rattle.market_model.specs.Sweep.{leg_in}
 use Rattle.laws_of_market.proofs.LocalLines.{line-agree}
 use Rattle.laws_of_market.proofs.LocalStates.{Agree, room-agree}
-use Rattle.laws_of_lines.specs.Fronts.{StandInFor}
-use Rattle.laws_of_lines.proofs.Unopened.{unopened}
-use Rattle.laws_of_lines.specs.Quiet.{IsAside, raises}
-use Rattle.laws_of_lines.proofs.Aside.{no_better, stand_as_before}
-use Rattle.laws_of_lines.proofs.Rises.{rise-alone}
+use Rattle.laws_of_boards.specs.Fronts.{StandInFor}
+use Rattle.laws_of_boards.proofs.Unopened.{unopened}
+use Rattle.laws_of_boards.specs.Quiet.{IsAside, raises}
+use Rattle.laws_of_boards.proofs.Aside.{no_better, stand_as_before}
+use Rattle.laws_of_boards.proofs.Rises.{rise-alone}
 use Rattle.laws_of_hours.specs.NextEvents.{IsNext}
 use Rattle.laws_of_hours.proofs.NextEvents.{after, agrees, before as before_it, next}
 use Rattle.desk_blocks.proofs.Hours.{first-follows, others-follow}

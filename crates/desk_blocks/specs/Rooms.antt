@@ -3,7 +3,7 @@ use Rattle.std.specs.Prelude.{ℕ, List, [], ◌∷◌}
 use Rattle.zone_graph.specs.declared.route.Arc.{Arc}
 use Rattle.zone_graph.specs.declared.route.RouteLeg.{RouteLeg}
 use Rattle.zone_graph.specs.Pour.{room_after}
-use Rattle.route_carrying.specs.Carrying.{CanCarry}
+use Rattle.cut_proof.specs.Carrying.{CanCarry}
 
 -- legs can be carried one after the other, each within the rooms that those before it leave
 abbrev pub CanCarryEach : (borders : ℕ) → (Arc → ℕ) → List RouteLeg → Type 0

@@ -3,7 +3,7 @@
 ghost use Rattle.std.specs.Prelude.{◌≡◌, ◌++◌, false, None, IfOk, OnErr, OnOk};
 ghost use Rattle.block_match.specs.Market.{deal_events};
 ghost use Rattle.desk_changes.specs.Quiet.{HasNoLeg};
-ghost use Rattle.laws_of_desks.specs.Settled.{IsSettled};
+ghost use Rattle.laws_of_boards.specs.Settled.{IsSettled};
 ghost use Rattle.laws_of_joint_commands.specs.EnteringBlocks.{AreClosed};
 ghost use Rattle.laws_of_joint_commands.specs.MatchingBlocks.{legs_of};
 ghost use Rattle.desk_changes.specs.Planned.{CanFollow, IsUnplanned, after_events, with_planned};

@@ -2,7 +2,7 @@
 
 ghost use Rattle.std.specs.Prelude.{◌≡◌, ◌-◌, ◌<◌, ◌^◌, None, Some, IfSome, OnErr, OnOk, length};
 ghost use Rattle.std.specs.Option.{option_copied};
-ghost use Rattle.laws_of_desks.specs.Settled.{IsSettled};
+ghost use Rattle.laws_of_boards.specs.Settled.{IsSettled};
 ghost use Rattle.desk_changes.specs.Kept.{names_given};
 ghost use Rattle.desk_changes.specs.Planned.{CanFollow, IsUnplanned, with_planned};
 ghost use Rattle.market_model.specs.Orders.{open_names};

@@ -2,7 +2,7 @@
 
 ghost use Rattle.std.specs.Prelude.{◌≡◌, false, None, IfOk, OnErr, length};
 ghost use Rattle.desk_changes.specs.Quiet.{HasNoLeg};
-ghost use Rattle.laws_of_desks.specs.Settled.{IsSettled};
+ghost use Rattle.laws_of_boards.specs.Settled.{IsSettled};
 ghost use Rattle.laws_of_joint_commands.specs.MatchingBlocks.{legs_of};
 ghost use Rattle.desk_changes.specs.Planned.{IsUnplanned, after_events, with_planned};
 ghost use Rattle.desk_changes.specs.State.{undone};

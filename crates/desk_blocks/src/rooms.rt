@@ -6,7 +6,7 @@ ghost use Rattle.zone_graph.specs.Rooms.{room_of};
 ghost use Rattle.route_choice.specs.Poured.{rooms_after};
 ghost use Rattle.desk_blocks.specs.Rooms.{CanCarryEach};
 
-use route_carrying::carry;
+use cut_proof::carry;
 use zone_graph::{Rooms, RouteLeg};
 
 /// Carries legs, one after the other: the rooms of their arcs fall, and those of the opposite ones rise.

@@ -22,7 +22,7 @@ use Rattle.laws_of_books.specs.BookOf.{book_of, contract_of, resting_line}
 use Rattle.laws_of_books.proofs.ChangedOrders.{hour_of}
 use Rattle.laws_of_books.proofs.LineOrders.{from_resting, same_names}
 use Rattle.laws_of_books.proofs.PartLines.{from_book, line_of-book}
-use Rattle.laws_of_desks.proofs.Fitting.{fits_in}
+use Rattle.laws_of_boards.proofs.Fitting.{fits_in}
 use Rattle.kept_hour.specs.Planned.{after_events}
 use Rattle.kept_hour.specs.State.{HourState, after_event, with_board, with_hand, withdrawal_of}
 use Rattle.desk_changes.specs.declared.still_open.StillOpen.{StillOpen}

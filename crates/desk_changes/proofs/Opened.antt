@@ -13,7 +13,7 @@ use Rattle.market_model.specs.declared.event.Event.{Event}
 use Rattle.market_model.specs.Board.{BoardState, IsHourOf}
 use Rattle.market_model.specs.History.{and_then}
 use Rattle.market_model.specs.Room.{room}
-use Rattle.laws_of_lines.specs.Quiet.{IsAside, raises}
+use Rattle.laws_of_boards.specs.Quiet.{IsAside, raises}
 use Rattle.sweep_core.specs.declared.part_set.PartSet.{PartSet}
 use Rattle.sweep_core.specs.Parts.{has_part}
 use Rattle.sweep_core.specs.Sweeping.{OthersAreQuiet}

@@ -11,7 +11,7 @@ use Rattle.market_model.specs.Market.{gate, withdrawals}
 use Rattle.market_model.specs.Sweep.{all_parts, sweep, sweeps}
 use Rattle.market_model.specs.WellFormed.{GrantFits, OfferFits}
 use Rattle.laws_of_hours.proofs.NextEvents.{next}
-use Rattle.laws_of_desks.specs.Settled.{IsSettled}
+use Rattle.laws_of_boards.specs.Settled.{IsSettled}
 use Rattle.sweep_core.specs.declared.part_set.PartSet.{PartSet}
 use Rattle.sweep_core.specs.Parts.{has_part}
 use Rattle.sweep_core.specs.Sweeping.{OthersAreQuiet}

@@ -16,9 +16,9 @@ use Rattle.market_model.specs.Room.{room}
 use Rattle.market_model.specs.Sweep.{all_parts, first_answer, leg_in, or_else, sweep, sweep_leg}
 use Rattle.laws_of_market.proofs.LocalLines.{contract-hours, sweep_leg-agree}
 use Rattle.laws_of_market.proofs.LocalStates.{Agree, room-agree}
-use Rattle.laws_of_lines.specs.Fronts.{OpensNoArc}
-use Rattle.laws_of_lines.specs.Quiet.{IsAside, raises}
-use Rattle.laws_of_lines.proofs.Stays.{unopened-quiet}
+use Rattle.laws_of_boards.specs.Fronts.{OpensNoArc}
+use Rattle.laws_of_boards.specs.Quiet.{IsAside, raises}
+use Rattle.laws_of_boards.proofs.Stays.{unopened-quiet}
 use Rattle.laws_of_hours.specs.NextEvents.{IsNext}
 use Rattle.laws_of_hours.proofs.NextEvents.{after, agrees, before, next}
 use Rattle.sweep_core.specs.Sweeping.{order_numbers, part_leg, swept}

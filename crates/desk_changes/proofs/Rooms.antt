@@ -17,8 +17,8 @@ use Rattle.market_model.specs.History.{and_then}
 use Rattle.market_model.specs.Room.{least, quarter_room, room}
 use Rattle.market_model.specs.WellFormed.{Fits}
 use Rattle.laws_of_market.proofs.Uses.{room-le}
-use Rattle.laws_of_lines.specs.Quiet.{raises}
-use Rattle.laws_of_lines.proofs.Rises.{rise-alone}
+use Rattle.laws_of_boards.specs.Quiet.{raises}
+use Rattle.laws_of_boards.proofs.Rises.{rise-alone}
 use Rattle.sweep_core.specs.Parts.{has_part}
 use Rattle.desk_changes.specs.Openings.{HaveRoom}
 

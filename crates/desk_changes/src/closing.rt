@@ -1,7 +1,7 @@
 //! An hour moves to a later phase.
 
 ghost use Rattle.std.specs.Prelude.{◌≡◌, None, IfOk, OnErr, OnOk, map};
-ghost use Rattle.laws_of_desks.specs.Settled.{IsSettled};
+ghost use Rattle.laws_of_boards.specs.Settled.{IsSettled};
 ghost use Rattle.kept_hour.specs.Planned.{IsUnplanned, after_events, with_planned};
 ghost use Rattle.kept_hour.specs.State.{CanBeNext, gate_of, undone};
 ghost use Rattle.market_model.specs.Market as market;

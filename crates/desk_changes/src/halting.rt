@@ -1,7 +1,7 @@
 //! Trade over a border is halted, and goes on.
 
 ghost use Rattle.std.specs.Prelude.{◌≡◌, ◌≤◌, OnErr, OnOk};
-ghost use Rattle.laws_of_desks.specs.Settled.{IsSettled};
+ghost use Rattle.laws_of_boards.specs.Settled.{IsSettled};
 ghost use Rattle.kept_hour.specs.Planned.{IsUnplanned, with_planned};
 ghost use Rattle.kept_hour.specs.State.{CanBeNext, halt_of, resumption_of};
 ghost use Rattle.desk_changes.specs.Changes.{then_sweep};

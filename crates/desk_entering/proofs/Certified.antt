@@ -25,9 +25,9 @@ use Rattle.laws_of_market.proofs.LocalLines.{contract-hours, line-agree}
 use Rattle.laws_of_market.proofs.LocalStates.{Agree, room-agree}
 use Rattle.laws_of_books.specs.BookOf.{book_of, resting_line}
 use Rattle.laws_of_books.proofs.PartLines.{line_of-book, parts_of-book}
-use Rattle.kept_certificate.specs.Crossing.{bound_in}
-use Rattle.kept_certificate.proofs.Entries.{entries-leave}
-use Rattle.kept_certificate.proofs.Records.{bounds-are}
+use Rattle.desk_entering.specs.Crossing.{bound_in}
+use Rattle.desk_entering.proofs.Entries.{entries-leave}
+use Rattle.desk_entering.proofs.Records.{bounds-are}
 use Rattle.laws_of_maximum.proofs.SameRooms.{reach-same}
 use Rattle.match_core.specs.Walks.{AreRoomsOf}
 use Rattle.laws_of_hours.specs.OrderEvents.{without_hand}

@@ -15,9 +15,9 @@ use Rattle.market_model.specs.History.{and_then}
 use Rattle.market_model.specs.Orders.{left, next_name}
 use Rattle.market_model.specs.WellFormed.{OrderEnters}
 use Rattle.laws_of_market.proofs.LocalStates.{Agree, next_name-agree}
-use Rattle.laws_of_desks.specs.Hours.{IsHourIn}
-use Rattle.laws_of_desks.proofs.Fitting.{hour-in-agrees}
-use Rattle.laws_of_desks.proofs.Stepping.{withdrawn}
+use Rattle.laws_of_boards.specs.Hours.{IsHourIn}
+use Rattle.laws_of_boards.proofs.Fitting.{hour-in-agrees}
+use Rattle.laws_of_boards.proofs.Stepping.{withdrawn}
 use Rattle.laws_of_hours.specs.NextEvents.{IsNext}
 use Rattle.laws_of_hours.proofs.NextEvents.{first_part, next}
 use Rattle.kept_hour.specs.State.{CanBeNext, HourState, entry_of}

@@ -11,7 +11,7 @@ use Rattle.market_model.specs.declared.refusal.Refusal.{Refusal}
 use Rattle.market_model.specs.Room.{room}
 use Rattle.market_model.specs.Rules.{first_broken}
 use Rattle.market_model.specs.StateRules.{filling_rules}
-use Rattle.laws_of_desks.specs.Settled.{IsSettled}
+use Rattle.laws_of_boards.specs.Settled.{IsSettled}
 use Rattle.match_core.specs.Walks.{AreRoomsOf}
 use Rattle.sweep_core.specs.Sweeping.{hour_sweep}
 use Rattle.kept_hour.specs.Planned.{IsUnplanned}

@@ -1,3 +1,9 @@
+pub mod Walk
+pub mod Peaks
+pub mod Crosses
+pub mod Records
+pub mod Entries
+pub mod RoomBounds
 pub mod Parts
 pub mod Entry
 pub mod Fresh

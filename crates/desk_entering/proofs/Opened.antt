@@ -38,9 +38,9 @@ use Rattle.laws_of_market.proofs.Uses.{contract_has-is, room-le}
 use Rattle.laws_of_maximum.proofs.Obtained.{fit-can_take}
 use Rattle.laws_of_maximum.proofs.Takers.{takers-leg}
 use Rattle.sweep_core.specs.Sweeping.{may_open}
-use Rattle.laws_of_lines.specs.Quiet.{IsAside, IsQuiet}
-use Rattle.laws_of_lines.proofs.Stays.{never-quiet}
-use Rattle.laws_of_lines.proofs.Taking.{taker-quiet}
+use Rattle.laws_of_boards.specs.Quiet.{IsAside, IsQuiet}
+use Rattle.laws_of_boards.proofs.Stays.{never-quiet}
+use Rattle.laws_of_boards.proofs.Taking.{taker-quiet}
 use Rattle.desk_entering.specs.Opening.{opens}
 use Rattle.desk_entering.proofs.Staying.{HadRoom, stays-quiet}
 

@@ -30,7 +30,7 @@ use Rattle.laws_of_market.proofs.Tests.{same_contract-eq}
 use Rattle.laws_of_market.proofs.LocalEntries.{before_sweep-named, legs_taken-agree, rest_of-agree}
 use Rattle.laws_of_market.proofs.LocalLines.{contract-hours, sweep_leg-agree}
 use Rattle.laws_of_market.proofs.LocalStates.{Agree, agree-append, room-agree}
-use Rattle.laws_of_desks.specs.Settled.{IsSettled}
+use Rattle.laws_of_boards.specs.Settled.{IsSettled}
 use Rattle.sweep_core.specs.Sweeping.{hour_sweep}
 use Rattle.kept_hour.specs.State.{HourState}
 use Rattle.desk_entering.specs.Entries.{Enters, HasEnded, ended_events}

@@ -22,11 +22,11 @@ use Rattle.market_model.specs.Orders.{Standing}
 use Rattle.market_model.specs.Room.{least, quarter_room}
 use Rattle.market_model.specs.WellFormed.{FitAfter, Fits, IsMarketSetup}
 use Rattle.laws_of_market.proofs.Repeats.{fit-more}
-use Rattle.laws_of_lines.specs.Fronts.{StandInFor}
-use Rattle.laws_of_lines.proofs.Unopened.{unopened}
-use Rattle.laws_of_lines.specs.Quiet.{IsAside, IsQuiet, raises}
-use Rattle.laws_of_lines.proofs.Aside.{no_better, stand_as_before}
-use Rattle.laws_of_lines.proofs.Rises.{rise-alone}
+use Rattle.laws_of_boards.specs.Fronts.{StandInFor}
+use Rattle.laws_of_boards.proofs.Unopened.{unopened}
+use Rattle.laws_of_boards.specs.Quiet.{IsAside, IsQuiet, raises}
+use Rattle.laws_of_boards.proofs.Aside.{no_better, stand_as_before}
+use Rattle.laws_of_boards.proofs.Rises.{rise-alone}
 
 -- who stands in for one that stands in for a former order stands in for that order
 stand-on : (side : Side) (former now then : List Standing) → StandInFor side former now → StandInFor side now then → StandInFor side former then

@@ -13,9 +13,9 @@ ghost use Rattle.desk_entering.specs.Entries as entries;
 ghost use Rattle.desk_entering.specs.Entries.{AreZonesOf, Enters, HasEnded, HasTaken, IsJudged, IsSettledAs, rest_record};
 
 use crate::obstacle::Obstacle;
+use crate::{bound, zones_in_reach};
 use contract_book::{Ice, Resting};
 use iceberg_peak::left_of_peak;
-use kept_certificate::{bound, zones_in_reach};
 use kept_hour::KeptHour;
 use market_model::{Board, Kind, NoMemory, Order, Refusal, Zones};
 use match_core::Taker;

@@ -8,7 +8,7 @@ ghost use Rattle.market_model.specs.Entering as market;
 ghost use Rattle.market_model.specs.Rules.{first_broken};
 ghost use Rattle.market_model.specs.Sweep.{all_parts};
 ghost use Rattle.market_model.specs.StateRules.{filling_rules};
-ghost use Rattle.laws_of_desks.specs.Settled.{IsSettled};
+ghost use Rattle.laws_of_boards.specs.Settled.{IsSettled};
 ghost use Rattle.match_core.specs.Walks.{AreRoomsOf};
 ghost use Rattle.kept_hour.specs.Kept.{names_given};
 ghost use Rattle.kept_hour.specs.Planned.{IsUnplanned, with_planned};

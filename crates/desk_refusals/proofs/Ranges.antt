@@ -17,10 +17,10 @@ use Rattle.laws_of_market.proofs.Restrict.{filter-same}
 use Rattle.flow_netting.specs.declared.quarter_set.QuarterSet.{QuarterSet}
 use Rattle.flow_netting.specs.Flows.{Flows}
 use Rattle.flow_netting.specs.QuarterSet.{has}
-use Rattle.laws_of_flows.specs.FlowLaws.{IsRangeIn}
-use Rattle.laws_of_flows.specs.Standing.{Stands}
-use Rattle.laws_of_flows.specs.Refusing.{offer_refused_by, request_refused_by}
-use Rattle.laws_of_flows.proofs.Refused.{offers_alike, requests_alike}
+use Rattle.laws_of_hours.specs.FlowLaws.{IsRangeIn}
+use Rattle.laws_of_hours.specs.Standing.{Stands}
+use Rattle.laws_of_hours.specs.Refusing.{offer_refused_by, request_refused_by}
+use Rattle.laws_of_hours.proofs.Refused.{offers_alike, requests_alike}
 
 -- ---- a range cut to the quarters of an hour
 

@@ -35,10 +35,10 @@ use Rattle.laws_of_market.proofs.Admitted.{IsAdmitted, all-pass, naming-none, re
 use Rattle.laws_of_market.proofs.Admitting.{early-none, let_in-refusal, no_entry-rules}
 use Rattle.desk_blocks.specs.Planned.{IsUnplanned, with_planned}
 use Rattle.desk_blocks.specs.State.{CanBeNext, HourState, after_event, entry_of, gate_of, name_in, reduction_of, withdrawal_of}
-use Rattle.laws_of_desks.specs.Settled.{IsSettled}
-use Rattle.laws_of_desks.proofs.Admitting as entering
-use Rattle.laws_of_desks.proofs.Fitting.{fits_in}
-use Rattle.laws_of_desks.proofs.Stepping.{prefixes}
+use Rattle.laws_of_boards.specs.Settled.{IsSettled}
+use Rattle.laws_of_boards.proofs.Admitting as entering
+use Rattle.laws_of_boards.proofs.Fitting.{fits_in}
+use Rattle.laws_of_boards.proofs.Stepping.{prefixes}
 use Rattle.desk_blocks.specs.Changes.{then_sweep}
 use Rattle.desk_refusals.specs.declared.owning.Own.{Own}
 use Rattle.desk_refusals.specs.Owned.{left_of, own_of}

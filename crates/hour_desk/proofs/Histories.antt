@@ -8,9 +8,9 @@ use Rattle.market_model.specs.Market.{Turn, run_by, turn_of}
 use Rattle.market_model.specs.Sweep.{all_parts}
 use Rattle.market_model.specs.WellFormed.{IsHistory}
 use Rattle.laws_of_market.proofs.Journals.{run-history}
-use Rattle.laws_of_desks.specs.Hours.{IsHourIn}
-use Rattle.laws_of_desks.specs.Settled.{IsSettled}
-use Rattle.laws_of_desks.proofs.Settling.{journals}
+use Rattle.laws_of_boards.specs.Hours.{IsHourIn}
+use Rattle.laws_of_boards.specs.Settled.{IsSettled}
+use Rattle.laws_of_boards.proofs.Settling.{journals}
 use Rattle.hour_desk.specs.Placed.{IsLeftBy}
 
 -- the hour of some history

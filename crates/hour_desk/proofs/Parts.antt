@@ -10,7 +10,7 @@ use Rattle.market_model.specs.Orders.{next_name}
 use Rattle.desk_blocks.specs.Planned.{IsUnplanned}
 use Rattle.desk_blocks.specs.State.{HourState, block_entry_of}
 use Rattle.laws_of_joint_commands.specs.EnteringBlocks.{AreClosed, block_entry}
-use Rattle.laws_of_desks.specs.Settled.{IsSettled}
+use Rattle.laws_of_boards.specs.Settled.{IsSettled}
 use Rattle.desk_blocks.specs.Plans as plans
 use Rattle.hour_desk.specs.declared.part_work.BlockEntry.{BlockEntry}
 use Rattle.hour_desk.specs.Insides.{desk_of}

@@ -5,7 +5,7 @@ ghost use Rattle.order_kinds.specs.declared.side.Side.{Side as TheSide};
 ghost use Rattle.order_kinds.specs.Contract.{contract_at};
 ghost use Rattle.zone_graph.specs.Graph.{HasArc, HasZone, zone_count};
 ghost use Rattle.laws_of_books.specs.BlocksOf.{blocks_of};
-ghost use Rattle.laws_of_flows.specs.Standing.{Stands};
+ghost use Rattle.laws_of_hours.specs.Standing.{Stands};
 ghost use Rattle.market_model.specs.History.{enters_in};
 ghost use Rattle.market_model.specs.Orders.{next_name, open_names};
 ghost use Rattle.market_model.specs.Refusals as refusals;

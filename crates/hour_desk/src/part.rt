@@ -2,7 +2,7 @@
 
 ghost use Rattle.std.specs.Prelude.{◌≡◌, ◌<◌, ◌-◌, ◌^◌, IfOk, OnErr, OnOk, false, length};
 ghost use Rattle.zone_graph.specs.Graph.{border_count};
-ghost use Rattle.laws_of_desks.specs.Settled.{IsSettled};
+ghost use Rattle.laws_of_boards.specs.Settled.{IsSettled};
 ghost use Rattle.desk_blocks.specs.Kept.{names_given};
 ghost use Rattle.desk_blocks.specs.Planned.{CanFollow, IsUnplanned, with_planned};
 ghost use Rattle.desk_blocks.specs.State.{settled_board};

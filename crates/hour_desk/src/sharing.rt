@@ -35,11 +35,7 @@ impl HourDesk {
     /// # Errors
     ///
     /// [`NoMemory`] where memory runs out; nothing is planned then.
-    pub fn plan_part(
-        &mut self,
-        grid: &Grid,
-        work: &PartWork,
-    ) -> Result<Events, NoMemory>
+    pub fn plan_part(&mut self, grid: &Grid, work: &PartWork) -> Result<Events, NoMemory>
         requires grid { grid.now ≡ self.old.grid }
         requires few { count_by (enters_in self.old.hour) self.old.settled < 2 ^ 32 - 1 }
         requires place { shared.IsAfterSomeJournal self.old }
@@ -89,7 +85,14 @@ impl HourDesk {
         ensures failed { OnErr result (self.new ≡ states.with_nothing_planned self.old) }
     {
         drop_plan(&mut self.kept, &mut self.views);
-        match match_and_refresh(self.alloc, &mut self.kept, &mut self.views, grid, rooms, last) {
+        match match_and_refresh(
+            self.alloc,
+            &mut self.kept,
+            &mut self.views,
+            grid,
+            rooms,
+            last,
+        ) {
             Ok(deals) => {
                 self.is_planned = true;
                 Ok(deals)

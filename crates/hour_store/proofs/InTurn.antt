@@ -9,7 +9,7 @@ use Rattle.flow_netting.specs.Border.{EachQuarter}
 use Rattle.flow_netting.specs.Flows.{Flows, flow_of, offered_of, remaining_of}
 use Rattle.flow_netting.specs.QuarterSet.{has}
 use Rattle.flow_netting.proofs.RouteLemmas.{flow_more, left_on_next}
-use Rattle.laws_of_flows.specs.Standing.{IsCarried}
+use Rattle.laws_of_hours.specs.Standing.{IsCarried}
 
 -- the quarters of a set below a number
 abbrev pub below_in : (ℕ → Bool) → (number quarter : ℕ) → Bool

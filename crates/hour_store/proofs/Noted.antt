@@ -14,7 +14,7 @@ use Rattle.flow_netting.specs.declared.quarter_set.QuarterSet.{QuarterSet}
 use Rattle.flow_netting.specs.Border.{EachQuarter}
 use Rattle.flow_netting.specs.Flows.{Flows, border_count, flow_of, is_halted, offered_of, remaining_of}
 use Rattle.flow_netting.specs.QuarterSet.{has}
-use Rattle.laws_of_flows.specs.Standing.{IsCarried, IsHaltSet, IsOffered}
+use Rattle.laws_of_hours.specs.Standing.{IsCarried, IsHaltSet, IsOffered}
 use Rattle.hour_store.specs.declared.change.Change.{Change}
 use Rattle.hour_store.specs.declared.change.Change.TheVariants as change
 use Rattle.hour_store.specs.Contents.{Contents, IsOfPart, KeepsBooks}

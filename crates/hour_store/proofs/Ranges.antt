@@ -8,7 +8,7 @@ use Rattle.zone_graph.proofs.Arcs.{same_arc-is}
 use Rattle.flow_netting.specs.Border.{EachQuarter}
 use Rattle.flow_netting.specs.Flows.{Flows, flow_of, offered_of}
 use Rattle.flow_netting.specs.Flows as kept
-use Rattle.laws_of_flows.specs.Standing.{IsCarried, IsOffered}
+use Rattle.laws_of_hours.specs.Standing.{IsCarried, IsOffered}
 use Rattle.hour_store.specs.Contents.{NothingOverdrawn, OffersInRange}
 use Rattle.hour_store.proofs.Alike.{remaining-same}
 

@@ -5,7 +5,7 @@ ghost use Rattle.zone_graph.specs.Pour.{same_arc};
 ghost use Rattle.quarter_capacity.specs.Capacity.{most_offered};
 ghost use Rattle.flow_netting.specs.Flows as flow;
 ghost use Rattle.flow_netting.specs.QuarterSet.{has};
-ghost use Rattle.laws_of_flows.specs.Standing.{IsCarried, IsHaltSet, IsOffered};
+ghost use Rattle.laws_of_hours.specs.Standing.{IsCarried, IsHaltSet, IsOffered};
 ghost use Rattle.hour_store.specs.TakenBack.{CanFlow, CanOfferIn};
 
 use flow_netting::{HourFlows, QuarterSet};

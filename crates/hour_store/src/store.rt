@@ -9,7 +9,7 @@ ghost use Rattle.quarter_capacity.specs.Capacity.{most_offered};
 ghost use Rattle.flow_netting.specs.Border.{EachQuarter};
 ghost use Rattle.flow_netting.specs.Flows as flow;
 ghost use Rattle.flow_netting.specs.QuarterSet.{has};
-ghost use Rattle.laws_of_flows.specs.Standing.{IsCarried, IsHaltSet, IsIdle, IsOffered};
+ghost use Rattle.laws_of_hours.specs.Standing.{IsCarried, IsHaltSet, IsIdle, IsOffered};
 ghost use Rattle.hour_store.specs.Contents.{AreSame, Contents, IsOfPart, NothingOverdrawn, OffersInRange};
 ghost use Rattle.hour_store.specs.Changed.{AreChangedZones, changes_flows};
 ghost use Rattle.hour_store.specs.Store.{GoesBackTo, StillLeadsBack};

@@ -23,4 +23,4 @@ pub use Rattle.hour_desk.proofs.Crosses
 pub use Rattle.laws_of_joint_commands.proofs.BasketHours
 pub use Rattle.laws_of_joint_commands.proofs.RefusedByHours
 pub use Rattle.laws_of_joint_commands.proofs.Touching
-pub use Rattle.laws_of_desks.proofs.Admitting
+pub use Rattle.laws_of_boards.proofs.Admitting

@@ -11,8 +11,8 @@ use Rattle.market_model.specs.History.{events_of, of_hour, touches}
 use Rattle.market_model.specs.Market.{reply_to}
 use Rattle.market_model.specs.Rules.{touched_hours}
 use Rattle.market_model.specs.Sweep.{all_parts}
-use Rattle.laws_of_desks.specs.Hours.{RepliesAlone}
-use Rattle.laws_of_desks.proofs.Stepping.{replies}
+use Rattle.laws_of_boards.specs.Hours.{RepliesAlone}
+use Rattle.laws_of_boards.proofs.Stepping.{replies}
 use Rattle.hour_desk.specs.Desk.{DeskState, planning}
 use Rattle.joint_plan.specs.Rows.{AreAsked, IsHistoryOf, hours_of, planning_all}
 use Rattle.joint_plan.proofs.Asked.{ready-history, ready-is}

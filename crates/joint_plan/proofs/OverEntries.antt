@@ -9,7 +9,7 @@ use Rattle.zone_graph.specs.Graph.{Graph, HasZone}
 use Rattle.zone_graph.specs.Pour.{opposite_arc}
 use Rattle.zone_graph.specs.Rooms.{room_of}
 use Rattle.zone_graph.specs.Route.{IsIn}
-use Rattle.route_carrying.specs.Carrying.{FitTogether}
+use Rattle.cut_proof.specs.Carrying.{FitTogether}
 use Rattle.block_book.specs.declared.block.RestingBlock.{RestingBlock}
 use Rattle.laws_of_books.specs.BlocksOf.{blocks_of, entered_resting_block}
 use Rattle.laws_of_books.proofs.MarketBooks.{from-book}
@@ -34,7 +34,7 @@ use Rattle.market_model.specs.Sweep.{all_parts, or_else, sweep}
 use Rattle.market_model.specs.WellFormed.{BlockEnters}
 use Rattle.laws_of_market.proofs.Placed.{all_are_sound}
 use Rattle.laws_of_market.proofs.Repeats.{map-some}
-use Rattle.laws_of_desks.proofs.Admitting as admitting
+use Rattle.laws_of_boards.proofs.Admitting as admitting
 use Rattle.laws_of_joint_commands.specs.ByHour.{hour_events}
 use Rattle.laws_of_joint_commands.specs.EnteringBlocks.{AreClosed, block_entry, deal_found, events_of_deal, has_of_entry, legs_found, refused_at_desk, swept_after_entry}
 use Rattle.laws_of_joint_commands.specs.MatchingBlocks.{legs_of}

@@ -3,7 +3,7 @@ use Rattle.std.specs.Prelude.{◌≡◌, ℕ, ◌+◌, ◌-◌, ◌<◌, ◌^◌
 use Rattle.order_kinds.specs.declared.order.BlockOrder.{BlockOrder}
 use Rattle.zone_graph.specs.Graph.{Graph, HasZone, border_count}
 use Rattle.zone_graph.specs.Rooms.{room_of}
-use Rattle.route_carrying.specs.Carrying.{FitTogether}
+use Rattle.cut_proof.specs.Carrying.{FitTogether}
 use Rattle.block_book.specs.declared.block.RestingBlock.{RestingBlock}
 use Rattle.laws_of_books.specs.BlocksOf.{blocks_of, entered_resting_block}
 use Rattle.block_match.specs.declared.deal.BlockDeal.{BlockDeal}

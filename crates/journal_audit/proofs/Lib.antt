@@ -1,3 +1,6 @@
+pub mod Answering
+pub mod Divisions
+pub mod Passing
 pub mod Audits
 pub mod Courses
 pub mod Journals

@@ -1,4 +1,7 @@
 -- What the contracts of this crate cite.
+pub mod Dividing
+pub mod DividingLaws
+pub mod Reading
 pub mod Audit
 pub mod Course
 pub mod Journal

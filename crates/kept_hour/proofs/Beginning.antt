@@ -5,8 +5,8 @@ use Rattle.market_model.specs.declared.event.Event.{Event}
 use Rattle.market_model.specs.Board.{IsBoard}
 use Rattle.laws_of_books.proofs.FoundOrders as books
 use Rattle.laws_of_books.proofs.WholeBlockBooks as blocks
-use Rattle.laws_of_flows.specs.Standing.{IsIdle}
-use Rattle.laws_of_flows.proofs.Ranges.{idle}
+use Rattle.laws_of_hours.specs.Standing.{IsIdle}
+use Rattle.laws_of_hours.proofs.Ranges.{idle}
 use Rattle.laws_of_hours.proofs.NextEvents.{empty}
 use Rattle.hour_store.specs.Store.{Store}
 use Rattle.kept_hour.specs.Kept.{AreOf, IsKept, hour_of}

@@ -11,7 +11,7 @@ use Rattle.market_model.specs.History.{and_then}
 use Rattle.market_model.specs.Orders.{next_name, open_names}
 use Rattle.market_model.specs.Refusals.{desk_room}
 use Rattle.laws_of_books.specs.BlocksOf.{blocks_of, entered_resting_block}
-use Rattle.laws_of_flows.specs.Standing.{Stands}
+use Rattle.laws_of_hours.specs.Standing.{Stands}
 use Rattle.laws_of_hours.specs.BlockEvents.{RestsAsBlock}
 use Rattle.laws_of_hours.proofs.BlockEntries.{enters}
 use Rattle.laws_of_hours.proofs.Numbers.{count-more, one_if}

@@ -8,8 +8,8 @@ use Rattle.zone_graph.specs.Pour.{uses}
 use Rattle.flow_netting.specs.declared.quarter_set.QuarterSet.{QuarterSet}
 use Rattle.flow_netting.specs.Flows.{Flows}
 use Rattle.flow_netting.specs.QuarterSet.{has}
-use Rattle.laws_of_flows.specs.CallLaws.{CanCarry}
-use Rattle.laws_of_flows.specs.Standing.{IsCarried, IsSetOf}
+use Rattle.laws_of_hours.specs.CallLaws.{CanCarry}
+use Rattle.laws_of_hours.specs.Standing.{IsCarried, IsSetOf}
 use Rattle.kept_hour.specs.Deals.{AreCarried, CanCarryAll, arc_count}
 
 -- the leg at a place

@@ -27,8 +27,8 @@ use Rattle.laws_of_market.proofs.LocalLines.{line-agree}
 use Rattle.laws_of_market.proofs.Restrict.{filter-filter, map-same, filter-map}
 use Rattle.laws_of_books.specs.BookOf.{book_of, resting_of}
 use Rattle.laws_of_books.proofs.PartLines.{line_of-book}
-use Rattle.laws_of_flows.specs.Standing.{Stands}
-use Rattle.laws_of_flows.proofs.Rooms.{remains}
+use Rattle.laws_of_hours.specs.Standing.{Stands}
+use Rattle.laws_of_hours.proofs.Rooms.{remains}
 use Rattle.laws_of_hours.specs.OrderEvents.{without_hand}
 use Rattle.laws_of_hours.proofs.NextEvents.{agrees}
 use Rattle.laws_of_rows.specs.declared.trades.Maker.{Maker}

@@ -10,10 +10,10 @@ use Rattle.market_model.specs.declared.event.Event.{Event}
 use Rattle.market_model.specs.History.{and_then, touches}
 use Rattle.market_model.specs.Refusals.{desk_room}
 use Rattle.laws_of_books.specs.BookOf.{book_of}
-use Rattle.laws_of_flows.specs.FlowLaws.{IsRangeIn}
-use Rattle.laws_of_flows.specs.Standing.{IsCarried, IsHaltSet, IsOffered, Stands}
-use Rattle.laws_of_flows.proofs.Noted as noted
-use Rattle.laws_of_flows.proofs.Ranges as ranges
+use Rattle.laws_of_hours.specs.FlowLaws.{IsRangeIn}
+use Rattle.laws_of_hours.specs.Standing.{IsCarried, IsHaltSet, IsOffered, Stands}
+use Rattle.laws_of_hours.proofs.Noted as noted
+use Rattle.laws_of_hours.proofs.Ranges as ranges
 use Rattle.laws_of_hours.specs.FlowEvents.{changes_flows}
 use Rattle.laws_of_hours.specs.OrderEvents.{resting_count, without_hand}
 use Rattle.laws_of_hours.proofs.FlowChanges.{leaves_books}

@@ -14,7 +14,7 @@ use Rattle.laws_of_books.specs.LegLaws.{without_both}
 use Rattle.block_match.specs.declared.deal.BlockDeal.{BlockDeal}
 use Rattle.block_match.specs.Market.{deal_events}
 use Rattle.laws_of_books.specs.BookOf.{book_of}
-use Rattle.laws_of_flows.specs.Standing.{Stands}
+use Rattle.laws_of_hours.specs.Standing.{Stands}
 use Rattle.market_model.specs.declared.event.Event.{Event}
 use Rattle.market_model.specs.Board.{IsHourOf}
 use Rattle.market_model.specs.History.{and_then}

@@ -11,9 +11,9 @@ use Rattle.block_book.specs.Book as block_books
 use Rattle.flow_netting.specs.Flows as flow
 use Rattle.market_model.specs.declared.event.Event.{Event}
 use Rattle.laws_of_books.specs.BookOf.{book_of}
-use Rattle.laws_of_flows.specs.CallLaws.{CanGrant, CanOffer}
-use Rattle.laws_of_flows.specs.FlowLaws.{IsRangeIn}
-use Rattle.laws_of_flows.specs.Standing.{IsCarried, IsHaltSet, IsOffered, Stands}
+use Rattle.laws_of_hours.specs.CallLaws.{CanGrant, CanOffer}
+use Rattle.laws_of_hours.specs.FlowLaws.{IsRangeIn}
+use Rattle.laws_of_hours.specs.Standing.{IsCarried, IsHaltSet, IsOffered, Stands}
 use Rattle.laws_of_hours.specs.OrderEvents.{CanReduce}
 use Rattle.laws_of_hours.proofs.FlowChanges.{grants_fit, halts_fit, offers_fit, resumptions_fit}
 use Rattle.laws_of_hours.proofs.Reduced.{is_reduced}

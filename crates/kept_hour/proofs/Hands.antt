@@ -11,7 +11,7 @@ use Rattle.laws_of_market.proofs.LocalAnswers.{open_names-agree}
 use Rattle.laws_of_books.specs.BookOf.{book_of}
 use Rattle.laws_of_books.proofs.PartLines.{parts_of-book}
 use Rattle.laws_of_books.proofs.WholeBooks.{book-is_book}
-use Rattle.laws_of_flows.specs.Standing.{Stands}
+use Rattle.laws_of_hours.specs.Standing.{Stands}
 use Rattle.laws_of_hours.specs.OrderEvents.{resting_count, without_hand}
 use Rattle.laws_of_hours.proofs.NextEvents.{agrees, book-is}
 use Rattle.laws_of_hours.proofs.TakenOut.{gone, withdrawn}

@@ -9,7 +9,7 @@ use Rattle.market_model.specs.Board.{BoardState, IsBoard}
 use Rattle.market_model.specs.History.{and_then}
 use Rattle.market_model.specs.Refusals.{desk_room}
 use Rattle.laws_of_books.specs.BlockLaws.{IsOfOrder}
-use Rattle.laws_of_flows.specs.Standing.{Stands}
+use Rattle.laws_of_hours.specs.Standing.{Stands}
 use Rattle.laws_of_hours.specs.OrderEvents.{resting_count}
 use Rattle.hour_store.specs.Contents.{AreAlike, AreSame, Contents}
 use Rattle.hour_store.specs.Store.{GoesBackTo, StillLeadsBack, Store}

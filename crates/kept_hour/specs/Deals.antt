@@ -11,8 +11,8 @@ use Rattle.block_match.specs.Market.{deal_events}
 use Rattle.flow_netting.specs.declared.quarter_set.QuarterSet.{QuarterSet}
 use Rattle.flow_netting.specs.Flows.{Flows}
 use Rattle.flow_netting.specs.QuarterSet.{has}
-use Rattle.laws_of_flows.specs.CallLaws.{CanCarry}
-use Rattle.laws_of_flows.specs.Standing.{IsCarried, IsSetOf}
+use Rattle.laws_of_hours.specs.CallLaws.{CanCarry}
+use Rattle.laws_of_hours.specs.Standing.{IsCarried, IsSetOf}
 use Rattle.market_model.specs.declared.event.Event.{Event}
 use Rattle.market_model.specs.Orders.{is_open}
 use Rattle.hour_store.specs.Contents.{Contents}

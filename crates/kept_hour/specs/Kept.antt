@@ -4,7 +4,7 @@ use Rattle.zone_graph.specs.Graph.{Graph}
 use Rattle.laws_of_books.specs.BookOf.{book_of}
 use Rattle.laws_of_books.specs.BlockLaws.{IsOfOrder}
 use Rattle.laws_of_books.specs.BlocksOf.{blocks_of}
-use Rattle.laws_of_flows.specs.Standing.{Stands}
+use Rattle.laws_of_hours.specs.Standing.{Stands}
 use Rattle.market_model.specs.declared.event.Event.{Event}
 use Rattle.market_model.specs.Board.{BoardState, IsBoard}
 use Rattle.market_model.specs.History.{enters_in}

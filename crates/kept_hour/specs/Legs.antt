@@ -5,8 +5,8 @@ use Rattle.zone_graph.specs.Pour.{uses}
 use Rattle.market_model.specs.declared.event.Leg.{Leg}
 use Rattle.flow_netting.specs.declared.quarter_set.QuarterSet.{QuarterSet}
 use Rattle.flow_netting.specs.QuarterSet.{has}
-use Rattle.laws_of_flows.specs.CallLaws.{CanCarry}
-use Rattle.laws_of_flows.specs.Standing.{IsCarried, IsSetOf}
+use Rattle.laws_of_hours.specs.CallLaws.{CanCarry}
+use Rattle.laws_of_hours.specs.Standing.{IsCarried, IsSetOf}
 use Rattle.laws_of_hours.specs.OrderEvents.{CanFill, filled_beside, holds}
 use Rattle.hour_store.specs.Contents.{Contents}
 

@@ -3,7 +3,7 @@
 ghost use Rattle.std.specs.Prelude.{◌≡◌, ◌+◌, ◌-◌, ◌^◌, ◌<◌, ◌≤◌, ℕ, [], None, Some, length, take, false, IsSome, IfOk, OnOk, OnErr};
 ghost use Rattle.laws_of_books.specs.BookOf.{book_of};
 ghost use Rattle.laws_of_books.specs.BlocksOf.{blocks_of};
-ghost use Rattle.laws_of_flows.specs.Standing.{Stands};
+ghost use Rattle.laws_of_hours.specs.Standing.{Stands};
 ghost use Rattle.market_model.specs.Board.{IsBoard, resting_names};
 ghost use Rattle.market_model.specs.Orders.{is_open, next_name, open_names};
 ghost use Rattle.market_model.specs.Refusals.{desk_room};

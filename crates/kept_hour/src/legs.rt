@@ -5,7 +5,7 @@ ghost use Rattle.std.specs.Option.{IsSomeAnd};
 ghost use Rattle.order_kinds.specs.Contract.{part_at};
 ghost use Rattle.zone_graph.specs.Pour.{uses};
 ghost use Rattle.flow_netting.specs.QuarterSet.{has};
-ghost use Rattle.laws_of_flows.specs.Standing.{IsCarried, IsSetOf};
+ghost use Rattle.laws_of_hours.specs.Standing.{IsCarried, IsSetOf};
 ghost use Rattle.laws_of_hours.specs.OrderEvents as changes;
 ghost use Rattle.hour_store.specs.Store.{StillLeadsBack};
 ghost use Rattle.kept_hour.specs.Legs.{CanMakeIn, IsMadeIn};

@@ -3,8 +3,8 @@
 ghost use Rattle.std.specs.Prelude.{◌≡◌, ◌<◌, true};
 ghost use Rattle.order_kinds.specs.Contract as contracts;
 ghost use Rattle.order_kinds.specs.Period.{quarter_of, range_has};
-ghost use Rattle.laws_of_flows.specs.FlowLaws.{IsRangeIn};
-ghost use Rattle.laws_of_flows.specs.Standing.{IsSetOf};
+ghost use Rattle.laws_of_hours.specs.FlowLaws.{IsRangeIn};
+ghost use Rattle.laws_of_hours.specs.Standing.{IsSetOf};
 ghost use Rattle.flow_netting.specs.QuarterSet.{has};
 ghost use Rattle.kept_hour.specs.Bits.{bit};
 

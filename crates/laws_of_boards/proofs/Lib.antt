@@ -1,3 +1,14 @@
+pub mod Deciding
+pub mod Unopened
+pub mod Worse
+pub mod Aside
+pub mod Rises
+pub mod Stays
+pub mod Rests
+pub mod Ways
+pub mod QuietTakers
+pub mod Taking
+pub mod QuietHours
 pub mod Behind
 pub mod Entries
 pub mod Legs
@@ -7,3 +18,7 @@ pub mod Shared
 pub mod Walks
 pub mod Filling
 pub mod PassedOver
+pub mod Admitting
+pub mod Fitting
+pub mod Settling
+pub mod Stepping

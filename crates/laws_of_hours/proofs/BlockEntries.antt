@@ -23,7 +23,7 @@ use Rattle.laws_of_books.proofs.Elsewhere as books
 use Rattle.laws_of_books.specs.BlocksOf.{blocks_of, entered_resting_block}
 use Rattle.laws_of_books.proofs.EnteredAndWithdrawn.{book-entered, number-free}
 use Rattle.laws_of_books.proofs.WholeBlockBooks.{few-in_book}
-use Rattle.laws_of_flows.proofs.OtherEvents.{others}
+use Rattle.laws_of_hours.proofs.OtherEvents.{others}
 use Rattle.laws_of_hours.specs.NextEvents.{IsNext}
 use Rattle.laws_of_hours.specs.BlockEvents.{BlocksEnter, RestsAsBlock}
 use Rattle.laws_of_hours.proofs.NextEvents.{after, agrees, before, blocks-are, book-is, flows-from, flows-to, moment-is, next}

@@ -15,9 +15,9 @@ use Rattle.laws_of_books.specs.BlocksOf.{blocks_of}
 use Rattle.laws_of_books.specs.LegLaws.{without_both}
 use Rattle.laws_of_books.proofs.BlocksBesideLegs as beside
 use Rattle.laws_of_books.proofs.BlocksElsewhere as blocks
-use Rattle.laws_of_flows.specs.Standing.{Stands}
-use Rattle.laws_of_flows.proofs.Callable as callable
-use Rattle.laws_of_flows.proofs.Ranges as ranges
+use Rattle.laws_of_hours.specs.Standing.{Stands}
+use Rattle.laws_of_hours.proofs.Callable as callable
+use Rattle.laws_of_hours.proofs.Ranges as ranges
 use Rattle.laws_of_hours.specs.BlockLegEvents.{BlockLegsAreMade, ClosedBlocksAreGone, IsCarriedThrough}
 use Rattle.laws_of_hours.specs.NextEvents.{IsNext}
 use Rattle.laws_of_hours.proofs.NextEvents.{after, agrees, before, blocks-are, book-is, flows-to, next}

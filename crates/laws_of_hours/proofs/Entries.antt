@@ -39,7 +39,7 @@ use Rattle.laws_of_books.proofs.ComesToRest.{book-entered}
 use Rattle.laws_of_books.proofs.FoundOrders.{order-found}
 use Rattle.laws_of_books.proofs.LineOrders.{entered-other}
 use Rattle.laws_of_books.proofs.BlocksElsewhere as blocks
-use Rattle.laws_of_flows.proofs.OtherEvents.{others}
+use Rattle.laws_of_hours.proofs.OtherEvents.{others}
 use Rattle.laws_of_hours.specs.NextEvents.{IsNext}
 use Rattle.laws_of_hours.specs.OrderEvents.{IsInHand, OrdersEnterInHand, resting_count}
 use Rattle.laws_of_hours.proofs.NextEvents.{after, agrees, before, blocks-are, book-is, flows-from, flows-to, next}

@@ -10,8 +10,8 @@ use Rattle.laws_of_books.specs.BookLaws as books
 use Rattle.laws_of_books.proofs.Elsewhere.{book-elsewhere}
 use Rattle.laws_of_books.specs.BlockLaws as block_books
 use Rattle.laws_of_books.proofs.BlocksElsewhere as blocks
-use Rattle.laws_of_flows.specs.Standing.{Stands}
-use Rattle.laws_of_flows.proofs.Callable.{grants, offers}
+use Rattle.laws_of_hours.specs.Standing.{Stands}
+use Rattle.laws_of_hours.proofs.Callable.{grants, offers}
 use Rattle.laws_of_hours.specs.FlowEvents.{FlowEventsLeaveTheBooks, GrantsFitTheFlows, HaltsFitTheFlows, OffersFitTheFlows, ResumptionsFitTheFlows, changes_flows}
 use Rattle.laws_of_hours.proofs.NextEvents.{after, before, blocks-are, book-is, flows-to, next}
 use Rattle.laws_of_hours.proofs.Numbers.{same-next}

@@ -31,9 +31,9 @@ use Rattle.laws_of_books.proofs.PartLines.{from_book, line_of-book}
 use Rattle.laws_of_books.proofs.TakenOff.{order_of-open}
 use Rattle.laws_of_books.proofs.Updates.{Change, in_after, in_less, line_after}
 use Rattle.laws_of_books.proofs.BlocksElsewhere as blocks
-use Rattle.laws_of_flows.specs.Standing.{Stands}
-use Rattle.laws_of_flows.proofs.Callable as callable
-use Rattle.laws_of_flows.proofs.Noted as noted
+use Rattle.laws_of_hours.specs.Standing.{Stands}
+use Rattle.laws_of_hours.proofs.Callable as callable
+use Rattle.laws_of_hours.proofs.Noted as noted
 use Rattle.laws_of_hours.specs.NextEvents.{IsNext}
 use Rattle.laws_of_hours.specs.OrderEvents.{CanFill, IsMade, LegsAreMade, filled_beside, holds, without_hand}
 use Rattle.laws_of_hours.proofs.NextEvents.{after, before, blocks-are, book-is, flows-to, moment-is, next}

@@ -1,3 +1,12 @@
+pub mod Rooms
+pub mod Noted
+pub mod Ranges
+pub mod OtherEvents
+pub mod InTurn
+pub mod Callable
+pub mod RequestRooms
+pub mod Answering
+pub mod Refused
 pub mod NextEvents
 pub mod OrderlyBooks
 pub mod Entries

@@ -19,8 +19,8 @@ use Rattle.laws_of_books.specs.BookOf.{book_of, next_moment}
 use Rattle.laws_of_books.proofs.FoundOrders as books
 use Rattle.laws_of_books.specs.BlocksOf.{blocks_of}
 use Rattle.laws_of_books.proofs.WholeBlockBooks as blocks
-use Rattle.laws_of_flows.specs.Standing.{Stands}
-use Rattle.laws_of_flows.proofs.OtherEvents.{hours_have}
+use Rattle.laws_of_hours.specs.Standing.{Stands}
+use Rattle.laws_of_hours.proofs.OtherEvents.{hours_have}
 use Rattle.laws_of_hours.specs.NextEvents.{FirstOfManyAreHours, FirstPartsAreHours, HoursBeginEmpty, IsNext, NextEventsFit}
 
 -- where what passes a test ends with an item, the list goes on from what passes before it with the item

@@ -13,7 +13,7 @@ use Rattle.market_model.specs.WellFormed.{ReductionFits}
 use Rattle.laws_of_books.specs.BookOf.{book_of, ice_of, resting_of}
 use Rattle.laws_of_books.proofs.TakenOff.{book-reduced, order_of-open}
 use Rattle.laws_of_books.proofs.BlocksElsewhere as blocks
-use Rattle.laws_of_flows.proofs.OtherEvents.{others}
+use Rattle.laws_of_hours.proofs.OtherEvents.{others}
 use Rattle.laws_of_hours.specs.NextEvents.{IsNext}
 use Rattle.laws_of_hours.specs.OrderEvents.{IsReduced, ReductionsAreMade}
 use Rattle.laws_of_hours.proofs.NextEvents.{after, before, blocks-are, book-is, flows-from, flows-to, next}

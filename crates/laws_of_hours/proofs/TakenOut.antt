@@ -28,7 +28,7 @@ use Rattle.laws_of_books.proofs.LineOrders.{same_names}
 use Rattle.laws_of_books.proofs.TakenOff.{book-withdrawn, left-gone}
 use Rattle.laws_of_books.proofs.EnteredAndWithdrawn as blocks
 use Rattle.laws_of_books.proofs.BlocksElsewhere as elsewhere
-use Rattle.laws_of_flows.proofs.OtherEvents.{others}
+use Rattle.laws_of_hours.proofs.OtherEvents.{others}
 use Rattle.laws_of_hours.specs.NextEvents.{IsNext}
 use Rattle.laws_of_hours.specs.OrderEvents.{ClosedOrdersAreGone, IsWithdrawn, WithdrawalsAreMade, resting_count}
 use Rattle.laws_of_hours.proofs.Entries.{without-absent}

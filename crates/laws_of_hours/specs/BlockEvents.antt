@@ -12,7 +12,7 @@ use Rattle.market_model.specs.History.{and_then}
 use Rattle.market_model.specs.Orders.{next_name, open_names}
 use Rattle.laws_of_books.specs.BookOf.{book_of}
 use Rattle.laws_of_books.specs.BlocksOf.{blocks_of, entered_resting_block}
-use Rattle.laws_of_flows.specs.Standing.{Stands}
+use Rattle.laws_of_hours.specs.Standing.{Stands}
 
 -- a block has entered an hour: it rests in the book of the blocks, whole, under a number that was free, and
 -- at most one more is open than before

@@ -16,8 +16,8 @@ use Rattle.market_model.specs.Orders.{is_open, next_name}
 use Rattle.laws_of_books.specs.BookOf.{book_of}
 use Rattle.laws_of_books.specs.BlocksOf.{blocks_of}
 use Rattle.laws_of_books.specs.LegLaws.{without_both}
-use Rattle.laws_of_flows.specs.CallLaws.{CanCarry}
-use Rattle.laws_of_flows.specs.Standing.{IsCarried, IsSetOf, Stands}
+use Rattle.laws_of_hours.specs.CallLaws.{CanCarry}
+use Rattle.laws_of_hours.specs.Standing.{IsCarried, IsSetOf, Stands}
 use Rattle.laws_of_hours.specs.OrderEvents.{resting_count}
 
 -- a leg of two blocks was made: the orders rest as before, and so do all blocks but the two, which start in the

@@ -12,8 +12,8 @@ use Rattle.market_model.specs.History.{and_then}
 use Rattle.market_model.specs.Orders.{next_name}
 use Rattle.laws_of_books.specs.BookOf.{book_of}
 use Rattle.laws_of_books.specs.BlocksOf.{blocks_of}
-use Rattle.laws_of_flows.specs.CallLaws.{CanGrant, CanOffer}
-use Rattle.laws_of_flows.specs.Standing.{Stands}
+use Rattle.laws_of_hours.specs.CallLaws.{CanGrant, CanOffer}
+use Rattle.laws_of_hours.specs.Standing.{Stands}
 use Rattle.laws_of_hours.specs.OrderEvents.{resting_count}
 
 -- an event is of arcs, of borders or of the phase alone

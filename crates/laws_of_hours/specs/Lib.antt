@@ -1,4 +1,8 @@
 -- What the contracts of this crate cite.
+pub mod Standing
+pub mod FlowLaws
+pub mod CallLaws
+pub mod Refusing
 pub mod NextEvents
 pub mod OrderEvents
 pub mod FlowEvents

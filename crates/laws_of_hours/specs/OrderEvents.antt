@@ -22,8 +22,8 @@ use Rattle.market_model.specs.Orders.{is_open, next_name, open_names}
 use Rattle.laws_of_books.specs.BookOf.{book_of}
 use Rattle.laws_of_books.specs.BlockLaws.{IsOfOrder}
 use Rattle.laws_of_books.specs.BlocksOf.{blocks_of}
-use Rattle.laws_of_flows.specs.CallLaws.{CanCarry}
-use Rattle.laws_of_flows.specs.Standing.{IsCarried, IsSetOf, Stands}
+use Rattle.laws_of_hours.specs.CallLaws.{CanCarry}
+use Rattle.laws_of_hours.specs.Standing.{IsCarried, IsSetOf, Stands}
 
 -- ---- an order in hand
 

@@ -46,7 +46,7 @@ use Rattle.block_match.specs.declared.deal.BlockDeal.{BlockDeal}
 use Rattle.block_match.specs.Deals.{deal_of_block}
 use Rattle.block_match.specs.Market.{IsMarketDeal, deal_events, entered_block, rooms_over}
 use Rattle.block_match.proofs.MarketEntries.{entering_blocks}
-use Rattle.laws_of_desks.proofs.Admitting as admitting
+use Rattle.laws_of_boards.proofs.Admitting as admitting
 use Rattle.laws_of_joint_commands.specs.ByHour.{hour_events}
 use Rattle.laws_of_joint_commands.specs.EnteringBlocks.{AreClosed, BlocksEnterHourByHour, BlocksFindRoomInTheirFirstHour, EntriesGoOnInHours, EntriesOfAnHour, EntryDealsCloseBoth, block_entry, deal_found, events_of_deal, has_of_entry, legs_found, refused_at_desk, swept_after_entry}
 use Rattle.laws_of_joint_commands.proofs.ClosingDeals.{ClosesBoth, deal-closes, deal-hours, deal-named, same-both}

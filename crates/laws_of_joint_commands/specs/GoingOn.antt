@@ -9,7 +9,7 @@ use Rattle.market_model.specs.Grid.{graph_of}
 use Rattle.market_model.specs.History.{events_of, of_hour}
 use Rattle.market_model.specs.Market.{reply_by}
 use Rattle.market_model.specs.WellFormed.{FitAfter, IsHistory, IsMarketSetup}
-use Rattle.laws_of_desks.specs.Hours.{IsHourIn}
+use Rattle.laws_of_boards.specs.Hours.{IsHourIn}
 use Rattle.laws_of_joint_commands.specs.ByHour.{hour_events}
 
 -- a history goes on with more events, and each hour with those of them that it has: the hour's events and each

@@ -21,7 +21,7 @@ use Rattle.zone_graph.proofs.Finding.{from_find}
 use Rattle.zone_graph.proofs.Carrying.{carried-le, carried-room, carried-some, way-room, best_route-route}
 use Rattle.cut_proof.specs.Cut.{HasRoomFor}
 use Rattle.laws_of_market.proofs.Repeats.{bind-some, map-some}
-use Rattle.route_carrying.proofs.Carrying.{after_leg}
+use Rattle.cut_proof.proofs.Carrying.{after_leg}
 use Rattle.laws_of_rows.specs.declared.trades.Fill.{Fill}
 use Rattle.laws_of_rows.specs.declared.trades.Maker.{Maker}
 use Rattle.laws_of_rows.specs.declared.trades.MakerRow.{MakerRow}

@@ -28,7 +28,7 @@ use Rattle.laws_of_market.proofs.Legs.{opposite-opposite}
 use Rattle.laws_of_market.proofs.Tests.{same_name-refl}
 use Rattle.laws_of_market.proofs.Restrict.{find-same}
 use Rattle.laws_of_market.proofs.Replaced.{on}
-use Rattle.route_carrying.proofs.Carrying.{carried-rooms, best_route-arcs}
+use Rattle.cut_proof.proofs.Carrying.{carried-rooms, best_route-arcs}
 use Rattle.laws_of_rows.specs.declared.trades.Fill.{Fill}
 use Rattle.laws_of_rows.specs.declared.trades.Maker.{Maker}
 use Rattle.laws_of_rows.specs.Depth.{Depth, buyer_zone, can_fill, crosses_any, fill_over, fill_with, leg_of, next_fill, route_with, seller_zone}

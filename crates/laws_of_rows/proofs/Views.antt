@@ -33,7 +33,7 @@ use Rattle.laws_of_market.proofs.Placed.{all_are_sound}
 use Rattle.laws_of_market.proofs.Trades.{from_line}
 use Rattle.laws_of_market.proofs.Uses.{within_offers}
 use Rattle.laws_of_market.proofs.Restrict.{map-same}
-use Rattle.route_carrying.specs.Carrying.{FitTogether}
+use Rattle.cut_proof.specs.Carrying.{FitTogether}
 use Rattle.laws_of_rows.specs.declared.trades.Fill.{Fill}
 use Rattle.laws_of_rows.specs.declared.trades.Maker.{Maker}
 use Rattle.laws_of_rows.specs.declared.trades.MakerRow.{MakerRow}

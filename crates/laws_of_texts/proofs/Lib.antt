@@ -13,3 +13,9 @@ pub mod Spelled
 pub mod TextLines
 pub mod Texts
 pub mod Sessions
+mod Words
+mod Spaced
+mod Commands
+mod Drawn
+mod Read
+pub mod GeneratedSessions

@@ -3,3 +3,4 @@ pub mod Contents
 pub mod Grammar
 pub mod Laws
 pub mod Lines
+pub mod GeneratedLaws

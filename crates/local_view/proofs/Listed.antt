@@ -14,7 +14,7 @@ use Rattle.market_model.specs.declared.reply.ViewRow.{ViewRow}
 use Rattle.market_model.specs.Board.{BoardState, IsBoard, Rests, RestsIn, first_shown, resting_line, shown_behind}
 use Rattle.market_model.specs.Lines.{line}
 use Rattle.market_model.specs.Orders.{Standing}
-use Rattle.route_carrying.specs.Carrying.{FitTogether}
+use Rattle.cut_proof.specs.Carrying.{FitTogether}
 use Rattle.route_choice.specs.Poured.{AreRoomsAfter, lots_of, rooms_after as all_after}
 use Rattle.laws_of_rows.specs.Depth.{maker_of}
 use Rattle.local_view.specs.Boards.{AreRoomsOf, view_of}

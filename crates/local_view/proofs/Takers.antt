@@ -11,8 +11,8 @@ use Rattle.zone_graph.specs.Graph.{Graph, HasArc, HasZone, IsGraph, border_count
 use Rattle.zone_graph.specs.Pour.{room_after}
 use Rattle.zone_graph.specs.Rooms.{room_of}
 use Rattle.zone_graph.specs.Route.{IsIn, carried}
-use Rattle.route_carrying.specs.Carrying.{CanCarry, FitTogether}
-use Rattle.route_carrying.proofs.Carrying.{fit-kept, route_can_carry}
+use Rattle.cut_proof.specs.Carrying.{CanCarry, FitTogether}
+use Rattle.cut_proof.proofs.Carrying.{fit-kept, route_can_carry}
 use Rattle.route_choice.specs.declared.route_search.RouteSearch.{RouteSearch}
 use Rattle.route_choice.specs.Freshness.{IsFresh, is_known, directed_route, has_room}
 use Rattle.route_choice.specs.Poured.{AreRoomsAfter, lots_of, rooms_after}

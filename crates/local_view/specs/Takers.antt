@@ -7,7 +7,7 @@ use Rattle.zone_graph.specs.declared.route.Arc.{Arc}
 use Rattle.zone_graph.specs.Graph.{Graph, HasZone, border_count}
 use Rattle.zone_graph.specs.Rooms.{room_of}
 use Rattle.zone_graph.specs.Route.{best_route}
-use Rattle.route_carrying.specs.Carrying.{FitTogether}
+use Rattle.cut_proof.specs.Carrying.{FitTogether}
 use Rattle.route_tree.specs.Tree.{TellsRoutes, Tree}
 use Rattle.local_view.specs.declared.taker.Taker.{Taker}
 use Rattle.local_view.specs.declared.walk.Walk.{Walk}

@@ -16,8 +16,8 @@ ghost use Rattle.local_view.specs.Poured.{CarriesNext, leg_with, legs_with};
 ghost use Rattle.local_view.specs.Takers.{IsTaker, IsWalking, best_between};
 
 use crate::walk::Walk;
+use cut_proof::{carried, carry};
 use order_kinds::Side;
-use route_carrying::{carried, carry};
 use route_tree::RouteTree;
 use zone_graph::{Arc, Grid, Rooms};
 

@@ -15,7 +15,7 @@ use Rattle.market_model.specs.Orders.{Placed, Standing, filled, left, standing}
 use Rattle.market_model.specs.Taking.{next_leg}
 use Rattle.laws_of_market.proofs.Ascending.{Ascends}
 use Rattle.laws_of_market.proofs.Lines.{line-ascends, priority_weak}
-use Rattle.laws_of_lines.proofs.Worse.{crosses-worse, price-first}
+use Rattle.laws_of_boards.proofs.Worse.{crosses-worse, price-first}
 use Rattle.match_core.specs.declared.taker.Taker.{Taker}
 use Rattle.match_core.specs.Takings.{HasEntered}
 use Rattle.match_core.specs.Walks.{TakesOn, trades}

@@ -16,7 +16,7 @@ use Rattle.zone_graph.specs.Route.{IsIn, best_route, carried}
 use Rattle.zone_graph.proofs.BestRoute.{best_route-rooms}
 use Rattle.zone_graph.proofs.Finding.{from_find}
 use Rattle.zone_graph.proofs.Membership.{IsIn-right}
-use Rattle.route_carrying.proofs.Carrying.{carried-rooms}
+use Rattle.cut_proof.proofs.Carrying.{carried-rooms}
 use Rattle.route_choice.specs.declared.route_search.RouteSearch.{RouteSearch}
 use Rattle.route_choice.specs.Freshness.{searched_route}
 use Rattle.route_choice.proofs.Fresh.{searched_arcs, searched_from, searched_towards}

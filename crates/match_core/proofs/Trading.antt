@@ -11,8 +11,8 @@ use Rattle.zone_graph.specs.Pour.{lots_if, opposite_arc, uses}
 use Rattle.zone_graph.specs.Rooms.{room_of}
 use Rattle.zone_graph.specs.Route.{IsIn, IsRoute, carried}
 use Rattle.zone_graph.proofs.Carrying.{best_route-route, carried-room}
-use Rattle.route_carrying.specs.Carrying.{CanCarry}
-use Rattle.route_carrying.proofs.Carrying.{fit-kept, route_can_carry}
+use Rattle.cut_proof.specs.Carrying.{CanCarry}
+use Rattle.cut_proof.proofs.Carrying.{fit-kept, route_can_carry}
 use Rattle.route_choice.specs.declared.route_search.RouteSearch.{RouteSearch}
 use Rattle.route_choice.specs.Freshness.{IsFresh}
 use Rattle.quarter_capacity.specs.Capacity.{most_remaining}

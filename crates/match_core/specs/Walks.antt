@@ -11,7 +11,7 @@ use Rattle.zone_graph.specs.Graph.{Graph, HasArc, HasZone, IsGraph, border_count
 use Rattle.zone_graph.specs.Pour.{room_after}
 use Rattle.zone_graph.specs.Rooms.{room_of}
 use Rattle.zone_graph.specs.Route.{IsIn, carried}
-use Rattle.route_carrying.specs.Carrying.{CanCarry, FitTogether}
+use Rattle.cut_proof.specs.Carrying.{CanCarry, FitTogether}
 use Rattle.route_choice.specs.declared.route_search.RouteSearch.{RouteSearch}
 use Rattle.route_choice.specs.Freshness.{IsFresh, searched_route}
 use Rattle.market_model.specs.declared.board.Shown.{Shown}

@@ -12,9 +12,9 @@ ghost use Rattle.match_core.specs.Takings as takings;
 ghost use Rattle.match_core.specs.Walks as walks;
 
 use crate::taker::Taker;
+use cut_proof::{carried, carry};
 use market_model::{Board, Leg, Shown};
 use order_kinds::{OrderName, Side};
-use route_carrying::{carried, carry};
 use route_choice::RouteSearch;
 use std::alloc::Global;
 use zone_graph::{Grid, NoMemory, Rooms, Route};

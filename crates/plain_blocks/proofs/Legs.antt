@@ -10,7 +10,7 @@ use Rattle.zone_graph.specs.Pour.{pour_leg}
 use Rattle.zone_graph.specs.Rooms.{room_of}
 use Rattle.zone_graph.specs.Route.{best_route, carried}
 use Rattle.zone_graph.proofs.BestRoute.{best_route-rooms}
-use Rattle.route_carrying.proofs.Carrying.{carried-rooms, best_route-arcs}
+use Rattle.cut_proof.proofs.Carrying.{carried-rooms, best_route-arcs}
 use Rattle.market_model.specs.declared.event.Event.{Event}
 use Rattle.market_model.specs.Blocks.{StandingBlock, block_buyer_zone, block_leg, block_leg_over, block_seller_zone}
 use Rattle.market_model.specs.Orders.{left}

@@ -11,12 +11,12 @@ ghost use Rattle.market_model.specs.WellFormed.{IsLegalOver};
 ghost use Rattle.plain_blocks.specs.Meeting as meeting;
 ghost use Rattle.plain_matching.specs.Grown.{Grew};
 
+use cut_proof::carried;
 use event_history::History;
 use market_model::{Event, Leg, NoMemory, Route, Side};
 use plain_capacity::block_rooms;
 use plain_orders::{StandingBlock, left};
 use plain_routes::best_route;
-use route_carrying::carried;
 use std::alloc::Global;
 use zone_graph::{Grid, Rooms};
 

@@ -13,9 +13,9 @@ ghost use Rattle.plain_orders.specs.Tallies.{AreSums};
 
 use event_history::History;
 use market_model::{Kind, NoMemory, Order, OrderName, Refusal, Zones};
-use plain_certificate::{bound, zones_in_reach};
 use plain_matching::{HourSums, cut_back};
 use plain_orders::left;
+use plain_refusals::{bound, zones_in_reach};
 use std::alloc::Global;
 use zone_graph::Grid;
 

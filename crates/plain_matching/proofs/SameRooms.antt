@@ -10,7 +10,7 @@ use Rattle.market_model.specs.Lines.{buyer_zone, can_trade, seller_zone}
 use Rattle.market_model.specs.Orders.{Standing}
 use Rattle.market_model.specs.Taking.{leg_over}
 use Rattle.laws_of_market.proofs.Restrict.{find-same}
-use Rattle.route_carrying.proofs.Carrying.{carried-rooms, best_route-arcs}
+use Rattle.cut_proof.proofs.Carrying.{carried-rooms, best_route-arcs}
 use Rattle.plain_matching.specs.Over.{crosses_price, partner_in, trade_over}
 
 module _ (graph : Graph) (room other : Arc → ℕ) (is : IsGraph graph) (same : (arc : Arc) → HasArc graph arc → room arc ≡ other arc) where

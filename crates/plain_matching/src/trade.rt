@@ -11,10 +11,10 @@ ghost use Rattle.market_model.specs.Taking as taking;
 ghost use Rattle.plain_routes.specs.Reached.{IsFoundIn};
 ghost use Rattle.plain_matching.specs.Over as over;
 
+use cut_proof::carried;
 use market_model::{Event, Leg, NoMemory, Route, Side};
 use plain_orders::StandingOrder;
 use plain_routes::ReachedZones;
-use route_carrying::carried;
 use std::alloc::Global;
 use std::cmp::Ordering;
 use zone_graph::{Grid, Rooms};

@@ -11,8 +11,8 @@ use Rattle.zone_graph.specs.Pour.{opposite_arc}
 use Rattle.zone_graph.specs.Route.{IsBestRoute, IsWay, best_route, route_cmp}
 use Rattle.zone_graph.proofs.Arcs.{opposite-end, opposite-start, opposite-twice}
 use Rattle.zone_graph.proofs.BestRoute.{best_route-is, best_route-no_route, best_route-unique}
-use Rattle.zone_search.specs.Distance.{AreDistances, IsDescent, IsLeastStep, directed_room, distance_at}
-use Rattle.zone_search.proofs.Nearest.{descent_is_best, no_route, way_reached}
+use Rattle.cut_proof.specs.Distance.{AreDistances, IsDescent, IsLeastStep, directed_room, distance_at}
+use Rattle.cut_proof.proofs.Nearest.{descent_is_best, no_route, way_reached}
 use Rattle.cut_proof.proofs.Reaching.{way_of_distance, way_turned}
 use Rattle.plain_routes.specs.Onward.{LeadDown, onward_room}
 use Rattle.plain_routes.specs.Rounds.{IsSpread}

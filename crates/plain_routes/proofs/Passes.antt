@@ -10,7 +10,7 @@ use Rattle.zone_graph.specs.Pour.{same_arc, same_bool}
 use Rattle.zone_graph.proofs.Arcs.{same_arc-is}
 use Rattle.zone_graph.proofs.Finding.{none_from}
 use Rattle.zone_graph.proofs.GridLemmas.{start_within}
-use Rattle.zone_search.specs.Distance.{arcs_of_distance, distance_at}
+use Rattle.cut_proof.specs.Distance.{arcs_of_distance, distance_at}
 use Rattle.plain_routes.specs.Rounds.{IsPassed, IsTold, finds, one_if_unfound, unfound}
 
 -- ---- a distance, or none

@@ -6,7 +6,7 @@ use Rattle.std.proofs.lemmas.List.Sums.{sum_by-set}
 use Rattle.std.proofs.lemmas.List.Folds.{sum_by-replicate}
 use Rattle.zone_graph.specs.declared.route.Arc.{Arc}
 use Rattle.zone_graph.specs.Graph.{Graph, HasArc, end_of, start_of}
-use Rattle.zone_search.specs.Distance.{AreDistances, distance_at}
+use Rattle.cut_proof.specs.Distance.{AreDistances, distance_at}
 use Rattle.plain_routes.specs.Rounds.{IsPassed, IsSpread, one_if_unfound, unfound}
 use Rattle.plain_routes.proofs.Passes.{at, far, known_or, some-is}
 

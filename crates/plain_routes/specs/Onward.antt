@@ -3,7 +3,7 @@ use Rattle.std.specs.Prelude.{◌≡◌, ℕ, ◌+◌, ◌<◌, ◌==◌, List, 
 use Rattle.zone_graph.specs.declared.route.Arc.{Arc}
 use Rattle.zone_graph.specs.Graph.{Graph, end_of, start_of}
 use Rattle.zone_graph.specs.Route.{best_route}
-use Rattle.zone_search.specs.Distance.{IsDescent, distance_at}
+use Rattle.cut_proof.specs.Distance.{IsDescent, distance_at}
 use Rattle.plain_routes.specs.Steps.{HasStep}
 
 -- each zone of a grid has a place, and each distance is one that a way can have

@@ -2,7 +2,7 @@
 use Rattle.std.specs.Prelude.{ℕ, Bool, None, is_some, slice_index_or}
 use Rattle.zone_graph.specs.declared.route.Arc.{Arc}
 use Rattle.zone_graph.specs.Graph.{Graph}
-use Rattle.zone_search.specs.Distance.{AreDistances, directed_room}
+use Rattle.cut_proof.specs.Distance.{AreDistances, directed_room}
 use Rattle.plain_routes.specs.declared.reach.ReachedZones.{ReachedZones}
 
 -- a zone is in a set: it has a distance

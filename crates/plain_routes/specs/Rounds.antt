@@ -2,7 +2,7 @@
 use Rattle.std.specs.Prelude.{◌≡◌, ℕ, ◌+◌, ◌<◌, ◌≤◌, Bool, true, false, ◌==◌, ◌&&◌, not, List, Option, Some, None, is_some, length, nat_lt, slice_index_or, sum_by}
 use Rattle.zone_graph.specs.declared.route.Arc.{Arc}
 use Rattle.zone_graph.specs.Graph.{Graph, HasArc, end_of, start_of}
-use Rattle.zone_search.specs.Distance.{distance_at}
+use Rattle.cut_proof.specs.Distance.{distance_at}
 
 -- how many zones have no distance
 abbrev pub one_if_unfound : Option ℕ → ℕ

@@ -2,7 +2,7 @@
 use Rattle.std.specs.Prelude.{◌≡◌, ℕ, ◌+◌, ◌<◌, Bool, ◌==◌, ◌&&◌, List, Option, nat_lt}
 use Rattle.zone_graph.specs.declared.route.Arc.{Arc}
 use Rattle.zone_graph.specs.Graph.{Graph, HasArc, end_of, start_of}
-use Rattle.zone_search.specs.Distance.{distance_at}
+use Rattle.cut_proof.specs.Distance.{distance_at}
 
 -- an arc has room and leads from a zone to one at a distance
 abbrev pub is_step : Graph → (Arc → ℕ) → List (Option ℕ) → (zone distance : ℕ) → Arc → Bool

@@ -5,7 +5,7 @@ ghost use Rattle.zone_graph.specs.declared.route.Arc.{Arc};
 ghost use Rattle.zone_graph.specs.Graph.{HasArc, HasZone, border_count};
 ghost use Rattle.zone_graph.specs.Rooms.{room_of};
 ghost use Rattle.zone_graph.specs.Route.{best_route as route_of};
-ghost use Rattle.zone_search.specs.Distance.{AreDistances, IsLeastStep, directed_room, distance_at};
+ghost use Rattle.cut_proof.specs.Distance.{AreDistances, IsLeastStep, directed_room, distance_at};
 ghost use Rattle.plain_routes.specs.Onward.{LeadDown};
 ghost use Rattle.plain_routes.specs.Steps.{HasStep, is_step as steps_to};
 

@@ -3,7 +3,7 @@
 ghost use Rattle.std.specs.Prelude.{◌≡◌, ◌+◌, ◌<◌, ◌==◌, Some, None, length, slice_index_or, slice_set, true, false, if◌then◌else◌};
 ghost use Rattle.zone_graph.specs.Graph.{HasArc, HasZone, border_count, start_of};
 ghost use Rattle.zone_graph.specs.Rooms.{room_of};
-ghost use Rattle.zone_search.specs.Distance.{AreDistances, arcs_of_distance, directed_room};
+ghost use Rattle.cut_proof.specs.Distance.{AreDistances, arcs_of_distance, directed_room};
 ghost use Rattle.plain_routes.specs.Rounds.{IsPassed, IsTold, finds};
 
 use zone_graph::{Arc, Grid, MOST_ZONES, Rooms};

@@ -4,7 +4,7 @@
 ghost use Rattle.std.specs.Prelude.{◌≡◌, ◌+◌, ◌<◌, ◌==◌, length, true};
 ghost use Rattle.zone_graph.specs.Graph.{HasArc, HasZone, border_count};
 ghost use Rattle.zone_graph.specs.Rooms.{room_of};
-ghost use Rattle.zone_search.specs.Distance.{AreDistances, distance_at};
+ghost use Rattle.cut_proof.specs.Distance.{AreDistances, distance_at};
 ghost use Rattle.plain_routes.specs.Onward.{ArePlaced, onward_room};
 ghost use Rattle.plain_routes.specs.Rounds.{IsPassed, IsTold};
 

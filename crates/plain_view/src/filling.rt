@@ -12,11 +12,11 @@ ghost use Rattle.plain_routes.specs.Reached.{IsFoundIn};
 ghost use Rattle.laws_of_rows.specs.Depth as depth;
 ghost use Rattle.plain_view.specs.InReach as in_reach;
 
+use cut_proof::carried;
+use laws_of_rows::{Fill, Maker};
 use market_model::{NoMemory, Price, Side};
 use plain_routes::{ReachedZones, reached};
-use route_carrying::carried;
 use std::alloc::Global;
-use laws_of_rows::{Fill, Maker};
 use zone_graph::{Grid, Rooms};
 
 /// The next trade of a taker in a zone, of which so many lots are left: with the first maker of the

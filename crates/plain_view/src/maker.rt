@@ -3,10 +3,10 @@
 ghost use Rattle.std.specs.Prelude.{◌≡◌, IfOk, map};
 ghost use Rattle.laws_of_rows.specs.Depth as depth;
 
+use laws_of_rows::Maker;
 use market_model::{NoMemory, OrderName};
 use plain_orders::StandingOrder;
 use std::alloc::Global;
-use laws_of_rows::Maker;
 
 /// The orders of a line as makers, of which nothing is taken yet.
 pub(crate) fn makers_of(alloc: Global, line: &[StandingOrder]) -> Result<Vec<Maker>, NoMemory>

@@ -4,16 +4,16 @@ ghost use Rattle.std.specs.Prelude.{◌≡◌, ◌+◌, ◌^◌, ◌<◌, ℕ, I
 ghost use Rattle.std.specs.List.{list_any};
 ghost use Rattle.zone_graph.specs.Graph.{HasZone, border_count};
 ghost use Rattle.zone_graph.specs.Rooms.{room_of};
-ghost use Rattle.route_carrying.specs.Carrying.{FitTogether};
+ghost use Rattle.cut_proof.specs.Carrying.{FitTogether};
 ghost use Rattle.laws_of_rows.specs.Depth as depth;
 ghost use Rattle.laws_of_rows.specs.Filled as filled;
 
 use crate::filling::next_fill;
 use crate::maker::take_of;
-use market_model::{NoMemory, OrderName, Rows, Side, ViewRow};
-use route_carrying::carry;
-use std::alloc::Global;
+use cut_proof::carry;
 use laws_of_rows::{Fill, Maker, MakerRow};
+use market_model::{NoMemory, OrderName, Rows, Side, ViewRow};
+use std::alloc::Global;
 use zone_graph::{Grid, Rooms};
 
 /// The rows of the makers with which a taker of any quantity trades, in the order of the first trade

@@ -9,9 +9,9 @@ use Rattle.laws_of_texts.specs.Contents.{CallerLine, CommandLine, Contents, bord
 use Rattle.laws_of_texts.specs.Grammar.{IsSessionText}
 use Rattle.laws_of_texts.specs.Lines.{IsLine, counting_lines}
 use Rattle.laws_of_texts.proofs.Texts.{accepted-in-grammar}
-use Rattle.divided_text.specs.Laws.{IsDivided}
-use Rattle.divided_text.specs.Reading.{session_of_divided, with_rest}
-use Rattle.divided_text.proofs.Answering.{divided-read}
+use Rattle.journal_audit.specs.DividingLaws.{IsDivided}
+use Rattle.journal_audit.specs.Reading.{session_of_divided, with_rest}
+use Rattle.journal_audit.proofs.Answering.{divided-read}
 use Rattle.journal_audit.proofs.Journals.{journals-complete}
 use Rattle.record_run.specs.Records.{dividing_line}
 use Rattle.record_run.specs.Laws.{PrintedJournalsMakeRecords, TradedJournalsMakeRecords, recorded}

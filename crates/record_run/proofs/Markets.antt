@@ -6,8 +6,8 @@ use Rattle.market_model.specs.Grid.{graph_of}
 use Rattle.market_text.specs.declared.session.Session.{Session}
 use Rattle.market_text.specs.Text.{session_of_text}
 use Rattle.laws_of_texts.proofs.Grids.{sessions-make-grids}
-use Rattle.divided_text.specs.Dividing.{Parts, division_of}
-use Rattle.divided_text.specs.Reading.{session_of_divided, session_of_parts, with_rest}
+use Rattle.journal_audit.specs.Dividing.{Parts, division_of}
+use Rattle.journal_audit.specs.Reading.{session_of_divided, session_of_parts, with_rest}
 use Rattle.record_run.specs.Records.{dividing_line}
 
 -- a session that stands before a rest was read

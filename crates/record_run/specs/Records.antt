@@ -4,7 +4,7 @@ use Rattle.market_model.specs.declared.entry.Entry.{Entry}
 use Rattle.market_model.specs.declared.setup.Setup.{Setup}
 use Rattle.market_model.specs.History.{journal_events}
 use Rattle.market_text.specs.declared.session.Session.{Session}
-use Rattle.divided_text.specs.Reading.{session_of_divided}
+use Rattle.journal_audit.specs.Reading.{session_of_divided}
 use Rattle.journal_audit.specs.Audit.{IsJournalWith, IsNoJournal}
 use Rattle.ship_schedule.specs.ScheduleText.{schedule_text}
 

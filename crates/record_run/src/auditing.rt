@@ -10,8 +10,7 @@ ghost use Rattle.record_run.specs.Auditing.{EndsAudit, IsOf};
 ghost use Rattle.record_run.specs.Records.{IsBadRecord, IsIllegalRecord};
 
 use crate::inputs::input_from;
-use divided_text::{Divided, read_divided};
-use journal_audit::{Verdict, audit};
+use journal_audit::{Divided, Verdict, audit, read_divided};
 use market_model::{Entries, Setup};
 use market_text::{Session, TextFault};
 use outside::Source;

@@ -9,8 +9,8 @@ use Rattle.zone_graph.specs.Pour.{room_after}
 use Rattle.zone_graph.specs.Route.{IsIn, best_route}
 use Rattle.zone_graph.proofs.BestRoute.{best_route-is}
 use Rattle.zone_graph.proofs.Finding.{none_from}
-use Rattle.zone_search.specs.Distance.{AreDistances, IsDescent, directed_room, distance_at}
-use Rattle.zone_search.proofs.Nearest.{descent_is_best}
+use Rattle.cut_proof.specs.Distance.{AreDistances, IsDescent, directed_room, distance_at}
+use Rattle.cut_proof.proofs.Nearest.{descent_is_best}
 use Rattle.cut_proof.specs.Cut.{reaches_in}
 use Rattle.cut_proof.proofs.Reaching.{distance_tells}
 use Rattle.cut_proof.proofs.ReachLaws.{reach_from_start, reach_to_end}

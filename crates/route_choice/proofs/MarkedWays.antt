@@ -7,8 +7,8 @@ use Rattle.zone_graph.specs.Pour.{lots_if, opposite_arc}
 use Rattle.zone_graph.specs.Route.{IsWay, best_route}
 use Rattle.zone_graph.proofs.Arcs.{opposite-end, opposite-start, opposite-twice}
 use Rattle.zone_graph.proofs.BestRoute.{best_route-is}
-use Rattle.zone_search.specs.Distance.{AreDistances, IsDescent, arcs_of_distance, directed_room, distance_at}
-use Rattle.zone_search.proofs.Nearest.{descent_is_best}
+use Rattle.cut_proof.specs.Distance.{AreDistances, IsDescent, arcs_of_distance, directed_room, distance_at}
+use Rattle.cut_proof.proofs.Nearest.{descent_is_best}
 use Rattle.route_choice.specs.Descent.{LeadDown}
 use Rattle.route_choice.specs.Onward.{AreMarked, AreOnward, CanBeMarked, NewAreFollowed}
 use Rattle.route_choice.proofs.Shortest.{same_best}

@@ -9,8 +9,8 @@ use Rattle.zone_graph.specs.Pour.{opposite_arc}
 use Rattle.zone_graph.specs.Route.{IsIn}
 use Rattle.zone_graph.proofs.Arcs.{opposite-end, opposite-start, opposite-twice}
 use Rattle.zone_graph.proofs.Places.{at_any, place_of}
-use Rattle.zone_search.specs.Distance.{arcs_of_distance, distance_at}
-use Rattle.zone_search.proofs.Neighbours.{neighbour_at, neighbour_by}
+use Rattle.cut_proof.specs.Distance.{arcs_of_distance, distance_at}
+use Rattle.cut_proof.proofs.Neighbours.{neighbour_at, neighbour_by}
 use Rattle.route_choice.specs.Onward.{AreMarked, CanBeMarked, IsFollowed, KeepsMarks, NewAreFollowed, leads_back}
 
 -- ---- one more mark

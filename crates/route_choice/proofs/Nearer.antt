@@ -9,8 +9,8 @@ use Rattle.zone_graph.specs.Grid.{IsGrid, neighbour_over, neighbours_of}
 use Rattle.zone_graph.specs.Route.{IsIn}
 use Rattle.zone_graph.proofs.Membership.{from_filter, from_flat_map, from_map, from_range}
 use Rattle.zone_graph.proofs.Finding.{find-none}
-use Rattle.zone_search.specs.Distance.{IsLeastStep, distance_at}
-use Rattle.zone_search.proofs.Neighbours.{neighbour_at, neighbour_by, neighbour_in, neighbour_within}
+use Rattle.cut_proof.specs.Distance.{IsLeastStep, distance_at}
+use Rattle.cut_proof.proofs.Neighbours.{neighbour_at, neighbour_by, neighbour_in, neighbour_within}
 use Rattle.route_choice.specs.Descent.{LeadDown}
 use Rattle.route_choice.specs.Neighbours.{AreKnown, leads_nearer}
 

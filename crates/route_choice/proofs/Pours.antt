@@ -16,7 +16,7 @@ use Rattle.zone_graph.proofs.Carrying.{carried-le, carried-room, carried-some, w
 use Rattle.cut_proof.specs.Cut.{HasRoomFor}
 use Rattle.cut_proof.proofs.Crossing.{legs_in}
 use Rattle.cut_proof.proofs.ReachLaws.{has-towards, no_room_enters, towards-has}
-use Rattle.route_carrying.proofs.Carrying.{after_leg}
+use Rattle.cut_proof.proofs.Carrying.{after_leg}
 use Rattle.route_choice.specs.Poured.{AreRoomsAfterSome, CarryTheMost, PoursRunToTheirEnd, lots_of, rooms_after}
 
 -- ---- one leg

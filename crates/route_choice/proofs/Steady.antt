@@ -8,8 +8,8 @@ use Rattle.zone_graph.specs.Graph.{Graph, HasArc, IsGraph, end_of, start_of}
 use Rattle.zone_graph.specs.Pour.{lots_if, opposite_arc, room_after, uses}
 use Rattle.zone_graph.specs.Route.{IsIn, IsWay}
 use Rattle.zone_graph.proofs.Arcs.{IsIn-uses, opposite-end, opposite-start, opposite-twice}
-use Rattle.zone_search.specs.Distance.{AreDistances, directed_room, distance_at}
-use Rattle.zone_search.proofs.Nearest.{way_long, way_reached}
+use Rattle.cut_proof.specs.Distance.{AreDistances, directed_room, distance_at}
+use Rattle.cut_proof.proofs.Nearest.{way_long, way_reached}
 use Rattle.cut_proof.proofs.Reaching.{way_of_distance, way_turned}
 use Rattle.cut_proof.proofs.ReachLaws.{room_before}
 use Rattle.cut_proof.proofs.Ways.{way_longer}

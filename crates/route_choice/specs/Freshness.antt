@@ -6,7 +6,7 @@ use Rattle.zone_graph.specs.declared.route.RouteLeg.{RouteLeg}
 use Rattle.zone_graph.specs.Graph.{Graph, HasZone, IsGraph}
 use Rattle.zone_graph.specs.Pour.{room_after}
 use Rattle.zone_graph.specs.Route.{IsIn, IsRoute, best_route}
-use Rattle.zone_search.specs.Distance.{AreDistances, directed_room}
+use Rattle.cut_proof.specs.Distance.{AreDistances, directed_room}
 use Rattle.route_choice.specs.declared.route_search.RouteSearch.{RouteSearch}
 
 -- the best route from another zone to a zone (towards), or from the zone to the other one

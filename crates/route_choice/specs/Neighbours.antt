@@ -2,7 +2,7 @@
 use Rattle.std.specs.Prelude.{◌<◌, ℕ, Bool, ◌&&◌, List, length, Option, nat_lt, slice_index_or}
 use Rattle.zone_graph.specs.declared.route.Arc.{Arc}
 use Rattle.zone_graph.specs.declared.grid.Neighbour.{Neighbour}
-use Rattle.zone_search.specs.Distance.{distance_at}
+use Rattle.cut_proof.specs.Distance.{distance_at}
 
 -- a neighbour can be gone to and is less far than so many arcs
 abbrev pub leads_nearer : (Arc → ℕ) → List (Option ℕ) → (distance : ℕ) → Neighbour → Bool

@@ -5,7 +5,7 @@ use Rattle.zone_graph.specs.declared.route.Arc.{Arc}
 use Rattle.zone_graph.specs.declared.grid.Neighbour.{Neighbour}
 use Rattle.zone_graph.specs.Graph.{Graph, HasArc, end_of, start_of}
 use Rattle.zone_graph.specs.Pour.{opposite_arc}
-use Rattle.zone_search.specs.Distance.{distance_at}
+use Rattle.cut_proof.specs.Distance.{distance_at}
 
 -- a neighbour has an arc with room back, and is one arc less far than so many
 abbrev pub leads_back : (Arc → ℕ) → List (Option ℕ) → (distance : ℕ) → Neighbour → Bool

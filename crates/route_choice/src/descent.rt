@@ -3,13 +3,13 @@
 ghost use Rattle.std.specs.Prelude.{◌≡◌, ◌<◌, IfOk, find, length, nat_lt};
 ghost use Rattle.zone_graph.specs.Graph.{HasZone, border_count};
 ghost use Rattle.zone_graph.specs.Rooms.{room_of};
-ghost use Rattle.zone_search.specs.Distance.{IsDescent, arcs_of_distance, distance_at};
+ghost use Rattle.cut_proof.specs.Distance.{IsDescent, arcs_of_distance, distance_at};
 ghost use Rattle.route_choice.specs.Descent.{LeadDown};
 ghost use Rattle.route_choice.specs.Neighbours.{AreKnown, leads_nearer};
 
+use cut_proof::Distances;
 use std::alloc::Global;
 use zone_graph::{Grid, Neighbour, NoMemory, Rooms, Route};
-use zone_search::Distances;
 
 /// The way down from a zone so many arcs far to the one at 0: at each zone over the arc of the least
 /// border that leads to a nearer one.

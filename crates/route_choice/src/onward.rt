@@ -3,11 +3,11 @@
 ghost use Rattle.std.specs.Prelude.{◌≡◌, ◌+◌, ◌<◌, ◌==◌, length};
 ghost use Rattle.zone_graph.specs.Graph.{HasZone, border_count};
 ghost use Rattle.zone_graph.specs.Rooms.{room_of};
-ghost use Rattle.zone_search.specs.Distance.{arcs_of_distance, distance_at};
+ghost use Rattle.cut_proof.specs.Distance.{arcs_of_distance, distance_at};
 ghost use Rattle.route_choice.specs.Onward.{AreMarked, AreOnward, CanBeMarked, KeepsMarks, NewAreFollowed, leads_back};
 
+use cut_proof::Distances;
 use zone_graph::{Grid, MOST_ZONES, Neighbour, Rooms};
-use zone_search::Distances;
 
 /// How many arcs each zone on the shortest ways to a zone is before it, by zone: `None` for all
 /// others. The distances are those from where the ways start.

@@ -5,11 +5,11 @@ ghost use Rattle.zone_graph.specs.Graph.{HasZone, border_count};
 ghost use Rattle.zone_graph.specs.Grid.{IsGrid};
 ghost use Rattle.zone_graph.specs.Pour.{pour as legs_poured, pour_leg};
 ghost use Rattle.zone_graph.specs.Rooms.{room_of};
-ghost use Rattle.route_carrying.specs.Carrying.{FitTogether};
+ghost use Rattle.cut_proof.specs.Carrying.{FitTogether};
 ghost use Rattle.route_choice.specs.Poured.{AreRoomsAfter, AreRoomsAfterSome, CarryTheMost};
 
 use crate::choice::best_route;
-use route_carrying::{carried, carry};
+use cut_proof::{carried, carry};
 use std::alloc::Global;
 use zone_graph::{Grid, Legs, NoMemory, Rooms, RouteLeg};
 

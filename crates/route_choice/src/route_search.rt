@@ -6,14 +6,14 @@ ghost use Rattle.zone_graph.specs.declared.route.Arc.{Arc};
 ghost use Rattle.zone_graph.specs.Graph.{HasZone, border_count};
 ghost use Rattle.zone_graph.specs.Rooms.{room_of};
 ghost use Rattle.zone_graph.specs.Route.{IsIn};
-ghost use Rattle.zone_search.specs.Distance.{distance_at};
+ghost use Rattle.cut_proof.specs.Distance.{distance_at};
 ghost use Rattle.route_choice.specs.Freshness.{IsFresh, StaysFresh, TellsReach, has_room, is_known, searched_route};
 
 use crate::descent::descend;
 use crate::onward::onward;
+use cut_proof::{Distances, distances};
 use std::alloc::Global;
 use zone_graph::{Arc, Grid, NoMemory, Rooms, Route};
-use zone_search::{Distances, distances};
 
 /// How far all zones of a grid are to one zone, or from it, over a row of rooms: a search that is
 /// made once and asked for many routes. It is fresh over the rooms that it was made over, and over

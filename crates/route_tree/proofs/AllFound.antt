@@ -8,8 +8,8 @@ use Rattle.zone_graph.specs.Grid.{IsGrid}
 use Rattle.zone_graph.specs.Pour.{opposite_arc}
 use Rattle.zone_graph.proofs.Arcs.{opposite-end}
 use Rattle.zone_graph.proofs.Routes.{end_within}
-use Rattle.zone_search.specs.Distance.{AreDistances, arcs_of_distance, distance_at}
-use Rattle.zone_search.proofs.Searches.{IsReady, IsSearching, ended, free_places, free_places-found}
+use Rattle.cut_proof.specs.Distance.{AreDistances, arcs_of_distance, distance_at}
+use Rattle.cut_proof.proofs.Searches.{IsReady, IsSearching, ended, free_places, free_places-found}
 
 -- places without a distance are free
 many_free : (many first : ℕ) (distances : List (Option ℕ)) → first + many ≤ length distances

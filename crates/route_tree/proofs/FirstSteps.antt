@@ -15,7 +15,7 @@ use Rattle.zone_graph.specs.Route.{AreDifferent, IsIn, IsWay, best_route, zones_
 use Rattle.zone_graph.proofs.Arcs.{opposite-end, opposite-start, opposite-twice}
 use Rattle.zone_graph.proofs.BestRoute.{best_route-unique}
 use Rattle.zone_graph.proofs.GridLemmas.{arc_between-every}
-use Rattle.zone_search.specs.Distance.{AreDistances, arcs_of_distance, directed_room, distance_at}
+use Rattle.cut_proof.specs.Distance.{AreDistances, arcs_of_distance, directed_room, distance_at}
 use Rattle.cut_proof.proofs.Ways.{way_longer}
 use Rattle.route_choice.specs.Freshness.{IsFresh}
 use Rattle.route_choice.proofs.Fresh.{no_route_there}

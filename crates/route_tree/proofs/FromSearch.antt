@@ -10,9 +10,9 @@ use Rattle.zone_graph.specs.Grid.{IsGrid, neighbours_of}
 use Rattle.zone_graph.specs.Pour.{opposite_arc}
 use Rattle.zone_graph.proofs.Arcs.{opposite-end, opposite-start, opposite-twice}
 use Rattle.zone_graph.proofs.Places.{at_any}
-use Rattle.zone_search.specs.Distance.{arcs_of_distance, directed_room, distance_at}
-use Rattle.zone_search.proofs.Neighbours.{IsNeighbour, neighbour_at}
-use Rattle.zone_search.proofs.Searches.{IsReady, IsVisiting, at_found, at_others, spaces_in, started, visit_begins, visit_ends, visit_goes_on, visit_skips}
+use Rattle.cut_proof.specs.Distance.{arcs_of_distance, directed_room, distance_at}
+use Rattle.cut_proof.proofs.Neighbours.{IsNeighbour, neighbour_at}
+use Rattle.cut_proof.proofs.Searches.{IsReady, IsVisiting, at_found, at_others, spaces_in, started, visit_begins, visit_ends, visit_goes_on, visit_skips}
 use Rattle.route_tree.specs.Search.{Search, begun, first_met, found, no_step, step_at}
 use Rattle.route_tree.specs.Tree.{HasPlaces, TellsRoutes}
 use Rattle.route_tree.proofs.AllFound.{search_done}

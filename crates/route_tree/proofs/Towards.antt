@@ -6,8 +6,8 @@ use Rattle.zone_graph.specs.declared.route.Arc.{Arc}
 use Rattle.zone_graph.specs.declared.grid.Neighbour.{Neighbour}
 use Rattle.zone_graph.specs.Graph.{Graph, HasZone, IsGraph, end_of}
 use Rattle.zone_graph.specs.Route.{best_route}
-use Rattle.zone_search.specs.Distance.{AreDistances, IsDescent, IsLeastStep, arcs_of_distance, distance_at}
-use Rattle.zone_search.proofs.Nearest.{descent_is_best, no_route}
+use Rattle.cut_proof.specs.Distance.{AreDistances, IsDescent, IsLeastStep, arcs_of_distance, distance_at}
+use Rattle.cut_proof.proofs.Nearest.{descent_is_best, no_route}
 use Rattle.route_tree.specs.Search.{step_at}
 use Rattle.route_tree.specs.Tree.{TellsRoutes, route_along}
 

@@ -12,9 +12,9 @@ use Rattle.zone_graph.specs.Route.{IsIn}
 use Rattle.zone_graph.proofs.Arcs.{opposite-end, opposite-start}
 use Rattle.zone_graph.proofs.Finding.{find-IsIn, from_find}
 use Rattle.zone_graph.proofs.Places.{at_any}
-use Rattle.zone_search.specs.Distance.{IsLeastStep, arcs_of_distance, distance_at}
-use Rattle.zone_search.proofs.Neighbours.{IsNeighbour, neighbour_at, neighbour_by, neighbour_in}
-use Rattle.zone_search.proofs.Searches.{IsReady, IsVisiting, at_found, at_others, spaces_in, started, visit_begins, visit_ends, visit_goes_on, visit_skips}
+use Rattle.cut_proof.specs.Distance.{IsLeastStep, arcs_of_distance, distance_at}
+use Rattle.cut_proof.proofs.Neighbours.{IsNeighbour, neighbour_at, neighbour_by, neighbour_in}
+use Rattle.cut_proof.proofs.Searches.{IsReady, IsVisiting, at_found, at_others, spaces_in, started, visit_begins, visit_ends, visit_goes_on, visit_skips}
 use Rattle.route_tree.specs.declared.search.Branches.{Branches}
 use Rattle.route_tree.specs.declared.search.Queue.{Queue}
 use Rattle.route_tree.specs.Search.{Search, begun, first_met, found, leads_at, least_step, no_step, search_over, step_at}

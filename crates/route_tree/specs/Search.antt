@@ -4,7 +4,7 @@ use Rattle.zone_graph.specs.declared.route.Arc.{Arc}
 use Rattle.zone_graph.specs.declared.grid.Neighbour.{Neighbour}
 use Rattle.zone_graph.specs.Graph.{Graph}
 use Rattle.zone_graph.specs.Grid.{neighbours_of}
-use Rattle.zone_search.specs.Distance.{distance_at}
+use Rattle.cut_proof.specs.Distance.{distance_at}
 use Rattle.route_tree.specs.declared.search.Branches.{Branches}
 use Rattle.route_tree.specs.declared.search.Queue.{Queue}
 

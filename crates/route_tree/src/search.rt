@@ -4,14 +4,14 @@ ghost use Rattle.std.specs.Prelude.{◌≡◌, ◌<◌, ◌+◌, ◌==◌, ℕ, 
 ghost use Rattle.std.specs.Option.{option_copied};
 ghost use Rattle.zone_graph.specs.Graph.{HasZone, border_count};
 ghost use Rattle.zone_graph.specs.Rooms.{room_of};
-ghost use Rattle.zone_search.specs.Distance.{arcs_of_distance};
+ghost use Rattle.cut_proof.specs.Distance.{arcs_of_distance};
 ghost use Rattle.route_choice.specs.Freshness.{has_room};
 ghost use Rattle.route_choice.specs.Neighbours.{AreKnown};
 ghost use Rattle.route_tree.specs.Search.{first_met, leads_at, least_step, no_step, search_over, step_at};
 ghost use Rattle.route_tree.specs.Tree.{HasPlaces, TellsRoutes, tree_of};
 
+use cut_proof::Distances;
 use zone_graph::{Arc, Grid, MOST_ZONES, Neighbour, Rooms};
-use zone_search::Distances;
 
 /// What a search finds: how far each zone is, and its step, by zone.
 #[derive(Drop)]

@@ -3,7 +3,7 @@ use Rattle.std.proofs.Common.{◌≡◌, ◌∙◌, ℕ, ◌≤◌, List, [], Op
 use Rattle.load_maker.specs.Session.{session_text}
 use Rattle.load_maker.specs.Summary.{summary_text}
 use Rattle.market_text.specs.Text.{session_of_text}
-use Rattle.laws_of_generated_texts.proofs.Sessions.{generated_texts}
+use Rattle.laws_of_texts.proofs.GeneratedSessions.{generated_texts}
 use Rattle.session_journal.specs.Journal.{journal_of_session}
 use Rattle.session_run.specs.Journal.{IsSummaryOf}
 use Rattle.run_status.specs.Outcomes.{IsWrittenInPart}

@@ -19,9 +19,9 @@ use Rattle.market_model.specs.WellFormed.{BlockLegFits, FitAfter, Fits, LegFits}
 use Rattle.laws_of_market.proofs.Growing.{fit-front}
 use Rattle.laws_of_market.proofs.Names.{names-once}
 use Rattle.laws_of_market.proofs.Placed.{all_are_sound}
-use Rattle.schedule_rows.specs.declared.period.Period.{Period}
-use Rattle.schedule_rows.specs.declared.period.Period.TheVariants as period
-use Rattle.schedule_rows.specs.Rows.{is_number}
+use Rattle.ship_schedule.specs.declared.period.Period.{Period}
+use Rattle.ship_schedule.specs.declared.period.Period.TheVariants as period
+use Rattle.ship_schedule.specs.Rows.{is_number}
 use Rattle.ship_schedule.specs.Schedule.{traded_by}
 use Rattle.ship_schedule.specs.Tally.{leg_lots, party_lots, party_of, position_lots, sells, sum_along}
 use Rattle.ship_schedule.proofs.Evened.{block_bought_in, block_sold_in, bought_in, sold_in}

@@ -20,11 +20,11 @@ use Rattle.market_model.specs.History.{and_then, events_of, journal_events}
 use Rattle.laws_of_market.proofs.Journals.{journal_events-more}
 use Rattle.market_model.specs.declared.event.Leg.{Leg}
 use Rattle.order_kinds.specs.declared.contract.Quarter.{Quarter}
-use Rattle.schedule_rows.specs.declared.balance.Balance.{Balance}
-use Rattle.schedule_rows.specs.declared.period.Period.{Period}
-use Rattle.schedule_rows.specs.declared.period.Period.TheVariants as period
-use Rattle.schedule_rows.specs.Places.{period_has, quarter_at}
-use Rattle.schedule_rows.specs.Rows.{Counted, InRows, SameShape, amount, is_number, row_at}
+use Rattle.ship_schedule.specs.declared.balance.Balance.{Balance}
+use Rattle.ship_schedule.specs.declared.period.Period.{Period}
+use Rattle.ship_schedule.specs.declared.period.Period.TheVariants as period
+use Rattle.ship_schedule.specs.Places.{period_has, quarter_at}
+use Rattle.ship_schedule.specs.Rows.{Counted, InRows, SameShape, amount, is_number, row_at}
 use Rattle.ship_schedule.specs.declared.party_index.Party.{Party}
 use Rattle.ship_schedule.specs.declared.tally.Tally.{Tally}
 use Rattle.ship_schedule.specs.Tally.{AreWithin, Counts, IsLegWithin, IsWithin, SameSize, arc_over, grant_lots, leg_lots, party_at, party_in, party_lots, party_of, position_lots, row_of, sum_along, trade_lots}

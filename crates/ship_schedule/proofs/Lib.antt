@@ -1,3 +1,4 @@
+pub mod Counts
 pub mod Parties
 pub mod RouteSums
 pub mod Evened

@@ -8,8 +8,8 @@ use Rattle.std.proofs.lemmas.List.{append-nil, append_assoc}
 use Rattle.std.proofs.lemmas.List.Concat.{flat_map-append}
 use Rattle.std.proofs.lemmas.List.Folds.{flat_map-map}
 use Rattle.std.proofs.lemmas.List.FromFn.{map-range_with_len_more}
-use Rattle.schedule_rows.specs.declared.balance.Balance.{Balance}
-use Rattle.schedule_rows.specs.Rows.{net}
+use Rattle.ship_schedule.specs.declared.balance.Balance.{Balance}
+use Rattle.ship_schedule.specs.Rows.{net}
 use Rattle.ship_schedule.specs.ScheduleText.{is_none, line}
 
 -- the text of one more number

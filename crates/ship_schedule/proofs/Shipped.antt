@@ -28,8 +28,8 @@ use Rattle.market_model.specs.WellFormed.{FitAfter, Fits, IsHistory, IsMarketSet
 use Rattle.laws_of_market.proofs.Growing.{fit-back, fit-front}
 use Rattle.laws_of_market.proofs.Journals.{run-history}
 use Rattle.laws_of_market.proofs.Placed.{AllAreSound, all_are_sound}
-use Rattle.schedule_rows.specs.Places.{quarter_at}
-use Rattle.schedule_rows.specs.Rows.{row_at}
+use Rattle.ship_schedule.specs.Places.{quarter_at}
+use Rattle.ship_schedule.specs.Rows.{row_at}
 use Rattle.ship_schedule.specs.declared.tally.Tally.{Tally}
 use Rattle.ship_schedule.specs.Schedule.{is_grant, is_trade}
 use Rattle.ship_schedule.specs.ScheduleText.{Numbers, border_line, lines_of, numbers_in, numbers_of, quarter_lines, schedule_text, zone_line}

@@ -1,4 +1,6 @@
 -- What the contracts of this crate cite.
+pub mod Places
+pub mod Rows
 pub mod Schedule
 pub mod ScheduleLaws
 pub mod ScheduleText

@@ -10,8 +10,8 @@ use Rattle.market_model.specs.declared.event.Event.{Event}
 use Rattle.market_model.specs.declared.setup.Setup.{Setup}
 use Rattle.market_model.specs.Grid.{graph_of}
 use Rattle.journal_print.specs.Line.{arc_text, zone_name}
-use Rattle.schedule_rows.specs.Places.{quarter_at}
-use Rattle.schedule_rows.specs.Rows.{balance_at, net, signed_text}
+use Rattle.ship_schedule.specs.Places.{quarter_at}
+use Rattle.ship_schedule.specs.Rows.{balance_at, net, signed_text}
 use Rattle.ship_schedule.specs.declared.sums.Sums.{Sums}
 use Rattle.ship_schedule.specs.Schedule.{bought, exchange, explicit, forward_arc, net_position, sold}
 

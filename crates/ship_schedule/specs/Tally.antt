@@ -14,10 +14,10 @@ use Rattle.market_model.specs.declared.event.Leg.{Leg}
 use Rattle.market_model.specs.declared.setup.Setup.{Setup}
 use Rattle.market_model.specs.Capacity.{allocated_by}
 use Rattle.market_model.specs.History.{and_then}
-use Rattle.schedule_rows.specs.declared.period.Period.{Period}
-use Rattle.schedule_rows.specs.declared.period.Period.TheVariants as period
-use Rattle.schedule_rows.specs.Places.{period_has, quarter_at}
-use Rattle.schedule_rows.specs.Rows.{InRows, SameShape, amount, is_number, row_at}
+use Rattle.ship_schedule.specs.declared.period.Period.{Period}
+use Rattle.ship_schedule.specs.declared.period.Period.TheVariants as period
+use Rattle.ship_schedule.specs.Places.{period_has, quarter_at}
+use Rattle.ship_schedule.specs.Rows.{InRows, SameShape, amount, is_number, row_at}
 use Rattle.ship_schedule.specs.declared.party_index.Party.{Party}
 use Rattle.ship_schedule.specs.declared.tally.Tally.{Tally}
 use Rattle.ship_schedule.specs.Schedule.{is_grant, is_trade}

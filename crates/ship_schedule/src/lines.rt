@@ -1,14 +1,14 @@
 //! The lines of a schedule, printed from rows of sums.
 
 ghost use Rattle.std.specs.Prelude.{◌≡◌, ◌<◌, ◌==◌, ◌&&◌, [], ◌++◌, OnOk, slice_get, unwrap_or};
-ghost use Rattle.schedule_rows.specs.Rows.{net};
+ghost use Rattle.ship_schedule.specs.Rows.{net};
 ghost use Rattle.ship_schedule.specs.ScheduleText as texts;
 
 use crate::page::Page;
 use crate::sums::Sums;
+use crate::{Balance, quarter_at};
 use market_model::Setup;
 use order_kinds::Quarter;
-use schedule_rows::{Balance, quarter_at};
 use zone_graph::{Names, NoMemory, Pairs};
 
 /// Puts the lines of all quarters of the day at the end of a page.

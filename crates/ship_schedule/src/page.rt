@@ -2,11 +2,11 @@
 
 ghost use Rattle.std.specs.Prelude.{◌≡◌, [], ◌∷◌, ◌++◌, IfOk, OnOk, codes};
 ghost use Rattle.order_kinds.specs.Contract.{quarter_text};
-ghost use Rattle.schedule_rows.specs.Rows.{net, signed_text};
+ghost use Rattle.ship_schedule.specs.Rows.{net, signed_text};
 ghost use Rattle.ship_schedule.specs.ScheduleText.{amount_text};
 
+use crate::{Amount, Balance};
 use order_kinds::Quarter;
-use schedule_rows::{Amount, Balance};
 use std::alloc::Global;
 use std::fmt::Write;
 use std::marker::Model;

@@ -1,6 +1,6 @@
 //! The sums that a schedule shows.
 
-use schedule_rows::Rows;
+use crate::Rows;
 
 /// What is carried and what is traded, in lots, by the place of the quarter in the day.
 #[derive(Drop)]

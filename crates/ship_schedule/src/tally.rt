@@ -5,14 +5,14 @@ ghost use Rattle.zone_graph.specs.Pour.{uses};
 ghost use Rattle.zone_graph.specs.Route.{AreDifferent};
 ghost use Rattle.market_model.specs.declared.event.Event.{Event as EventValue};
 ghost use Rattle.market_model.specs.History.{and_then, events_of, journal_events};
-ghost use Rattle.schedule_rows.specs.Places.{period_has, quarter_at};
-ghost use Rattle.schedule_rows.specs.Rows.{Counted, InRows, SameShape, amount, empty_rows};
+ghost use Rattle.ship_schedule.specs.Places.{period_has, quarter_at};
+ghost use Rattle.ship_schedule.specs.Rows.{Counted, InRows, SameShape, amount, empty_rows};
 ghost use Rattle.ship_schedule.specs.Tally as tallies;
 
 use crate::party_index::{Parties, Party};
 use crate::sums::Sums;
+use crate::{Period, Rows};
 use market_model::{Entry, Event, Leg, Reply, Setup};
-use schedule_rows::{Period, Rows};
 use std::alloc::Global;
 use zone_graph::{Arc, NoMemory};
 

@@ -29,8 +29,8 @@ use Rattle.laws_of_market.proofs.Lines.{buyer-to-buy, buyer-to-sell, seller-to-b
 use Rattle.laws_of_market.proofs.Trades.{from_line}
 use Rattle.laws_of_market.proofs.LocalLines.{first_answer-same}
 use Rattle.laws_of_market.proofs.Restrict.{find-same}
-use Rattle.laws_of_lines.specs.Fronts.{firsts_cross}
-use Rattle.laws_of_lines.proofs.Worse.{uncrossed}
+use Rattle.laws_of_boards.specs.Fronts.{firsts_cross}
+use Rattle.laws_of_boards.proofs.Worse.{uncrossed}
 use Rattle.sweep_core.specs.Meeting.{AreRoomsOf, can_meet, leg_between, leg_of_buy, leg_of_lines, leg_with, part_room, resting_leg, shown_leg, shown_line}
 use Rattle.sweep_core.specs.declared.parts.PartLeg.{PartLeg}
 use Rattle.sweep_core.specs.Sweeping.{IsFoundIn, event_in, leg_event, may_open, part_leg}

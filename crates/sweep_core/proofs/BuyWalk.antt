@@ -14,7 +14,7 @@ use Rattle.zone_graph.proofs.Finding.{find-none, from_find, map-none}
 use Rattle.market_model.specs.declared.board.Shown.{Shown}
 use Rattle.market_model.specs.declared.event.Leg.{Leg}
 use Rattle.market_model.specs.Sweep.{first_answer, or_else}
-use Rattle.laws_of_lines.proofs.Worse.{crosses-worse}
+use Rattle.laws_of_boards.proofs.Worse.{crosses-worse}
 use Rattle.sweep_core.specs.Meeting.{can_meet, first_of, from_order, is_marked, leg_of_buy, leg_of_lines, leg_with, resting_leg}
 use Rattle.sweep_core.proofs.Lines.{IsLine, WorseBehind, worse-behind}
 use Rattle.sweep_core.proofs.SellFronts.{find-nothing}

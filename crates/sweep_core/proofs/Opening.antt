@@ -43,8 +43,8 @@ use Rattle.laws_of_market.proofs.Uses.{contract_has-is, lots_of-remaining, room-
 use Rattle.laws_of_market.proofs.LocalLines.{line-agree, sweep_leg-named}
 use Rattle.laws_of_market.proofs.LocalStates.{agree-more}
 use Rattle.laws_of_books.proofs.Untouched.{left-kept, standing-kept}
-use Rattle.laws_of_lines.specs.Fronts.{StandInFor}
-use Rattle.laws_of_lines.proofs.Unopened.{unopened}
+use Rattle.laws_of_boards.specs.Fronts.{StandInFor}
+use Rattle.laws_of_boards.proofs.Unopened.{unopened}
 use Rattle.laws_of_boards.proofs.Legs.{made-fits}
 use Rattle.laws_of_boards.proofs.Shared.{board-agrees, board-graph}
 use Rattle.sweep_core.specs.declared.part_set.PartSet.{PartSet}

@@ -15,7 +15,7 @@ use Rattle.market_model.specs.History.{and_then}
 use Rattle.market_model.specs.Lines.{line}
 use Rattle.market_model.specs.Sweep.{all_parts, left_in_hour, leg_of_buy, sweep, sweep_leg}
 use Rattle.laws_of_market.proofs.Members.{first_answer-none}
-use Rattle.laws_of_lines.proofs.Worse.{trades-none}
+use Rattle.laws_of_boards.proofs.Worse.{trades-none}
 use Rattle.laws_of_boards.proofs.Legs.{lower as lowers, sweep_legs}
 use Rattle.sweep_core.specs.Sweeping.{IsSweptInPart, NothingTrades, event_in, first_leg, hour_sweep, next_event, order_numbers, part_leg, swept}
 

@@ -9,7 +9,7 @@ use Rattle.zone_graph.specs.Graph.{Graph}
 use Rattle.zone_graph.specs.Route.{IsIn}
 use Rattle.zone_graph.proofs.Membership.{IsIn-left, IsIn-right}
 use Rattle.market_model.specs.declared.board.Shown.{Shown}
-use Rattle.laws_of_lines.proofs.Worse.{crosses-worse}
+use Rattle.laws_of_boards.proofs.Worse.{crosses-worse}
 use Rattle.sweep_core.specs.Meeting.{AreFronts, can_meet_from, first_of, from_order, is_marked}
 use Rattle.sweep_core.proofs.Lines.{IsLine, WorseBehind, worse-behind}
 use Rattle.sweep_core.proofs.FreeZones.{MarksToo}

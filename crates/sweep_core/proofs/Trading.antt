@@ -15,7 +15,7 @@ use Rattle.zone_graph.proofs.BestRoute.{best_route-is, best_route-rooms}
 use Rattle.zone_graph.proofs.Finding.{from_find}
 use Rattle.zone_graph.proofs.GridLemmas.{start_within}
 use Rattle.cut_proof.proofs.Ways.{way_has_arc}
-use Rattle.route_carrying.proofs.Carrying.{carried-rooms}
+use Rattle.cut_proof.proofs.Carrying.{carried-rooms}
 use Rattle.route_choice.specs.declared.route_search.RouteSearch.{RouteSearch}
 use Rattle.route_choice.specs.Freshness.{IsFresh, searched_route}
 use Rattle.route_choice.proofs.Fresh.{known_is_reached, searched_arcs, searched_towards}

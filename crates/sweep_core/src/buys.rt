@@ -11,9 +11,9 @@ ghost use Rattle.sweep_core.specs.Sweeping as sweeping;
 
 use crate::marks::no_marks;
 use crate::sells::partner_of;
+use cut_proof::carried;
 use market_model::{Board, Leg, Shown};
 use order_kinds::{OrderName, Side};
-use route_carrying::carried;
 use route_choice::RouteSearch;
 use std::alloc::Global;
 use zone_graph::{Grid, MOST_ZONES, NoMemory, Rooms, Route};

@@ -2,7 +2,7 @@
 
 ghost use Rattle.std.specs.Prelude.{◌<◌, length};
 
-use divided_text::read_divided;
+use journal_audit::read_divided;
 use market_text::TextFault;
 use std::process::Abort;
 

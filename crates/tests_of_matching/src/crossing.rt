@@ -2,7 +2,7 @@
 
 ghost use Rattle.std.specs.Prelude.{◌≡◌, ◌<◌};
 ghost use Rattle.order_kinds.specs.declared.side.Side.TheVariants.{Buy, Sell};
-ghost use Rattle.laws_of_lines.specs.Fronts as fronts;
+ghost use Rattle.laws_of_boards.specs.Fronts as fronts;
 ghost use Rattle.sweep_core.specs.Sweeping.{OthersAreQuiet};
 ghost use Rattle.tests_of_shared_boards.specs.Kept.{line_in};
 

@@ -4,7 +4,7 @@ ghost use Rattle.std.specs.Prelude.{◌≡◌, ◌<◌, length, nat_lt};
 ghost use Rattle.std.specs.List.{list_all};
 
 use crate::made::{expect_equal, made, rooms_over};
-use route_carrying::{carried, carry};
+use cut_proof::{carried, carry};
 use route_choice::pour;
 use std::process::Abort;
 use tests_of_shared_grids::{diamond, grid_of, legs_over, rooms_of_diamond};

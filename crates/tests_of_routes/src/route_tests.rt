@@ -5,14 +5,13 @@ ghost use Rattle.std.specs.List.{list_all};
 ghost use Rattle.zone_graph.specs.Graph.{border_count, zone_count};
 
 use crate::made::{expect_equal, rooms_over};
-use cut_proof::reach;
+use cut_proof::{Distances, distances, reach};
 use route_choice::best_route;
 use std::alloc::Global;
 use std::process::Abort;
 use std::test::Fail;
 use tests_of_shared_grids::{diamond, grid_of, ring_of_twelve};
 use zone_graph::{Arc, Grid, Rooms, Route};
-use zone_search::{Distances, distances};
 
 // Whether all borders join zones of so many.
 fn join_zones(zones: u8, pairs: &[(u32, u32)]) -> bool

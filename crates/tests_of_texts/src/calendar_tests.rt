@@ -163,7 +163,11 @@ const PHASES: [(Parts, u32, &str, Phase); 23] = [
 fn expect_phase(rt: &impl Abort, parts: Parts, hour: u32, text: &str, phase: Phase) {
     let day = day_of(rt, parts);
     assert!(rt; 1 <= hour && hour <= day.hours(), "{text}");
-    assert_eq!(rt; day.phase_at(hour, instant_of(rt, text)), phase, "{hour} {text}");
+    assert_eq!(rt;
+        day.phase_at(hour, instant_of(rt, text)),
+        phase,
+        "{hour} {text}"
+    );
 }
 
 #[test]

@@ -92,7 +92,12 @@ const NO_ORDER_NAMES: [&[u8]; 6] = [b"h1#", b"h1#1234567890", b"#1", b"h1", b"h1
 fn contracts_are_exact(rt: HostRuntime) {
     for (word, hour, part) in CONTRACTS.as_slice() {
         let (hour, part) = (*hour, *part);
-        expect(&rt, word, read_contract(word), Some(Contract { hour, part }));
+        expect(
+            &rt,
+            word,
+            read_contract(word),
+            Some(Contract { hour, part }),
+        );
     }
     for word in NO_CONTRACTS.as_slice() {
         expect(&rt, word, read_contract(word), None);
@@ -115,7 +120,12 @@ fn quarters_are_exact(rt: HostRuntime) {
 fn names_of_orders_are_exact(rt: HostRuntime) {
     for (word, hour, number) in ORDER_NAMES.as_slice() {
         let (hour, number) = (*hour, *number);
-        expect(&rt, word, read_order_name(word), Some(OrderName { hour, number }));
+        expect(
+            &rt,
+            word,
+            read_order_name(word),
+            Some(OrderName { hour, number }),
+        );
     }
     for word in NO_ORDER_NAMES.as_slice() {
         expect(&rt, word, read_order_name(word), None);
@@ -134,7 +144,12 @@ fn verbs_and_headings_stand_for_themselves(rt: HostRuntime) {
     for (word, verb) in VERBS.as_slice() {
         expect(&rt, word, read_verb(word), *verb);
     }
-    expect(&rt, b"operator", read_heading(b"operator"), Some(Heading::Operator));
+    expect(
+        &rt,
+        b"operator",
+        read_heading(b"operator"),
+        Some(Heading::Operator),
+    );
     expect(&rt, b"", read_heading(b""), None);
 }
 

@@ -30,7 +30,10 @@ const TASKS: [(Words, Task); 8] = [
     (&[b"generate", b"1"], Task::Generate { commands: 1 }),
     (&[b"generate", b"40"], Task::Generate { commands: 40 }),
     (&[b"generate", b"2000"], Task::Generate { commands: 2000 }),
-    (&[b"generate", b"99999"], Task::Generate { commands: 99_999 }),
+    (
+        &[b"generate", b"99999"],
+        Task::Generate { commands: 99_999 },
+    ),
     (
         &[b"generate", b"100000"],
         Task::Generate { commands: 100_000 },

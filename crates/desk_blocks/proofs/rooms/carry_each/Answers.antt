@@ -1,7 +1,7 @@
 use Rattle.std.proofs.Common.{◌≡◌, ◌∙◌, ◌+◌, ◌<◌, drop, length, sym, ap, subst, arith}
 use Rattle.zone_graph.specs.Rooms.{room_of}
 use Rattle.zone_graph.specs.Pour.{room_after}
-use Rattle.route_carrying.proofs.Carrying.{after_leg}
+use Rattle.cut_proof.proofs.Carrying.{after_leg}
 use Rattle.route_choice.specs.Poured.{rooms_after}
 use Rattle.desk_changes.proofs.Carrying.{from-place}
 use Rattle.desk_blocks.specs.Rooms.{CanCarryEach}

@@ -1,7 +1,7 @@
 use Rattle.std.proofs.Common.{◌∙◌, ℕ, Some, ap, option_map, subst}
-use Rattle.laws_of_flows.specs.FlowLaws.{IsRangeIn}
+use Rattle.laws_of_hours.specs.FlowLaws.{IsRangeIn}
 use Rattle.flow_netting.specs.QuarterSet.{has}
-use Rattle.laws_of_flows.specs.Refusing.{no_room_of}
+use Rattle.laws_of_hours.specs.Refusing.{no_room_of}
 use Rattle.desk_refusals.proofs.Ranges.{request-refused}
 use Rattle.desk_refusals.proofs.capacity.refuse_request.Goals as goal
 

@@ -1,6 +1,6 @@
 use Rattle.zone_graph.specs.Pour.{same_arc}
 use Rattle.flow_netting.specs.QuarterSet.{has}
-use Rattle.laws_of_flows.specs.Standing.{IsCarried}
+use Rattle.laws_of_hours.specs.Standing.{IsCarried}
 use Rattle.hour_store.proofs.InTurn.{below_in}
 use Rattle.hour_store.proofs.flows.grant_in.Given as goal
 

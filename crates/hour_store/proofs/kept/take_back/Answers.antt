@@ -1,7 +1,7 @@
 use Rattle.std.proofs.Common.{refl, subst}
 use Rattle.zone_graph.specs.Pour.{same_arc}
 use Rattle.flow_netting.specs.QuarterSet.{has}
-use Rattle.laws_of_flows.specs.Standing.{IsCarried}
+use Rattle.laws_of_hours.specs.Standing.{IsCarried}
 use Rattle.hour_store.specs.declared.change.Change.TheVariants as change
 use Rattle.hour_store.specs.Inside.{contents_of}
 use Rattle.hour_store.specs.TakenBack.{CanTakeBack}

@@ -1,6 +1,6 @@
 use Rattle.std.proofs.Common.{◌≡◌, refl, sym, subst, arith}
 use Rattle.order_kinds.specs.Contract.{covers, part_at}
-use Rattle.laws_of_flows.specs.Standing.{IsSetOf}
+use Rattle.laws_of_hours.specs.Standing.{IsSetOf}
 use Rattle.flow_netting.specs.QuarterSet.{has}
 use Rattle.flow_netting.proofs.OneArc.{of_four}
 use Rattle.kept_hour.proofs.parts.quarters_of.Goals as goal

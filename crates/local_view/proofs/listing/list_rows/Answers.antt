@@ -1,7 +1,7 @@
 use Rattle.std.proofs.Common.{◌≡◌, ◌∙◌, ℕ, List, length, min, refl, sym, ap, subst}
 use Rattle.zone_graph.specs.Graph.{Graph, HasZone, border_count}
 use Rattle.zone_graph.specs.Rooms.{room_of}
-use Rattle.route_carrying.specs.Carrying.{FitTogether}
+use Rattle.cut_proof.specs.Carrying.{FitTogether}
 use Rattle.route_choice.specs.Poured.{AreRoomsAfter, lots_of}
 use Rattle.local_view.specs.Poured.{legs_with}
 use Rattle.local_view.proofs.Listed.{IsListed, all-listed, at-order, begins, fewer, one-order, rests, rests-in, rooms-fit, zone-known}

@@ -2,7 +2,7 @@ use Rattle.std.proofs.Common.{◌∙◌, Some, None, ap, sym, arith}
 use Rattle.zone_graph.specs.Graph.{HasArc}
 use Rattle.zone_graph.specs.Rooms.{room_of}
 use Rattle.market_model.specs.Orders.{left}
-use Rattle.route_carrying.proofs.Carrying.{best_route-arcs}
+use Rattle.cut_proof.proofs.Carrying.{best_route-arcs}
 use Rattle.plain_blocks.proofs.Legs.{leg-here, nothing-left}
 use Rattle.plain_blocks.proofs.pouring.next_leg.Goals as goal
 

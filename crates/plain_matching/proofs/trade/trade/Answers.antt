@@ -1,7 +1,7 @@
 use Rattle.std.proofs.Common.{◌∙◌, sym, arith}
 use Rattle.zone_graph.specs.Graph.{HasArc}
 use Rattle.zone_graph.specs.Rooms.{room_of}
-use Rattle.route_carrying.proofs.Carrying.{best_route-arcs}
+use Rattle.cut_proof.proofs.Carrying.{best_route-arcs}
 use Rattle.plain_matching.proofs.trade.trade.Goals as goal
 
 pub leg_over-requires : goal.leg_over-requires

@@ -1,6 +1,6 @@
 use Rattle.std.proofs.Common.{◌≡◌, [], sym, subst, arith, append-nil}
 use Rattle.zone_graph.specs.Rooms.{room_of}
-use Rattle.zone_search.specs.Distance.{IsDescent, distance_at}
+use Rattle.cut_proof.specs.Distance.{IsDescent, distance_at}
 use Rattle.plain_routes.proofs.choice.route_by.Goals as goal
 
 pub returns-in_default : goal.returns-in_default

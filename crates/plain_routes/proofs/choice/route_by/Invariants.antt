@@ -1,7 +1,7 @@
 use Rattle.std.proofs.Common.{◌≡◌, ◌++◌, ◌<◌, List}
 use Rattle.zone_graph.specs.declared.route.Arc.{Arc}
 use Rattle.zone_graph.specs.Rooms.{room_of}
-use Rattle.zone_search.specs.Distance.{IsDescent, distance_at}
+use Rattle.cut_proof.specs.Distance.{IsDescent, distance_at}
 use Rattle.plain_routes.proofs.choice.route_by.Given as goal
 
 -- whatever way leads down from the zone, the route and it lead down from the first one

@@ -1,6 +1,6 @@
 use Rattle.std.proofs.Common.{arith}
 use Rattle.zone_graph.specs.Rooms.{room_of}
-use Rattle.zone_search.specs.Distance.{directed_room}
+use Rattle.cut_proof.specs.Distance.{directed_room}
 use Rattle.plain_routes.proofs.Spreads.{spread_all, spread_first}
 use Rattle.plain_routes.proofs.rounds.distances.Goals as goal
 

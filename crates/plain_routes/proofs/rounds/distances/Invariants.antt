@@ -1,5 +1,5 @@
 use Rattle.zone_graph.specs.Rooms.{room_of}
-use Rattle.zone_search.specs.Distance.{directed_room}
+use Rattle.cut_proof.specs.Distance.{directed_room}
 use Rattle.plain_routes.specs.Rounds.{IsSpread, unfound}
 use Rattle.plain_routes.proofs.rounds.distances.Given as goal
 

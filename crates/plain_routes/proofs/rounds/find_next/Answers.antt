@@ -2,7 +2,7 @@ use Rattle.std.proofs.Common.{◌≡◌, ◌∙◌, ◌<◌, length, ap, arith}
 use Rattle.zone_graph.specs.declared.route.Arc.{Arc}
 use Rattle.zone_graph.specs.Graph.{HasArc, border_count, start_of}
 use Rattle.zone_graph.specs.Rooms.{room_of}
-use Rattle.zone_search.specs.Distance.{directed_room}
+use Rattle.cut_proof.specs.Distance.{directed_room}
 use Rattle.plain_routes.specs.Rounds.{finds}
 use Rattle.plain_routes.proofs.Passes.{border_passed, border_told, start_places}
 use Rattle.plain_routes.proofs.rounds.find_next.Goals as goal

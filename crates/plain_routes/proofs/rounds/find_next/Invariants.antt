@@ -1,6 +1,6 @@
 use Rattle.std.proofs.Common.{nat_lt}
 use Rattle.zone_graph.specs.Rooms.{room_of}
-use Rattle.zone_search.specs.Distance.{directed_room}
+use Rattle.cut_proof.specs.Distance.{directed_room}
 use Rattle.plain_routes.specs.Rounds.{IsPassed, IsTold}
 use Rattle.plain_routes.proofs.rounds.find_next.Given as goal
 

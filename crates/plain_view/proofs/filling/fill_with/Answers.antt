@@ -2,7 +2,7 @@ use Rattle.std.proofs.Common.{◌∙◌, sym, subst, arith}
 use Rattle.zone_graph.specs.Graph.{HasArc}
 use Rattle.zone_graph.specs.Rooms.{room_of}
 use Rattle.zone_graph.specs.Route.{IsIn}
-use Rattle.route_carrying.proofs.Carrying.{best_route-arcs}
+use Rattle.cut_proof.proofs.Carrying.{best_route-arcs}
 use Rattle.plain_view.proofs.filling.fill_with.Goals as goal
 
 pub carried-lots-requires : goal.carried-lots-requires

@@ -1,8 +1,8 @@
 use Rattle.std.proofs.Common.{◌≡◌, ◌∙◌, Some, length, refl, sym, subst, arith}
 use Rattle.zone_graph.specs.Pour.{room_after}
 use Rattle.zone_graph.specs.Rooms.{room_of}
-use Rattle.route_carrying.specs.Carrying.{CanCarry, FitTogether}
-use Rattle.route_carrying.proofs.Carrying.{after_leg, fit-kept, route_can_carry}
+use Rattle.cut_proof.specs.Carrying.{CanCarry, FitTogether}
+use Rattle.cut_proof.proofs.Carrying.{after_leg, fit-kept, route_can_carry}
 use Rattle.laws_of_rows.specs.Depth.{AreInZones, buyer_zone, depth_of, next_fill, seller_zone}
 use Rattle.laws_of_rows.proofs.Fills.{all-so_far, can_add, carried_by, depth-after, next_fill-is, so_far-at, taken-in_zones}
 use Rattle.plain_view.proofs.rows.rows_filled.Goals as goal

@@ -1,7 +1,7 @@
 use Rattle.std.proofs.Common.{◌≡◌, length}
 use Rattle.zone_graph.specs.Graph.{border_count}
 use Rattle.zone_graph.specs.Rooms.{room_of}
-use Rattle.route_carrying.specs.Carrying.{FitTogether}
+use Rattle.cut_proof.specs.Carrying.{FitTogether}
 use Rattle.laws_of_rows.specs.Depth.{AreInZones, depth_of}
 use Rattle.laws_of_rows.proofs.Fills.{IsSoFar}
 use Rattle.plain_view.proofs.rows.rows_filled.Given as goal

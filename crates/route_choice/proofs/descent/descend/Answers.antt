@@ -1,6 +1,6 @@
 use Rattle.std.proofs.Common.{◌∙◌, ◌++◌, ◌∷◌, [], find, sym, ap, subst, arith, append_assoc, append-nil}
 use Rattle.zone_graph.specs.Rooms.{room_of}
-use Rattle.zone_search.specs.Distance.{IsDescent, distance_at}
+use Rattle.cut_proof.specs.Distance.{IsDescent, distance_at}
 use Rattle.route_choice.specs.Neighbours.{leads_nearer}
 use Rattle.route_choice.proofs.Nearer.{IsNext, known_neighbours, next_found, none_next}
 use Rattle.route_choice.proofs.descent.descend.Goals as goal

@@ -2,7 +2,7 @@ use Rattle.std.proofs.Common.{◌≡◌, ◌++◌, ◌<◌, List}
 use Rattle.zone_graph.specs.declared.route.Arc.{Arc}
 use Rattle.zone_graph.specs.Graph.{HasZone}
 use Rattle.zone_graph.specs.Rooms.{room_of}
-use Rattle.zone_search.specs.Distance.{IsDescent, distance_at}
+use Rattle.cut_proof.specs.Distance.{IsDescent, distance_at}
 use Rattle.route_choice.proofs.descent.descend.Given as goal
 
 -- whatever way leads down from the zone, the route and it lead down from the first one

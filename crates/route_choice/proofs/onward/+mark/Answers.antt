@@ -1,8 +1,8 @@
 use Rattle.std.proofs.Common.{◌≡◌, ◌<◌, ◌+◌, true, false, get_or, arith, sym, subst}
 use Rattle.zone_graph.specs.declared.grid.Neighbour.{Neighbour}
 use Rattle.zone_graph.specs.Rooms.{room_of}
-use Rattle.zone_search.specs.Distance.{distance_at}
-use Rattle.zone_search.proofs.Neighbours.{neighbour_at, neighbour_within}
+use Rattle.cut_proof.specs.Distance.{distance_at}
+use Rattle.cut_proof.proofs.Neighbours.{neighbour_at, neighbour_within}
 use Rattle.route_choice.specs.Onward.{leads_back}
 use Rattle.route_choice.proofs.Marks.{IsMarking, can_go_on, free_by, marked_by, marked_or_not, marking_begins, marking_ends, marking_goes_on, marking_skips, not_marked_by}
 use Rattle.route_choice.proofs.onward.+mark.Goals as goal

@@ -1,5 +1,5 @@
 use Rattle.zone_graph.specs.Rooms.{room_of}
-use Rattle.zone_search.specs.Distance.{distance_at}
+use Rattle.cut_proof.specs.Distance.{distance_at}
 use Rattle.route_choice.proofs.Marks.{IsMarking}
 use Rattle.route_choice.proofs.onward.+mark.Given as goal
 

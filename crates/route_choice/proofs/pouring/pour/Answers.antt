@@ -1,8 +1,8 @@
 use Rattle.std.proofs.Common.{◌≡◌, ◌∙◌, ◌-◌, ◌++◌, ◌∷◌, [], Some, length, sym, subst, arith}
 use Rattle.zone_graph.specs.Pour.{pour_leg}
 use Rattle.zone_graph.specs.Rooms.{room_of}
-use Rattle.route_carrying.specs.Carrying.{CanCarry, FitTogether}
-use Rattle.route_carrying.proofs.Carrying.{after_leg, fit-kept, route_can_carry}
+use Rattle.cut_proof.specs.Carrying.{CanCarry, FitTogether}
+use Rattle.cut_proof.proofs.Carrying.{after_leg, fit-kept, route_can_carry}
 use Rattle.route_choice.proofs.Pours.{IsPoured, IsPourLeg, after_some, carried_most, ended, on_err, one_more_over, pour_leg-is}
 use Rattle.route_choice.proofs.pouring.pour.Goals as goal
 

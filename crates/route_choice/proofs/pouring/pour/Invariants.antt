@@ -1,7 +1,7 @@
 use Rattle.std.proofs.Common.{◌≡◌, length}
 use Rattle.zone_graph.specs.Graph.{border_count}
 use Rattle.zone_graph.specs.Rooms.{room_of}
-use Rattle.route_carrying.specs.Carrying.{FitTogether}
+use Rattle.cut_proof.specs.Carrying.{FitTogether}
 use Rattle.route_choice.proofs.Pours.{IsPoured}
 use Rattle.route_choice.proofs.pouring.pour.Given as goal
 

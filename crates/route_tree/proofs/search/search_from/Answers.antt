@@ -1,8 +1,8 @@
 use Rattle.std.proofs.Common.{rules, ◌∙◌, ◌+◌, inl, inr, false, get_or, sym, ap, subst, refl, arith}
 use Rattle.zone_graph.specs.Rooms.{room_of}
-use Rattle.zone_search.specs.Distance.{arcs_of_distance, directed_room}
-use Rattle.zone_search.proofs.Neighbours.{neighbour_at, neighbour_within}
-use Rattle.zone_search.proofs.Searches.{spaces_in}
+use Rattle.cut_proof.specs.Distance.{arcs_of_distance, directed_room}
+use Rattle.cut_proof.proofs.Neighbours.{neighbour_at, neighbour_within}
+use Rattle.cut_proof.proofs.Searches.{spaces_in}
 use Rattle.route_tree.specs.Search.{Search, search_over, no_step}
 use Rattle.route_tree.proofs.FromSearch.{IsReadyFrom, IsVisitingFrom, from_begins, from_done, from_ends, from_meets, from_started}
 use Rattle.route_tree.proofs.TowardsSearch.{begun_over}

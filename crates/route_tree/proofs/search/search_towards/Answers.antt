@@ -3,9 +3,9 @@ use Rattle.zone_graph.specs.declared.route.Arc.{Arc}
 use Rattle.zone_graph.specs.declared.grid.Neighbour.{Neighbour}
 use Rattle.zone_graph.specs.Rooms.{room_of}
 use Rattle.zone_graph.proofs.Arcs.{opposite-border}
-use Rattle.zone_search.specs.Distance.{arcs_of_distance}
-use Rattle.zone_search.proofs.Neighbours.{neighbour_at, neighbour_within}
-use Rattle.zone_search.proofs.Searches.{spaces_in}
+use Rattle.cut_proof.specs.Distance.{arcs_of_distance}
+use Rattle.cut_proof.proofs.Neighbours.{neighbour_at, neighbour_within}
+use Rattle.cut_proof.proofs.Searches.{spaces_in}
 use Rattle.route_choice.specs.Freshness.{has_room}
 use Rattle.route_tree.specs.Search.{Search, first_met, least_step, no_step, search_over}
 use Rattle.route_tree.proofs.TowardsSearch.{has_least, IsReadyTowards, IsVisitingTowards, begun_over, towards_begins, towards_done, towards_ends, towards_meets, towards_started}

@@ -2,7 +2,7 @@ use Rattle.std.proofs.Common.{◌∙◌, ◌&&◌, ◌++◌, ◌∷◌, [], List
 use Rattle.std.specs.Prelude.{codes}
 use Rattle.order_kinds.specs.Contract.{quarter_text}
 use Rattle.journal_print.specs.Line.{border_ends, zone_name}
-use Rattle.schedule_rows.specs.Rows.{net, signed_text}
+use Rattle.ship_schedule.specs.Rows.{net, signed_text}
 use Rattle.ship_schedule.specs.ScheduleText.{is_none, line}
 use Rattle.ship_schedule.proofs.LineTexts.{border_put, shown}
 use Rattle.ship_schedule.proofs.lines.write_border.Goals as goal

@@ -1,7 +1,7 @@
 use Rattle.std.proofs.Common.{◌≡◌, ◌++◌}
 use Rattle.std.specs.List.{flat_map, range_with_len}
-use Rattle.schedule_rows.specs.Places.{quarter_at}
-use Rattle.schedule_rows.specs.Rows.{balance_at, net}
+use Rattle.ship_schedule.specs.Places.{quarter_at}
+use Rattle.ship_schedule.specs.Rows.{balance_at, net}
 use Rattle.ship_schedule.specs.ScheduleText.{border_line}
 use Rattle.ship_schedule.proofs.lines.write_borders.Given as goal
 

@@ -1,7 +1,7 @@
 use Rattle.std.proofs.Common.{◌∙◌, ◌==◌, ◌&&◌, ◌++◌, ◌∷◌, [], sym, ap}
 use Rattle.std.specs.Prelude.{codes}
 use Rattle.order_kinds.specs.Contract.{quarter_text}
-use Rattle.schedule_rows.specs.Rows.{net, signed_text}
+use Rattle.ship_schedule.specs.Rows.{net, signed_text}
 use Rattle.ship_schedule.specs.ScheduleText.{amount_text, line}
 use Rattle.ship_schedule.proofs.LineTexts.{shown, zone_put}
 use Rattle.ship_schedule.proofs.lines.write_zone.Goals as goal

@@ -1,6 +1,6 @@
 use Rattle.std.proofs.Common.{◌∙◌, ◌++◌, ap}
-use Rattle.schedule_rows.specs.Places.{quarter_at}
-use Rattle.schedule_rows.specs.Rows.{balance_at, net}
+use Rattle.ship_schedule.specs.Places.{quarter_at}
+use Rattle.ship_schedule.specs.Rows.{balance_at, net}
 use Rattle.ship_schedule.specs.ScheduleText.{zone_line}
 use Rattle.ship_schedule.proofs.LineTexts.{text_more}
 use Rattle.ship_schedule.proofs.lines.write_zones.Goals as goal

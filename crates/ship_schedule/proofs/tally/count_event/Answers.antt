@@ -1,6 +1,6 @@
 use Rattle.std.proofs.Common.{◌==◌, Some, None, if◌then◌else◌, refl, sym, ap, subst}
 use Rattle.market_model.specs.declared.event.Event.TheVariants as event
-use Rattle.schedule_rows.specs.declared.period.Period.TheVariants as period
+use Rattle.ship_schedule.specs.declared.period.Period.TheVariants as period
 use Rattle.ship_schedule.proofs.Counting.{Keeps, entering, granting, still, trading}
 use Rattle.ship_schedule.proofs.tally.count_event.Goals as goal
 

@@ -1,7 +1,7 @@
 use Rattle.std.proofs.Common.{◌∙◌, ◌<◌, length, sym, subst, refl, arith, false}
 use Rattle.zone_graph.specs.declared.route.Arc.{Arc}
-use Rattle.schedule_rows.specs.Places.{period_has, quarter_at}
-use Rattle.schedule_rows.specs.Rows.{amount}
+use Rattle.ship_schedule.specs.Places.{period_has, quarter_at}
+use Rattle.ship_schedule.specs.Rows.{amount}
 use Rattle.ship_schedule.specs.Tally.{arc_over}
 use Rattle.ship_schedule.proofs.Counting.{none_counted, route_more}
 use Rattle.ship_schedule.proofs.tally.count_route.Goals as goal

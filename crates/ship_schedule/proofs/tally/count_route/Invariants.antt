@@ -1,8 +1,8 @@
 use Rattle.std.proofs.Common.{◌&&◌, map, take}
 use Rattle.zone_graph.specs.Pour.{uses}
 use Rattle.zone_graph.specs.Route.{AreDifferent}
-use Rattle.schedule_rows.specs.Places.{period_has, quarter_at}
-use Rattle.schedule_rows.specs.Rows.{Counted, SameShape}
+use Rattle.ship_schedule.specs.Places.{period_has, quarter_at}
+use Rattle.ship_schedule.specs.Rows.{Counted, SameShape}
 use Rattle.ship_schedule.specs.Tally.{arc_over}
 use Rattle.ship_schedule.proofs.tally.count_route.Given as goal
 

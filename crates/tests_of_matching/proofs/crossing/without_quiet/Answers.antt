@@ -1,7 +1,7 @@
 use Rattle.std.proofs.Common.{◌≡◌, ◌∙◌, ◌==◌, Bool, true, false, None, eqb-true, refl, sym, ap, ap₂, subst, if◌then◌else◌}
 use Rattle.order_kinds.specs.Contract.{contract_at}
-use Rattle.laws_of_lines.specs.Fronts.{firsts_cross}
-use Rattle.laws_of_lines.proofs.Worse.{uncrossed}
+use Rattle.laws_of_boards.specs.Fronts.{firsts_cross}
+use Rattle.laws_of_boards.proofs.Worse.{uncrossed}
 use Rattle.sweep_core.specs.Parts.{has_part}
 use Rattle.sweep_core.specs.Sweeping.{part_leg}
 use Rattle.tests_of_matching.proofs.crossing.without_quiet.Goals as goal

@@ -1,7 +1,7 @@
 use Rattle.std.proofs.Common.{◌≡◌, ◌+◌, take}
 use Rattle.zone_graph.specs.Pour.{uses}
 use Rattle.flow_netting.specs.QuarterSet.{has}
-use Rattle.laws_of_flows.specs.Standing.{IsCarried}
+use Rattle.laws_of_hours.specs.Standing.{IsCarried}
 use Rattle.hour_store.specs.Store.{StillLeadsBack}
 use Rattle.hour_store.proofs.store.HourStore.carry_arcs.Given as goal
 

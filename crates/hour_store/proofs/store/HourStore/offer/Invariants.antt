@@ -1,6 +1,6 @@
 use Rattle.std.proofs.Common.{◌≡◌, ◌+◌, ◌≤◌}
 use Rattle.flow_netting.specs.QuarterSet.{has}
-use Rattle.laws_of_flows.specs.Standing.{IsOffered}
+use Rattle.laws_of_hours.specs.Standing.{IsOffered}
 use Rattle.hour_store.specs.Store.{StillLeadsBack}
 use Rattle.hour_store.proofs.InTurn.{below_in}
 use Rattle.hour_store.proofs.store.HourStore.offer.Given as goal

@@ -3,8 +3,8 @@ use Rattle.order_kinds.specs.Contract.{contract_at}
 use Rattle.order_kinds.specs.Period.{contract_quarters}
 use Rattle.zone_graph.specs.Graph.{border_count}
 use Rattle.market_model.specs.Room.{room}
-use Rattle.laws_of_flows.specs.Standing.{Stands}
-use Rattle.laws_of_flows.proofs.Rooms.{rooms}
+use Rattle.laws_of_hours.specs.Standing.{Stands}
+use Rattle.laws_of_hours.proofs.Rooms.{rooms}
 use Rattle.kept_hour.specs.State.{HourState}
 use Rattle.kept_hour.proofs.Keeping.{own}
 use Rattle.kept_hour.proofs.Shows.{known-at}

@@ -1,6 +1,6 @@
 use Rattle.std.proofs.Common.{false, get_or, arith}
 use Rattle.zone_graph.specs.declared.grid.Neighbour.{Neighbour}
-use Rattle.zone_search.proofs.Neighbours.{neighbour_at, neighbour_within}
+use Rattle.cut_proof.proofs.Neighbours.{neighbour_at, neighbour_within}
 use Rattle.local_view.proofs.Leading.{found_as, found_more}
 use Rattle.local_view.proofs.ways.Ways.lead_on.Goals as goal
 use Rattle.local_view.proofs.ways.Ways.lead_on.Goals.{then-not-found-to, else-not-found-to}

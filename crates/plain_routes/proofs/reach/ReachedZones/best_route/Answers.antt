@@ -1,6 +1,6 @@
 use Rattle.std.proofs.Common.{subst}
 use Rattle.zone_graph.specs.Rooms.{room_of}
-use Rattle.zone_search.specs.Distance.{AreDistances, directed_room}
+use Rattle.cut_proof.specs.Distance.{AreDistances, directed_room}
 use Rattle.plain_routes.proofs.Onward.{distances-lead}
 use Rattle.plain_routes.proofs.reach.ReachedZones.best_route.Goals as goal
 

@@ -1,4 +1,0 @@
--- What the contracts of this crate cite.
-pub mod Dividing
-pub mod Laws
-pub mod Reading

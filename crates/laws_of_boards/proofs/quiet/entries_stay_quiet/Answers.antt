@@ -1,0 +1,7 @@
+use Rattle.std.proofs.Common.{refl}
+use Rattle.market_model.specs.declared.event.Event.TheVariants as event
+use Rattle.laws_of_boards.proofs.Stays.{never-quiet}
+use Rattle.laws_of_boards.proofs.quiet.entries_stay_quiet.Goals as goal
+
+pub returns : goal.returns
+returns c = λ setup before name caller order contract apart. never-quiet setup before (event.Entered name caller order) contract apart (λ quarter arc. refl)

@@ -1,0 +1,7 @@
+use Rattle.std.proofs.Common.{refl}
+use Rattle.market_model.specs.declared.event.Event.TheVariants as event
+use Rattle.laws_of_boards.proofs.Stays.{never-quiet}
+use Rattle.laws_of_boards.proofs.quiet.withdrawals_stay_quiet.Goals as goal
+
+pub returns : goal.returns
+returns c = λ setup before name lots contract. never-quiet setup before (event.Withdrawn name lots) contract tt (λ quarter arc. refl)

@@ -1,4 +1,0 @@
-pub mod Admitting
-pub mod Fitting
-pub mod Settling
-pub mod Stepping

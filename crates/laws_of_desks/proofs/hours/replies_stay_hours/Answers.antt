@@ -1,5 +1,0 @@
-use Rattle.laws_of_desks.proofs.Stepping.{replies}
-use Rattle.laws_of_desks.proofs.hours.replies_stay_hours.Goals as goal
-
-pub returns : goal.returns
-returns c = replies

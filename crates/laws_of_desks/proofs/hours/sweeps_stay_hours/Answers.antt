@@ -1,5 +1,0 @@
-use Rattle.laws_of_desks.proofs.Stepping.{sweeps}
-use Rattle.laws_of_desks.proofs.hours.sweeps_stay_hours.Goals as goal
-
-pub returns : goal.returns
-returns c = sweeps

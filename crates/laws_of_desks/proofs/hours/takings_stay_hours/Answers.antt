@@ -1,5 +1,0 @@
-use Rattle.laws_of_desks.proofs.Stepping.{takings}
-use Rattle.laws_of_desks.proofs.hours.takings_stay_hours.Goals as goal
-
-pub returns : goal.returns
-returns c = takings

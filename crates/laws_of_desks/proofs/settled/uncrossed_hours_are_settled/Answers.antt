@@ -1,5 +1,0 @@
-use Rattle.laws_of_desks.proofs.Settling.{uncrossed}
-use Rattle.laws_of_desks.proofs.settled.uncrossed_hours_are_settled.Goals as goal
-
-pub returns : goal.returns
-returns c = uncrossed

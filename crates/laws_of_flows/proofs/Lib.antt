@@ -1,9 +1,0 @@
-pub mod Rooms
-pub mod Noted
-pub mod Ranges
-pub mod OtherEvents
-pub mod InTurn
-pub mod Callable
-pub mod RequestRooms
-pub mod Answering
-pub mod Refused

@@ -1,5 +1,0 @@
-use Rattle.laws_of_flows.proofs.Callable.{grants}
-use Rattle.laws_of_flows.proofs.calls.grants_can_be_made.Goals as goal
-
-pub returns : goal.returns
-returns c = grants

@@ -1,5 +1,0 @@
-use Rattle.laws_of_flows.proofs.Callable.{legs}
-use Rattle.laws_of_flows.proofs.calls.legs_can_be_carried.Goals as goal
-
-pub returns : goal.returns
-returns c = legs

@@ -1,5 +1,0 @@
-use Rattle.laws_of_flows.proofs.Callable.{offers}
-use Rattle.laws_of_flows.proofs.calls.offers_can_be_made.Goals as goal
-
-pub returns : goal.returns
-returns c = offers

@@ -1,5 +1,0 @@
-use Rattle.laws_of_flows.proofs.OtherEvents.{others}
-use Rattle.laws_of_flows.proofs.changes.other_events_leave_the_flows.Goals as goal
-
-pub returns : goal.returns
-returns c = others

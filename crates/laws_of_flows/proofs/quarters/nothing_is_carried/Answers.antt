@@ -1,5 +1,0 @@
-use Rattle.laws_of_flows.proofs.InTurn.{carried_none}
-use Rattle.laws_of_flows.proofs.quarters.nothing_is_carried.Goals as goal
-
-pub returns : goal.returns
-returns c = carried_none

@@ -1,5 +1,0 @@
-use Rattle.laws_of_flows.proofs.InTurn.{offered_in_turn}
-use Rattle.laws_of_flows.proofs.quarters.quarters_are_offered_in_turn.Goals as goal
-
-pub returns : goal.returns
-returns c = offered_in_turn

@@ -1,5 +1,0 @@
-use Rattle.laws_of_flows.proofs.Refused.{offers_alike}
-use Rattle.laws_of_flows.proofs.refusing.one_hour_refuses_offers_alike.Goals as goal
-
-pub returns : goal.returns
-returns c = offers_alike

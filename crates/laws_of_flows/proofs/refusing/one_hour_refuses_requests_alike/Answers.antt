@@ -1,5 +1,0 @@
-use Rattle.laws_of_flows.proofs.Refused.{requests_alike}
-use Rattle.laws_of_flows.proofs.refusing.one_hour_refuses_requests_alike.Goals as goal
-
-pub returns : goal.returns
-returns c = requests_alike

@@ -1,5 +1,0 @@
-use Rattle.laws_of_flows.proofs.RequestRooms.{rooms_are}
-use Rattle.laws_of_flows.proofs.refusing.quarter_rooms_are_the_markets.Goals as goal
-
-pub returns : goal.returns
-returns c = rooms_are

@@ -1,5 +1,0 @@
-use Rattle.laws_of_flows.proofs.Refused.{offers_by_hour}
-use Rattle.laws_of_flows.proofs.refusing.ranges_refuse_offers_hour_by_hour.Goals as goal
-
-pub returns : goal.returns
-returns c = offers_by_hour

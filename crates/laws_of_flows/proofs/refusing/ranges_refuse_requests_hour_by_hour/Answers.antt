@@ -1,5 +1,0 @@
-use Rattle.laws_of_flows.proofs.Refused.{requests_by_hour}
-use Rattle.laws_of_flows.proofs.refusing.ranges_refuse_requests_hour_by_hour.Goals as goal
-
-pub returns : goal.returns
-returns c = requests_by_hour

@@ -1,5 +1,0 @@
-use Rattle.laws_of_flows.proofs.Ranges.{idle}
-use Rattle.laws_of_flows.proofs.standing.flows_begin_idle.Goals as goal
-
-pub returns : goal.returns
-returns c = idle

@@ -1,5 +1,0 @@
-use Rattle.laws_of_flows.proofs.Rooms.{remains}
-use Rattle.laws_of_flows.proofs.standing.remaining_is_the_markets.Goals as goal
-
-pub returns : goal.returns
-returns c = remains

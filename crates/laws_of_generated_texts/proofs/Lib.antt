@@ -1,6 +1,0 @@
-mod Words
-mod Spaced
-mod Commands
-mod Drawn
-mod Read
-pub mod Sessions

@@ -1,2 +1,0 @@
--- What the law of generated texts says.
-pub mod Laws

@@ -1,5 +1,0 @@
-use Rattle.laws_of_lines.proofs.Worse.{first_buys}
-use Rattle.laws_of_lines.proofs.fronts.first_buys_decide.Goals as goal
-
-pub returns : goal.returns
-returns c = first_buys

@@ -1,5 +1,0 @@
-use Rattle.laws_of_lines.proofs.Worse.{uncrossed}
-use Rattle.laws_of_lines.proofs.fronts.uncrossed_contracts_have_no_leg.Goals as goal
-
-pub returns : goal.returns
-returns c = uncrossed

@@ -1,5 +1,0 @@
-use Rattle.laws_of_lines.proofs.Unopened.{unopened}
-use Rattle.laws_of_lines.proofs.fronts.unopened_contracts_have_no_leg.Goals as goal
-
-pub returns : goal.returns
-returns c = unopened

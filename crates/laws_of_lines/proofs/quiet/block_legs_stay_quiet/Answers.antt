@@ -1,5 +1,0 @@
-use Rattle.laws_of_lines.proofs.Stays.{block_legs-quiet}
-use Rattle.laws_of_lines.proofs.quiet.block_legs_stay_quiet.Goals as goal
-
-pub returns : goal.returns
-returns c = block_legs-quiet

@@ -1,5 +1,0 @@
-use Rattle.laws_of_lines.proofs.Stays.{roomy-quiet}
-use Rattle.laws_of_lines.proofs.quiet.events_stay_quiet_where_there_was_room.Goals as goal
-
-pub returns : goal.returns
-returns c = roomy-quiet

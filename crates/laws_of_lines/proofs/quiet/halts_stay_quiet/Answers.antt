@@ -1,7 +1,0 @@
-use Rattle.std.proofs.Common.{refl}
-use Rattle.market_model.specs.declared.event.Event.TheVariants as event
-use Rattle.laws_of_lines.proofs.Stays.{never-quiet}
-use Rattle.laws_of_lines.proofs.quiet.halts_stay_quiet.Goals as goal
-
-pub returns : goal.returns
-returns c = λ setup before border first last contract. never-quiet setup before (event.Halted border first last) contract tt (λ quarter arc. refl)

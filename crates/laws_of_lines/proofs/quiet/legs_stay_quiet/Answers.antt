@@ -1,5 +1,0 @@
-use Rattle.laws_of_lines.proofs.Stays.{legs-quiet}
-use Rattle.laws_of_lines.proofs.quiet.legs_stay_quiet.Goals as goal
-
-pub returns : goal.returns
-returns c = legs-quiet

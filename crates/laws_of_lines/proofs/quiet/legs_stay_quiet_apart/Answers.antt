@@ -1,5 +1,0 @@
-use Rattle.laws_of_lines.proofs.Stays.{apart-quiet}
-use Rattle.laws_of_lines.proofs.quiet.legs_stay_quiet_apart.Goals as goal
-
-pub returns : goal.returns
-returns c = apart-quiet

@@ -1,5 +1,0 @@
-use Rattle.laws_of_lines.proofs.Stays.{elsewhere-quiet}
-use Rattle.laws_of_lines.proofs.quiet.other_hours_stay_quiet.Goals as goal
-
-pub returns : goal.returns
-returns c = elsewhere-quiet

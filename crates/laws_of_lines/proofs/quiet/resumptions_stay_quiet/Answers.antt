@@ -1,5 +1,0 @@
-use Rattle.laws_of_lines.proofs.Stays.{resumptions-quiet}
-use Rattle.laws_of_lines.proofs.quiet.resumptions_stay_quiet.Goals as goal
-
-pub returns : goal.returns
-returns c = resumptions-quiet

@@ -1,5 +1,0 @@
-use Rattle.laws_of_lines.proofs.Taking.{taker-quiet}
-use Rattle.laws_of_lines.proofs.quiet.takers_leave_their_contract_quiet.Goals as goal
-
-pub returns : goal.returns
-returns c = taker-quiet

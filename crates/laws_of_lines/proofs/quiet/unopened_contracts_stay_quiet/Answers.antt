@@ -1,5 +1,0 @@
-use Rattle.laws_of_lines.proofs.Stays.{unopened-quiet}
-use Rattle.laws_of_lines.proofs.quiet.unopened_contracts_stay_quiet.Goals as goal
-
-pub returns : goal.returns
-returns c = unopened-quiet

@@ -1,4 +1,0 @@
-pub mod Peaks
-pub mod Crosses
-pub mod Lines
-pub mod Reaches

@@ -1,3 +1,0 @@
-pub mod Nearest
-pub mod Neighbours
-pub mod Searches
