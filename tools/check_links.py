@@ -32,7 +32,7 @@ ELSEWHERE = re.compile(r"[a-z]+:")
 CODE_SPAN = re.compile(r"`[^`]*`")
 # The plain market, and who may cite it beside itself: the audit, the programs of the gate, and tests.
 PLAIN = re.compile(r"plain_\w+|event_history")
-MAY_CITE_PLAIN = re.compile(r"plain_\w+|event_history|journal_audit|engine_comparison|worked_\w+")
+MAY_CITE_PLAIN = re.compile(r"plain_\w+|event_history|journal_audit|engine_comparison|tests_of_\w+")
 CITED = re.compile(r"\bRattle\.(\w+)\.|(?<![\w:.])(\w+)::")
 VARIANT = re.compile(r"^    ([A-Z]\w*)(?: \{|\(|,)", re.M)
 
