@@ -3,7 +3,6 @@ use Rattle.std.proofs.Common.{◌≡◌, ◌∙◌, ℕ, zero, suc, ◌-◌, ◌
 use Rattle.std.proofs.lemmas.List.{append-nil}
 use Rattle.order_kinds.specs.declared.price.Price.{Price}
 use Rattle.order_kinds.specs.declared.side.Side.{Side}
-use Rattle.order_kinds.specs.Contract.{contract_at}
 use Rattle.zone_graph.specs.declared.route.RouteLeg.{RouteLeg}
 use Rattle.zone_graph.specs.Graph.{HasZone}
 use Rattle.zone_graph.specs.Pour.{opposite_arc}
@@ -12,7 +11,6 @@ use Rattle.zone_graph.specs.Route.{IsIn}
 use Rattle.market_model.specs.declared.board.Shown.{Shown}
 use Rattle.market_model.specs.declared.reply.ViewRow.{ViewRow}
 use Rattle.market_model.specs.Board.{BoardState, IsBoard, Rests, RestsIn, first_shown, resting_line, shown_behind}
-use Rattle.market_model.specs.Lines.{line}
 use Rattle.market_model.specs.Orders.{Standing}
 use Rattle.cut_proof.specs.Carrying.{FitTogether}
 use Rattle.route_choice.specs.Poured.{AreRoomsAfter, lots_of, rooms_after as all_after}

@@ -1,6 +1,6 @@
 -- The law of the whole line: where all that its orders show can come to a zone together, the view of the
 -- zone takes all of each.
-use Rattle.std.proofs.Common.{◌≡◌, ◌∙◌, inl, inr, ℕ, zero, suc, ◌+◌, ◌-◌, ◌≤◌, ◌<◌, ◌==◌, Bool, true, List, [], ◌∷◌, filter, fold, get_or, map, min, sum_by, None, refl, sym, ap, subst, arith}
+use Rattle.std.proofs.Common.{◌≡◌, ◌∙◌, inl, inr, ℕ, zero, suc, ◌+◌, ◌-◌, ◌≤◌, true, List, [], ◌∷◌, filter, fold, get_or, map, min, sum_by, None, refl, sym, ap, subst, arith}
 use Rattle.std.proofs.lemmas.List.Sums.{sum_by-cons}
 use Rattle.order_kinds.specs.declared.order.OrderName.{OrderName}
 use Rattle.order_kinds.specs.declared.price.Price.{Price}
@@ -17,7 +17,7 @@ use Rattle.zone_graph.specs.Rooms.{room_of}
 use Rattle.zone_graph.specs.Route.{IsIn, has}
 use Rattle.cut_proof.proofs.ArcSums.{sum_passing}
 use Rattle.market_model.specs.declared.reply.ViewRow.{ViewRow}
-use Rattle.market_model.specs.Board.{BoardState, IsBoard, resting_line}
+use Rattle.market_model.specs.Board.{BoardState, resting_line}
 use Rattle.market_model.specs.Certificate.{zones_in_reach}
 use Rattle.market_model.specs.Lines.{line}
 use Rattle.market_model.specs.Orders.{Standing}

@@ -94,8 +94,8 @@ impl Ways {
     }
 }
 
-// The room for lots that come over an arc of a way, or go over it to buys.
-fn room_for(rooms: &Rooms, side: Side, arc: Arc) -> u32
+/// The room for lots that come over an arc of a way, or go over it to buys.
+pub(crate) fn room_for(rooms: &Rooms, side: Side, arc: Arc) -> u32
     requires { arc.border < length rooms.now }
     ensures { result ≡ room_of rooms.now (over side arc) }
 {

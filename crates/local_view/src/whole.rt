@@ -7,10 +7,13 @@ ghost use Rattle.local_view.specs.Ways.{ComeTogether};
 ghost use Rattle.local_view.specs.Whole.{IsRead};
 
 use crate::listing::{Line, add_row};
-use crate::ways::Ways;
+use crate::ways::{Ways, room_for};
 use market_model::{Board, NoMemory, Side, ViewRow};
 use std::alloc::Global;
 use zone_graph::{Grid, MOST_ZONES, Rooms};
+
+// How many rows make the test worth its while: a walk along fewer costs less than the test.
+const WORTH_TESTING: usize = 16;
 
 /// The rows in which each order of a line has all that it shows, and what the orders of each zone show.
 #[derive(Drop)]
@@ -19,6 +22,8 @@ pub(crate) struct WholeLine {
     pub(crate) rows: Vec<ViewRow>,
     /// The lots that the orders of each zone show together.
     pub(crate) shown: [u32; MOST_ZONES],
+    /// The lots that all orders show together.
+    pub(crate) all: u32,
     /// Whether all these lots are no more than a view asks for. Where they are, the others are told.
     pub(crate) fits: bool,
 }
@@ -29,6 +34,7 @@ impl WholeLine {
         WholeLine {
             rows: Vec::new(alloc),
             shown: [0; MOST_ZONES],
+            all: 0,
             fits: false,
         }
     }
@@ -65,17 +71,36 @@ impl WholeLine {
             add_row(&mut self.rows, order.price, order.lots)?;
             next = board.after(order.number);
         }
+        self.all = all;
         self.fits = true;
         Ok(())
     }
 
-    /// Whether all that the line shows comes to a zone together, over ways that the rooms are wide enough for.
+    /// Whether all that the line shows comes to a zone together, over ways that the rooms are wide enough for. It is not
+    /// told of a line of few orders.
     pub(crate) fn comes_to(&self, grid: &Grid, rooms: &Rooms, side: Side, zone: u32) -> bool
         requires zone { HasZone grid.now zone }
         requires size { length rooms.now ≡ border_count grid.now }
         ensures fits { IsTrue result → self.now.fits ≡ true }
         ensures together { IsTrue result → ComeTogether grid.now (room_of rooms.now) side zone self.now.shown }
     {
-        self.fits && Ways::from_zone(grid, zone).bring_all(grid, rooms, side, zone, &self.shown)
+        self.fits
+            && self.rows.len() >= WORTH_TESTING
+            && self.may_come_to(grid, rooms, side, zone)
+            && Ways::from_zone(grid, zone).bring_all(grid, rooms, side, zone, &self.shown)
+    }
+
+    // Whether the arcs around a zone have room enough for what other zones show. Where they do not, no ways do.
+    fn may_come_to(&self, grid: &Grid, rooms: &Rooms, side: Side, zone: u32) -> bool
+        requires zone { HasZone grid.now zone }
+        requires size { length rooms.now ≡ border_count grid.now }
+    {
+        let zones = grid.zones();
+        prove!(zone < zones);
+        let mut left = self.all.saturating_sub(self.shown[zone as usize]);
+        for neighbour in grid.neighbours(zone) {
+            left = left.saturating_sub(room_for(rooms, side, neighbour.arc));
+        }
+        left == 0
     }
 }

@@ -1,6 +1,5 @@
-use Rattle.std.proofs.Common.{◌≡◌, ◌≤◌, ◌-◌, get_or, length, rules, subst, sym, arith}
+use Rattle.std.proofs.Common.{◌≤◌, ◌-◌, get_or, rules, subst, arith}
 use Rattle.zone_graph.specs.Rooms.{room_of}
-use Rattle.local_view.specs.Ways.{no_arc, over}
 use Rattle.local_view.proofs.Bringing.{all_come, brought_on, nothing_yet}
 use Rattle.local_view.proofs.ways.Ways.bring_all.Goals as goal
 
