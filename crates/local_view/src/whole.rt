@@ -15,6 +15,9 @@ use zone_graph::{Grid, MOST_ZONES, Rooms};
 // How many rows make the test worth its while: a walk along fewer costs less than the test.
 const WORTH_TESTING: usize = 16;
 
+// How many rows are read at most: all of a longer line seldom comes to a zone.
+const WORTH_READING: usize = 64;
+
 /// The rows in which each order of a line has all that it shows, and what the orders of each zone show.
 #[derive(Drop)]
 pub(crate) struct WholeLine {
@@ -24,7 +27,7 @@ pub(crate) struct WholeLine {
     pub(crate) shown: [u32; MOST_ZONES],
     /// The lots that all orders show together.
     pub(crate) all: u32,
-    /// Whether all these lots are no more than a view asks for. Where they are, the others are told.
+    /// Whether the line is short and all these lots are no more than a view asks for. Where it is so, the others are told.
     pub(crate) fits: bool,
 }
 
@@ -62,6 +65,10 @@ impl WholeLine {
         let mut next = board.first(line.part, line.side);
         while let Some(order) = next {
             prove!(order.zone < zones);
+            if self.rows.len() >= WORTH_READING {
+                self.fits = false;
+                return Ok(());
+            }
             let Some(more) = all.checked_add(order.lots) else {
                 self.fits = false;
                 return Ok(());
