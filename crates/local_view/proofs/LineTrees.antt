@@ -5,7 +5,7 @@ use Rattle.std.proofs.lemmas.List.{get_or-set_other, length-set}
 use Rattle.order_kinds.specs.declared.side.Side.{Side}
 use Rattle.zone_graph.specs.declared.route.Arc.{Arc}
 use Rattle.zone_graph.specs.Graph.{Graph}
-use Rattle.route_tree.specs.Tree.{Tree}
+use Rattle.route_choice.specs.Tree.{Tree}
 use Rattle.local_view.specs.Trees.{AreTrees, LineRoutes, TellsTakers}
 
 same_item : {X : Type 0} (xs : List X) (i : ℕ) (new x : X) → slice_get (set xs i new) i ≡ Some x → new ≡ x

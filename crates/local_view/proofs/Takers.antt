@@ -13,13 +13,11 @@ use Rattle.zone_graph.specs.Rooms.{room_of}
 use Rattle.zone_graph.specs.Route.{IsIn, carried}
 use Rattle.cut_proof.specs.Carrying.{CanCarry, FitTogether}
 use Rattle.cut_proof.proofs.Carrying.{fit-kept, route_can_carry}
-use Rattle.route_choice.specs.declared.route_search.RouteSearch.{RouteSearch}
 use Rattle.route_choice.specs.Freshness.{IsFresh, is_known, directed_route, has_room}
 use Rattle.route_choice.specs.Poured.{AreRoomsAfter, lots_of, rooms_after}
-use Rattle.route_choice.proofs.Fresh.{known_is_reached, searched_arcs}
+use Rattle.route_choice.proofs.Fresh.{known_is_reached, searched_arcs, searches_stay, stays_fresh}
 use Rattle.route_choice.proofs.Pours.{IsPoured, IsPourLeg, ended, leg_over_route, one_more, over_route, pour_leg-is}
-use Rattle.route_tree.specs.Tree.{TellsRoutes, Tree}
-use Rattle.route_tree.proofs.Told.{routes_stay, stays_told}
+use Rattle.route_choice.specs.Tree.{Tree}
 use Rattle.local_view.specs.Nearness.{is_joined}
 use Rattle.local_view.specs.Poured.{CarriesNext, leg_with, legs_with, room_after_next, sent_from, sent_to}
 use Rattle.local_view.specs.Takers.{IsOwn, IsTaker, best_between}
@@ -51,7 +49,7 @@ module _ (graph : Graph) (is : IsGraph graph) (rooms : List (ℕ × ℕ)) (size 
 
   arcs_there : (arc : Arc) → IsIn arc route → HasArc graph arc
   arcs_there =
-      searched_arcs graph (room_of rooms) (record { zone = zone; towards = same_side side Sell; distances = [] }) other route is
+      searched_arcs graph (room_of rooms) (record { zone = zone; towards = same_side side Sell; distances = []; steps = [] }) other route is
       (between graph (room_of rooms) side zone other ∙ found)
 
   pub arcs_known : (arcs : List Arc) → arcs ≡ route → (size_now : ℕ) → size_now ≡ length rooms → (arc : Arc) → IsIn arc arcs → arc.border < size_now
@@ -85,14 +83,14 @@ module _ (graph : Graph) (is : IsGraph graph) (rooms : List (ℕ × ℕ)) (size 
     routes-stay : list_all (has_room (room_of after)) route ≡ true → (o : ℕ) → best_between graph (room_of after) side zone o ≡ best_between graph (room_of rooms) side zone o
     routes-stay all o =
         sym (between graph (room_of after) side zone o)
-        ∙ routes_stay graph (room_of rooms) (room_of after) zone other o (same_side side Sell) route lots is all (between graph (room_of rooms) side zone other ∙ found) over
+        ∙ (searches_stay graph (room_of rooms) (room_of after) zone other (same_side side Sell) route lots is all (between graph (room_of rooms) side zone other ∙ found) over).routes o
         ∙ between graph (room_of rooms) side zone o
 
     own-stays : (tree : Tree) → list_all (has_room (room_of after)) route ≡ true → IsOwn graph (room_of rooms) side zone tree → IsOwn graph (room_of after) side zone tree
     own-stays tree all own = record {
       here = own.here;
       towards = own.towards;
-      told = stays_told tree (room_of after) route all graph (room_of rooms) other lots is own.told
+      told = stays_fresh tree (room_of after) route all graph (room_of rooms) other lots is own.told
           (ap (λ z. directed_route graph (room_of rooms) z other tree.towards) own.here ∙ ap (directed_route graph (room_of rooms) zone other) own.towards
           ∙ between graph (room_of rooms) side zone other ∙ found)
           over;
@@ -107,7 +105,7 @@ module _ (graph : Graph) (is : IsGraph graph) (rooms : List (ℕ × ℕ)) (size 
     }
 
 -- a taker whose own tree was made just now
-pub taker-anew : (graph : Graph) (start room : Arc → ℕ) (side : Side) (zone : ℕ) (tree : Tree) → HasZone graph zone → TellsRoutes graph room tree → tree.zone ≡ zone
+pub taker-anew : (graph : Graph) (start room : Arc → ℕ) (side : Side) (zone : ℕ) (tree : Tree) → HasZone graph zone → IsFresh graph room tree → tree.zone ≡ zone
     → tree.towards ≡ same_side side Sell → IsTaker graph start room (record { side = side; zone = zone; own = Some tree })
 taker-anew graph start room side zone tree there told here towards = record {
   there = there;
@@ -207,10 +205,10 @@ step_none graph start side zone other most room after left is taken side_now zon
 -- ---- zones that are joined
 
 -- a fresh search of a zone knows the takers that can trade with an order there
-pub known_joined : (graph : Graph) (room : Arc → ℕ) (search : RouteSearch) (side : Side) (zone other : ℕ) → IsGraph graph → IsFresh graph room search
+pub known_joined : (graph : Graph) (room : Arc → ℕ) (search : Tree) (side : Side) (zone other : ℕ) → IsGraph graph → IsFresh graph room search
     → search.zone ≡ other → search.towards ≡ not (same_side side Sell) → is_known search zone ≡ is_joined graph room side zone other
 known_joined graph room search side zone other is fresh at towards =
-    known_is_reached graph room search zone is fresh
+    known_is_reached graph room search zone fresh
     ∙ ap (λ t. is_some (directed_route graph room search.zone zone t)) towards
     ∙ ap (λ z. is_some (directed_route graph room z zone (not (same_side side Sell)))) at
     ∙ by side

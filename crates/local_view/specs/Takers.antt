@@ -8,7 +8,8 @@ use Rattle.zone_graph.specs.Graph.{Graph, HasZone, border_count}
 use Rattle.zone_graph.specs.Rooms.{room_of}
 use Rattle.zone_graph.specs.Route.{best_route}
 use Rattle.cut_proof.specs.Carrying.{FitTogether}
-use Rattle.route_tree.specs.Tree.{TellsRoutes, Tree}
+use Rattle.route_choice.specs.Freshness.{IsFresh}
+use Rattle.route_choice.specs.Tree.{Tree}
 use Rattle.local_view.specs.declared.taker.Taker.{Taker}
 use Rattle.local_view.specs.declared.walk.Walk.{Walk}
 use Rattle.local_view.specs.Poured.{sent_from, sent_to}
@@ -22,7 +23,7 @@ best_between graph room side zone other = best_route graph room (sent_from side 
 pub record IsOwn (graph : Graph) (room : Arc → ℕ) (side : Side) (zone : ℕ) (tree : Tree) : Type 0 where
   pub here : tree.zone ≡ zone
   pub towards : tree.towards ≡ same_side side Sell
-  pub told : TellsRoutes graph room tree
+  pub told : IsFresh graph room tree
 
 -- as long as no arc was used up the taker's routes are those over the first rooms; after that its own
 -- tree tells them

@@ -5,7 +5,8 @@ use Rattle.order_kinds.specs.declared.side.Side.TheVariants.{Sell}
 use Rattle.order_kinds.specs.Same.{same_side}
 use Rattle.zone_graph.specs.declared.route.Arc.{Arc}
 use Rattle.zone_graph.specs.Graph.{Graph, zone_count}
-use Rattle.route_tree.specs.Tree.{TellsRoutes, Tree}
+use Rattle.route_choice.specs.Freshness.{IsFresh}
+use Rattle.route_choice.specs.Tree.{Tree}
 
 -- a tree for each zone, and which of them are made
 pub record LineRoutes : Type 0 where
@@ -17,7 +18,7 @@ pub record LineRoutes : Type 0 where
 pub record TellsTakers (graph : Graph) (room : Arc → ℕ) (side : Side) (zone : ℕ) (tree : Tree) : Type 0 where
   pub here : tree.zone ≡ zone
   pub towards : tree.towards ≡ not (same_side side Sell)
-  pub told : TellsRoutes graph room tree
+  pub told : IsFresh graph room tree
 
 -- the trees that are made do so
 pub record AreTrees (graph : Graph) (room : Arc → ℕ) (side : Side) (line : LineRoutes) : Type 0 where

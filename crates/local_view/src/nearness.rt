@@ -9,7 +9,7 @@ ghost use Rattle.local_view.specs.Nearness.{is_joined, is_near};
 
 use crate::taker::is_sell;
 use market_model::Side;
-use route_choice::RouteSearch;
+use route_choice::RouteTree;
 use zone_graph::{Grid, MOST_ZONES, Rooms};
 
 /// Whether each zone is near a touched one, by zone. Bit z of `touched` stands for zone z.
@@ -40,7 +40,7 @@ fn mark_joined(grid: &Grid, rooms: &Rooms, side: Side, other: u32, near: &mut [b
 {
     let zones = grid.zones();
     prove!(other < zones);
-    let search = RouteSearch::new(grid, rooms, other, !is_sell(side));
+    let search = RouteTree::new(grid, rooms, other, !is_sell(side));
     for zone in 0..zones {
         if search.reaches(zone) {
             near[zone as usize] = true;

@@ -10,7 +10,7 @@ ghost use Rattle.zone_graph.specs.Rooms.{room_of};
 ghost use Rattle.zone_graph.specs.Route.{IsIn};
 ghost use Rattle.zone_graph.specs.declared.route.Arc.{Arc as AnArc};
 ghost use Rattle.route_choice.specs.Freshness.{has_room};
-ghost use Rattle.route_tree.specs.Tree.{told_route};
+ghost use Rattle.route_choice.specs.Tree.{told_route};
 ghost use Rattle.route_choice.specs.Poured.{AreRoomsAfter, lots_of};
 ghost use Rattle.local_view.specs.Poured.{CarriesNext, leg_with, legs_with};
 ghost use Rattle.local_view.specs.Takers.{IsTaker, IsWalking, best_between};
@@ -18,7 +18,7 @@ ghost use Rattle.local_view.specs.Takers.{IsTaker, IsWalking, best_between};
 use crate::walk::Walk;
 use cut_proof::{carried, carry};
 use order_kinds::Side;
-use route_tree::RouteTree;
+use route_choice::RouteTree;
 use zone_graph::{Arc, Grid, Rooms};
 
 /// A taker in a zone, who takes of the orders of a side.

@@ -7,7 +7,7 @@ ghost use Rattle.local_view.specs.Trees.{AreTrees};
 
 use crate::taker::is_sell;
 use market_model::Side;
-use route_tree::RouteTree;
+use route_choice::RouteTree;
 use std::alloc::Global;
 use std::marker::Model;
 use zone_graph::{Grid, MOST_ZONES, NoMemory, Rooms};

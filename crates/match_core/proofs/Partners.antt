@@ -17,8 +17,8 @@ use Rattle.zone_graph.proofs.BestRoute.{best_route-rooms}
 use Rattle.zone_graph.proofs.Finding.{from_find}
 use Rattle.zone_graph.proofs.Membership.{IsIn-right}
 use Rattle.cut_proof.proofs.Carrying.{carried-rooms}
-use Rattle.route_choice.specs.declared.route_search.RouteSearch.{RouteSearch}
 use Rattle.route_choice.specs.Freshness.{searched_route}
+use Rattle.route_choice.specs.Tree.{Tree}
 use Rattle.route_choice.proofs.Fresh.{searched_arcs, searched_from, searched_towards}
 use Rattle.market_model.specs.declared.event.Event.{Event}
 use Rattle.market_model.specs.declared.event.Event.TheVariants as event
@@ -45,7 +45,7 @@ find-through p (y ∷ front) back x none own =
     ap (λ b. if b then Some y else find p (front ++ (x ∷ back))) (none y (inl refl)) ∙ find-through p front back x (λ z i. none z (inr i)) own
 
 -- what a search answers for an order is the best route of a trade with it
-pub route-of : (graph : Graph) (room : Arc → ℕ) (order : Placed) (search : RouteSearch) (own other : Standing) → own.order ≡ order.order
+pub route-of : (graph : Graph) (room : Arc → ℕ) (order : Placed) (search : Tree) (own other : Standing) → own.order ≡ order.order
     → search.zone ≡ order.order.zone → search.towards ≡ is_towards order.order.side
     → searched_route graph room search other.order.zone ≡ best_route graph room (seller_zone own other) (buyer_zone own other)
 route-of graph room order search own other same at towards = go own.order.side refl

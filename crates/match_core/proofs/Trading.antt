@@ -13,8 +13,8 @@ use Rattle.zone_graph.specs.Route.{IsIn, IsRoute, carried}
 use Rattle.zone_graph.proofs.Carrying.{best_route-route, carried-room}
 use Rattle.cut_proof.specs.Carrying.{CanCarry}
 use Rattle.cut_proof.proofs.Carrying.{fit-kept, route_can_carry}
-use Rattle.route_choice.specs.declared.route_search.RouteSearch.{RouteSearch}
 use Rattle.route_choice.specs.Freshness.{IsFresh}
+use Rattle.route_choice.specs.Tree.{Tree}
 use Rattle.quarter_capacity.specs.Capacity.{most_remaining}
 use Rattle.market_model.specs.declared.event.Event.TheVariants as event
 use Rattle.market_model.specs.Board.{BoardState, CanBeMade, IsBoard, after_leg, resting_line}
@@ -51,7 +51,7 @@ module _ (board : BoardState) (graph : Graph) (part : ℕ) (taker : Taker) (over
       subst (λ (g : Graph). HasZone g taker.zone) (sym over)
       (subst (λ (t : Taker). HasZone board.grid t.zone) (sym entered.is) (in-zone board part entered.order takes))
 
-  module _ (rooms : List (ℕ × ℕ)) (search : RouteSearch) (size : length rooms ≡ border_count graph)
+  module _ (rooms : List (ℕ × ℕ)) (search : Tree) (size : length rooms ≡ border_count graph)
       (same : (arc : Arc) → HasArc board.grid arc → room_of rooms arc ≡ room board.events (contract_quarters (contract_at board.hour part)) arc)
       (most : (arc : Arc) → HasArc board.grid arc → room_of rooms arc ≤ most_remaining)
       (fresh : IsFresh graph (room_of rooms) search) (zone : search.zone ≡ taker.zone) (towards : search.towards ≡ is_towards taker.side) where

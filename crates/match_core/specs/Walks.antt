@@ -12,8 +12,8 @@ use Rattle.zone_graph.specs.Pour.{room_after}
 use Rattle.zone_graph.specs.Rooms.{room_of}
 use Rattle.zone_graph.specs.Route.{IsIn, carried}
 use Rattle.cut_proof.specs.Carrying.{CanCarry, FitTogether}
-use Rattle.route_choice.specs.declared.route_search.RouteSearch.{RouteSearch}
 use Rattle.route_choice.specs.Freshness.{IsFresh, searched_route}
+use Rattle.route_choice.specs.Tree.{Tree}
 use Rattle.market_model.specs.declared.board.Shown.{Shown}
 use Rattle.market_model.specs.declared.event.Event.TheVariants as event
 use Rattle.market_model.specs.declared.event.Leg.{Leg}
@@ -47,7 +47,7 @@ is_towards Buy = true
 is_towards Sell = false
 
 -- a search has the routes of an order
-pub record SearchesFor (graph : Graph) (order : Placed) (rooms : List (ℕ × ℕ)) (search : RouteSearch) : Type 0 where
+pub record SearchesFor (graph : Graph) (order : Placed) (rooms : List (ℕ × ℕ)) (search : Tree) : Type 0 where
   pub fresh : IsFresh graph (room_of rooms) search
   pub zone : search.zone ≡ order.order.zone
   pub towards : search.towards ≡ is_towards order.order.side

@@ -15,7 +15,7 @@ use crate::taker::Taker;
 use cut_proof::{carried, carry};
 use market_model::{Board, Leg, Shown};
 use order_kinds::{OrderName, Side};
-use route_choice::RouteSearch;
+use route_choice::RouteTree;
 use std::alloc::Global;
 use zone_graph::{Grid, NoMemory, Rooms, Route};
 
@@ -38,7 +38,7 @@ pub(crate) struct Walk {
     pub rooms: Rooms,
 
     /// The search for the routes of the order.
-    pub search: RouteSearch,
+    pub search: RouteTree,
 }
 
 /// The order to trade with next, and the route over which.
@@ -185,7 +185,7 @@ impl Walk {
 }
 
 // The search for the routes of an order: towards its zone if it buys, from its zone if it sells.
-fn search_for(grid: &Grid, rooms: &Rooms, taker: &Taker) -> RouteSearch
+fn search_for(grid: &Grid, rooms: &Rooms, taker: &Taker) -> RouteTree
     requires zone { HasZone grid.now taker.now.zone }
     requires size { length rooms.now ≡ border_count grid.now }
     ensures fresh { IsFresh grid.now (room_of rooms.now) result }
@@ -196,5 +196,5 @@ fn search_for(grid: &Grid, rooms: &Rooms, taker: &Taker) -> RouteSearch
         Side::Buy => true,
         Side::Sell => false,
     };
-    RouteSearch::new(grid, rooms, taker.zone, towards)
+    RouteTree::new(grid, rooms, taker.zone, towards)
 }

@@ -1,8 +1,13 @@
+pub mod AllFound
+pub mod FirstSteps
 pub mod Flows
 pub mod Fresh
-pub mod MarkedWays
-pub mod Marks
-pub mod Nearer
+pub mod FromSearch
+pub mod Orders
 pub mod Pours
+pub mod ReadRoutes
+pub mod Rising
 pub mod Shortest
 pub mod Steady
+pub mod Towards
+pub mod TowardsSearch

@@ -1,13 +1,12 @@
--- What the distances of a search say of the rooms: those that they were counted over, and later
--- ones.
-use Rattle.std.specs.Prelude.{◌≡◌, ℕ, ◌<◌, ◌≤◌, Bool, true, false, List, length, Option, None, Some, is_some, nat_lt, slice_index_or}
+-- What a tree of routes says of the rooms: those that it was made over, and later ones.
+use Rattle.std.specs.Prelude.{◌≡◌, ℕ, ◌<◌, ◌≤◌, Bool, true, false, List, length, Option, Some, is_some, nat_lt}
 use Rattle.zone_graph.specs.declared.route.Arc.{Arc}
 use Rattle.zone_graph.specs.declared.route.RouteLeg.{RouteLeg}
 use Rattle.zone_graph.specs.Graph.{Graph, HasZone, IsGraph}
 use Rattle.zone_graph.specs.Pour.{room_after}
 use Rattle.zone_graph.specs.Route.{IsIn, IsRoute, best_route}
 use Rattle.cut_proof.specs.Distance.{AreDistances, directed_room}
-use Rattle.route_choice.specs.declared.route_search.RouteSearch.{RouteSearch}
+use Rattle.route_choice.specs.Tree.{Tree, told_route}
 
 -- the best route from another zone to a zone (towards), or from the zone to the other one
 abbrev pub directed_route : Graph → (Arc → ℕ) → (zone other : ℕ) → (towards : Bool) → Option (List Arc)
@@ -19,44 +18,45 @@ abbrev pub IsDirectedRoute : Graph → (Arc → ℕ) → (zone other : ℕ) → 
 IsDirectedRoute graph room zone other true arcs = IsRoute graph room other zone arcs
 IsDirectedRoute graph room zone other false arcs = IsRoute graph room zone other arcs
 
--- the best route between a zone and that of a search, in its direction
-abbrev pub searched_route : Graph → (Arc → ℕ) → RouteSearch → (other : ℕ) → Option (List Arc)
-searched_route graph room search other = directed_route graph room search.zone other search.towards
+-- the best route between a zone and that of a tree, in its direction
+abbrev pub searched_route : Graph → (Arc → ℕ) → Tree → (other : ℕ) → Option (List Arc)
+searched_route graph room tree other = directed_route graph room tree.zone other tree.towards
 
--- a route leads between a zone and that of a search, in its direction
-abbrev pub is_reached : Graph → (Arc → ℕ) → RouteSearch → (other : ℕ) → Bool
-is_reached graph room search other = is_some (searched_route graph room search other)
+-- a route leads between a zone and that of a tree, in its direction
+abbrev pub is_reached : Graph → (Arc → ℕ) → Tree → (other : ℕ) → Bool
+is_reached graph room tree other = is_some (searched_route graph room tree other)
 
--- a search has a distance for a zone
-abbrev pub is_known : RouteSearch → (other : ℕ) → Bool
-is_known search other = is_some (slice_index_or search.distances other None)
+-- a tree tells a route between a zone and its own
+abbrev pub is_known : Tree → (other : ℕ) → Bool
+is_known tree other = is_some (told_route tree other)
 
--- the distances of a search are those over these rooms
-pub record IsFresh (graph : Graph) (room : Arc → ℕ) (search : RouteSearch) : Type 0 where
-  pub there : HasZone graph search.zone
-  pub distances : AreDistances graph (directed_room room search.towards) search.zone search.distances
+-- a tree has the distances over these rooms, and tells the best routes over them
+pub record IsFresh (graph : Graph) (room : Arc → ℕ) (tree : Tree) : Type 0 where
+  pub there : HasZone graph tree.zone
+  pub distances : AreDistances graph (directed_room room tree.towards) tree.zone tree.distances
+  pub routes : (other : ℕ) → told_route tree other ≡ searched_route graph room tree other
 
--- over these rooms no route leads between a zone without a distance and that of the search
-abbrev pub Excludes : Graph → (Arc → ℕ) → RouteSearch → Type 0
-Excludes graph room search = (other : ℕ) → is_known search other ≡ false → is_reached graph room search other ≡ false
+-- over these rooms no route leads between a zone to which a tree tells none and that of the tree
+abbrev pub Excludes : Graph → (Arc → ℕ) → Tree → Type 0
+Excludes graph room tree = (other : ℕ) → is_known tree other ≡ false → is_reached graph room tree other ≡ false
 
--- an answer says whether a route leads between a zone and that of a search: exactly over rooms over
--- which the search is fresh, and where it says no, also over those over which it still excludes
-pub record TellsReach (search : RouteSearch) (other : ℕ) (answer : Bool) : Type 0 where
-  pub exact : (graph : Graph) (room : Arc → ℕ) → IsGraph graph → IsFresh graph room search → answer ≡ is_reached graph room search other
-  pub excluded : (graph : Graph) (room : Arc → ℕ) → Excludes graph room search → answer ≡ false → is_reached graph room search other ≡ false
+-- an answer says whether a route leads between a zone and that of a tree: exactly over rooms over
+-- which the tree is fresh, and where it says no, also over those over which it still excludes
+pub record TellsReach (tree : Tree) (other : ℕ) (answer : Bool) : Type 0 where
+  pub exact : (graph : Graph) (room : Arc → ℕ) → IsGraph graph → IsFresh graph room tree → answer ≡ is_reached graph room tree other
+  pub excluded : (graph : Graph) (room : Arc → ℕ) → Excludes graph room tree → answer ≡ false → is_reached graph room tree other ≡ false
 
 -- an arc has room
 abbrev pub has_room : (Arc → ℕ) → Arc → Bool
 has_room room arc = nat_lt 0 (room arc)
 
--- a search that is fresh is so over these rooms too, where they are those after a leg over its best
+-- a tree that is fresh is so over these rooms too, where they are those after a leg over its best
 -- route to or from some zone
-abbrev pub StaysFresh : RouteSearch → (after : Arc → ℕ) → List Arc → Type 0
-StaysFresh search after route = (graph : Graph) (room : Arc → ℕ) (other lots : ℕ) → IsGraph graph → IsFresh graph room search
-    → searched_route graph room search other ≡ Some route
+abbrev pub StaysFresh : Tree → (after : Arc → ℕ) → List Arc → Type 0
+StaysFresh tree after route = (graph : Graph) (room : Arc → ℕ) (other lots : ℕ) → IsGraph graph → IsFresh graph room tree
+    → searched_route graph room tree other ≡ Some route
     → ((arc : Arc) → after arc ≡ room_after room (record { route = route; lots = lots }) arc)
-    → IsFresh graph after search
+    → IsFresh graph after tree
 
 -- a route than which none is shorter
 pub record IsShortestRoute (graph : Graph) (room : Arc → ℕ) (from to : ℕ) (arcs : List Arc) : Type 0 where
@@ -81,12 +81,12 @@ ShortLegsKeepSearches = (graph : Graph) (room : Arc → ℕ) (from to : ℕ) (le
     → IsGraph graph → IsShortestRoute graph room from to leg.route → LeavesRoom room leg
     → KeepsSearches graph room (room_after room leg) to true × KeepsSearches graph room (room_after room leg) from false
 
--- a fresh search excludes
+-- a fresh tree excludes
 abbrev pub FreshSearchesExclude : Type 0
-FreshSearchesExclude = (graph : Graph) (room : Arc → ℕ) (search : RouteSearch) → IsGraph graph → IsFresh graph room search → Excludes graph room search
+FreshSearchesExclude = (graph : Graph) (room : Arc → ℕ) (tree : Tree) → IsGraph graph → IsFresh graph room tree → Excludes graph room tree
 
--- what a search excludes stays out of reach after a leg between its zone and another one
+-- what a tree excludes stays out of reach after a leg between its zone and another one
 abbrev pub LegsKeepExclusion : Type 0
-LegsKeepExclusion = (graph : Graph) (room : Arc → ℕ) (search : RouteSearch) (other : ℕ) (leg : RouteLeg)
-    → IsGraph graph → IsDirectedRoute graph room search.zone other search.towards leg.route
-    → Excludes graph room search → Excludes graph (room_after room leg) search
+LegsKeepExclusion = (graph : Graph) (room : Arc → ℕ) (tree : Tree) (other : ℕ) (leg : RouteLeg)
+    → IsGraph graph → IsDirectedRoute graph room tree.zone other tree.towards leg.route
+    → Excludes graph room tree → Excludes graph (room_after room leg) tree

@@ -1,6 +1,5 @@
-pub mod Descent
 pub mod Flow
 pub mod Freshness
-pub mod Neighbours
-pub mod Onward
 pub mod Poured
+pub mod Search
+pub mod Tree

@@ -5,7 +5,7 @@ ghost use Rattle.zone_graph.specs.Graph.{HasZone, border_count};
 ghost use Rattle.zone_graph.specs.Rooms.{room_of};
 ghost use Rattle.zone_graph.specs.Route.{best_route as route_of};
 
-use crate::route_search::RouteSearch;
+use crate::tree::RouteTree;
 use std::alloc::Global;
 use zone_graph::{Grid, NoMemory, Rooms, Route};
 
@@ -27,6 +27,6 @@ pub fn best_route(
     requires size { length rooms.now ≡ border_count grid.now }
     ensures { IfOk result (λ found. found ≡ route_of grid.now (room_of rooms.now) from to) }
 {
-    let search = RouteSearch::new(grid, rooms, to, true);
-    search.route(alloc, grid, rooms, from)
+    let tree = RouteTree::new(grid, rooms, to, true);
+    tree.route(alloc, grid, rooms, from)
 }

@@ -1,4 +1,4 @@
-//! Laws of pours and of searches: theorems about the definitions, the contracts of functions that do
+//! Laws of pours and of trees of routes: theorems about the definitions, the contracts of functions that do
 //! nothing.
 
 ghost use Rattle.route_choice.specs.Flow.{NoFlowCarriesMore};
@@ -24,13 +24,13 @@ pub fn short_legs_keep_searches()
     ensures { ShortLegsKeepSearches }
 {}
 
-/// Between a zone without a distance and that of a fresh search no route leads.
+/// Between a zone to which a fresh tree tells no route and that of the tree none leads.
 pub fn fresh_searches_exclude()
     ensures { FreshSearchesExclude }
 {}
 
-/// What a search excludes stays out of reach after each leg that is carried to the search's own zone
-/// (or from it, where the search is not `towards`), whether the search is still fresh or not.
+/// What a tree excludes stays out of reach after each leg that is carried to the tree's own zone (or
+/// from it, where the tree is not `towards`), whether the tree is still fresh or not.
 pub fn legs_keep_exclusion()
     ensures { LegsKeepExclusion }
 {}

@@ -1,12 +1,13 @@
-//! The best route between two zones of a grid, and what several routes carry together.
+//! The best route between two zones of a grid, trees of the best routes between one zone and all others,
+//! and what several routes carry together.
 #![tactic(auto)]
 
 mod choice;
-mod descent;
 mod laws;
-mod onward;
 mod pouring;
-mod route_search;
+mod reading;
+mod search;
+mod tree;
 
 pub use choice::best_route;
 pub use laws::{
@@ -14,4 +15,4 @@ pub use laws::{
     short_legs_keep_searches,
 };
 pub use pouring::pour;
-pub use route_search::RouteSearch;
+pub use tree::RouteTree;

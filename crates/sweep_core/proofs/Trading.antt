@@ -16,8 +16,8 @@ use Rattle.zone_graph.proofs.Finding.{from_find}
 use Rattle.zone_graph.proofs.GridLemmas.{start_within}
 use Rattle.cut_proof.proofs.Ways.{way_has_arc}
 use Rattle.cut_proof.proofs.Carrying.{carried-rooms}
-use Rattle.route_choice.specs.declared.route_search.RouteSearch.{RouteSearch}
 use Rattle.route_choice.specs.Freshness.{IsFresh, searched_route}
+use Rattle.route_choice.specs.Tree.{Tree}
 use Rattle.route_choice.proofs.Fresh.{known_is_reached, searched_arcs, searched_towards}
 use Rattle.market_model.specs.declared.board.Shown.{Shown}
 use Rattle.market_model.specs.declared.event.Leg.{Leg}
@@ -54,7 +54,7 @@ way-start graph room from to (arc ∷ arcs) is_graph there way = subst (HasZone 
 
 -- ---- as a search finds it
 
-module _ (graph : Graph) (row : List (ℕ × ℕ)) (is_graph : IsGraph graph) (search : RouteSearch) (buy : Shown)
+module _ (graph : Graph) (row : List (ℕ × ℕ)) (is_graph : IsGraph graph) (search : Tree) (buy : Shown)
     (fresh : IsFresh graph (room_of row) search) (zone : search.zone ≡ buy.zone) (towards : search.towards ≡ true) where
   route-of : (other : ℕ) → searched_route graph (room_of row) search other ≡ best_route graph (room_of row) other buy.zone
   route-of other = searched_towards graph (room_of row) search buy.zone other zone towards
@@ -62,7 +62,7 @@ module _ (graph : Graph) (row : List (ℕ × ℕ)) (is_graph : IsGraph graph) (s
   met-meets : (sell : Shown) → is_met search buy sell ≡ can_meet graph (room_of row) buy sell
   met-meets sell =
       ap (λ b. crosses Buy buy.price sell.price && b)
-      (known_is_reached graph (room_of row) search sell.zone is_graph fresh ∙ ap is_some (route-of sell.zone))
+      (known_is_reached graph (room_of row) search sell.zone fresh ∙ ap is_some (route-of sell.zone))
 
   met-found : (sells : List Shown) → find (is_met search buy) sells ≡ find (can_meet graph (room_of row) buy) sells
   met-found sells = find-same (is_met search buy) (can_meet graph (room_of row) buy) sells (λ sell i. met-meets sell)

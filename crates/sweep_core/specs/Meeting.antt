@@ -14,8 +14,8 @@ use Rattle.zone_graph.specs.Graph.{Graph, HasArc, border_count}
 use Rattle.zone_graph.specs.Reach.{reaches}
 use Rattle.zone_graph.specs.Rooms.{room_of}
 use Rattle.zone_graph.specs.Route.{best_route, carried}
-use Rattle.route_choice.specs.declared.route_search.RouteSearch.{RouteSearch}
 use Rattle.route_choice.specs.Freshness.{is_known}
+use Rattle.route_choice.specs.Tree.{Tree}
 use Rattle.market_model.specs.declared.board.Shown.{Shown}
 use Rattle.market_model.specs.declared.event.Leg.{Leg}
 use Rattle.market_model.specs.Board.{BoardState, resting_line, shown_of}
@@ -60,7 +60,7 @@ abbrev pub can_meet : Graph → (Arc → ℕ) → (buy sell : Shown) → Bool
 can_meet graph room buy sell = can_meet_from (λ zone. reaches graph room zone buy.zone) buy sell
 
 -- so a search towards the buy's zone tells it
-abbrev pub is_met : RouteSearch → (buy sell : Shown) → Bool
+abbrev pub is_met : Tree → (buy sell : Shown) → Bool
 is_met search buy sell = can_meet_from (is_known search) buy sell
 
 -- sells among which each buy that pays no more than the best one finds the one of a line that it trades

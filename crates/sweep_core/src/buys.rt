@@ -14,7 +14,7 @@ use crate::sells::partner_of;
 use cut_proof::carried;
 use market_model::{Board, Leg, Shown};
 use order_kinds::{OrderName, Side};
-use route_choice::RouteSearch;
+use route_choice::RouteTree;
 use std::alloc::Global;
 use zone_graph::{Grid, MOST_ZONES, NoMemory, Rooms, Route};
 
@@ -95,7 +95,7 @@ fn leg_of_buy(alloc: Global, sells: &PartSells, buy: &Shown) -> Result<Option<Le
 {
     let zones = sells.grid.zones();
     prove!(buy.zone < zones);
-    let search = RouteSearch::new(sells.grid, sells.rooms, buy.zone, true);
+    let search = RouteTree::new(sells.grid, sells.rooms, buy.zone, true);
     let Some(sell) = partner_of(sells.fronts, &search, buy) else {
         return Ok(None);
     };

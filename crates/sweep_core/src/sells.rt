@@ -9,7 +9,7 @@ ghost use Rattle.sweep_core.specs.Meeting as meeting;
 use crate::marks::no_marks;
 use market_model::{Board, Shown};
 use order_kinds::Side;
-use route_choice::RouteSearch;
+use route_choice::RouteTree;
 use std::alloc::Global;
 use zone_graph::{Grid, MOST_ZONES, NoMemory};
 
@@ -65,7 +65,7 @@ fn add_front(sell: &Shown, marks: &mut [bool; MOST_ZONES], fronts: &mut Vec<Show
 }
 
 /// The first of some sells that a buy can trade with.
-pub(crate) fn partner_of(fronts: &[Shown], search: &RouteSearch, buy: &Shown) -> Option<Shown>
+pub(crate) fn partner_of(fronts: &[Shown], search: &RouteTree, buy: &Shown) -> Option<Shown>
     ensures { result ≡ find (meeting.is_met search.now buy.now) fronts.now }
 {
     for sell in fronts {
@@ -78,7 +78,7 @@ pub(crate) fn partner_of(fronts: &[Shown], search: &RouteSearch, buy: &Shown) ->
 
 // Whether a buy can trade with a sell: whether prices cross and the search towards the buy's zone
 // reaches the sell's.
-fn is_met(search: &RouteSearch, buy: &Shown, sell: &Shown) -> bool
+fn is_met(search: &RouteTree, buy: &Shown, sell: &Shown) -> bool
     ensures { result ≡ meeting.is_met search.now buy.now sell.now }
 {
     Side::Buy.crosses(buy.price, sell.price) && search.reaches(sell.zone)

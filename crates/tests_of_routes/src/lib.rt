@@ -1,4 +1,4 @@
-//! Tests of the crates of routes: zones reached, distances, searches, best routes, what routes carry and
+//! Tests of the crates of routes: zones reached, distances, trees of routes, best routes, what routes carry and
 //! pours go over.
 //!
 //! A crate that has tests is proved once more for them, so the tests of several crates stand here
@@ -13,7 +13,5 @@ mod pour_tests;
 mod reach_tests;
 #[cfg(test)]
 mod route_tests;
-#[cfg(test)]
-mod search_tests;
 #[cfg(test)]
 mod tree_tests;

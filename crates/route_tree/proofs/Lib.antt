@@ -1,9 +1,0 @@
-pub mod AllFound
-pub mod FirstSteps
-pub mod FromSearch
-pub mod Orders
-pub mod ReadRoutes
-pub mod Rising
-pub mod Told
-pub mod Towards
-pub mod TowardsSearch
