@@ -1,7 +1,7 @@
--- The search for the routes from a zone: what its steps are at each time, and that they are the first
--- ones at the end.
-use Rattle.std.proofs.Common.{◌≡◌, ◌≢◌, ◌∙◌, ◌+◌, ◌<◌, ◌≤◌, ◌⊎◌, inl, inr, ℕ, Bool, true, false, List, length, get_or, set, Option, Some, None, is_none, is_some, ◌&&◌, nat_lt, if◌then◌else◌, refl, sym, ap, subst, arith, get_or-set_same, get_or-set_other, ltb-false, ltb-true}
-use Rattle.std.proofs.lemmas.Bool.{cases_eq, cases_lt}
+-- The search that goes out from a zone: what its steps are at each time, and that they are the first
+-- ones at the end. Of one for the routes to the zone each arc stands for its opposite.
+use Rattle.std.proofs.Common.{◌≡◌, ◌≢◌, ◌∙◌, ◌+◌, ◌<◌, ◌≤◌, ◌⊎◌, inl, inr, ℕ, zero, suc, Bool, true, false, not, List, length, get_or, set, replicate, Option, Some, None, is_none, is_some, ◌&&◌, nat_lt, if◌then◌else◌, refl, sym, ap, subst, arith, get_or-set_same, get_or-set_other, ltb-false, ltb-true}
+use Rattle.std.proofs.lemmas.Bool.{cases_eq, cases_lt, true≢false}
 use Rattle.std.proofs.lemmas.List.{length-set}
 use Rattle.zone_graph.specs.declared.route.Arc.{Arc}
 use Rattle.zone_graph.specs.declared.grid.Neighbour.{Neighbour}
@@ -10,16 +10,17 @@ use Rattle.zone_graph.specs.Grid.{IsGrid, neighbours_of}
 use Rattle.zone_graph.specs.Pour.{opposite_arc}
 use Rattle.zone_graph.proofs.Arcs.{opposite-end, opposite-start, opposite-twice}
 use Rattle.zone_graph.proofs.Places.{at_any}
-use Rattle.cut_proof.specs.Distance.{arcs_of_distance, directed_room, distance_at}
+use Rattle.cut_proof.specs.Distance.{AreDistances, arcs_of_distance, directed_room, distance_at}
 use Rattle.cut_proof.proofs.Neighbours.{IsNeighbour, neighbour_at}
 use Rattle.cut_proof.proofs.Searches.{IsReady, IsVisiting, at_found, at_others, spaces_in, started, visit_begins, visit_ends, visit_goes_on, visit_skips}
-use Rattle.route_choice.specs.Freshness.{IsFresh}
-use Rattle.route_choice.specs.Search.{Search, begun, first_met, found, no_step, step_at}
-use Rattle.route_choice.specs.Tree.{HasPlaces}
+use Rattle.route_choice.specs.declared.search.Branches.{Branches}
+use Rattle.route_choice.specs.declared.search.Queue.{Queue}
+use Rattle.route_choice.specs.Freshness.{IsFound, IsFresh}
+use Rattle.route_choice.specs.Search.{Search, begun, first_met, found, no_step, search_over, step_at}
+use Rattle.route_choice.specs.Tree.{Tree, tree_of}
 use Rattle.route_choice.proofs.AllFound.{search_done}
-use Rattle.route_choice.proofs.FirstSteps.{IsBefore, IsEarlierStep, IsStepFrom, from_fresh}
+use Rattle.route_choice.proofs.FirstSteps.{AreFirstSteps, IsBefore, IsEarlierStep, IsStepFrom, from_fresh}
 use Rattle.route_choice.proofs.Rising.{rising_neighbours}
-use Rattle.route_choice.proofs.TowardsSearch.{branches_tree, start_alone}
 
 -- a zone is one of the first so many that were found
 abbrev pub IsAmong : (zones : List ℕ) → (next zone : ℕ) → Type 0
@@ -336,7 +337,31 @@ from_meets graph room from search next zone distance neighbours index grid all w
         subst (λ b. After (one_of b)) (sym (ap (λ o. is_none o && nat_lt 0 (room neighbour.arc)) e))
         (from_skips graph room from search next zone distance neighbours index within v (inr (ap is_some e)))
 
--- ---- its start and its end
+-- ---- its start
+
+pub begun_over : (branches : Branches) (queue : Queue) (zone : ℕ) → branches.distances ≡ replicate 64 None → queue.zones ≡ set (replicate 64 0) 0 zone → queue.count ≡ 1
+    → search_over (record { distances = set branches.distances zone (Some 0); steps = branches.steps }) queue ≡ begun zone branches.steps
+begun_over branches queue zone none zones count =
+    λ i. record { distances = set (none i) zone (Some 0); steps = branches.steps; zones = zones i; count = count i }
+
+-- at the start no zone but its own has a distance
+pub start_alone : (graph : Graph) (room : Arc → ℕ) (to : ℕ) (distances : List (Option ℕ)) (zones : List ℕ) → IsReady graph room to distances zones 1 0
+    → get_or zones 0 0 ≡ to → (zone : ℕ) → 0 < distance_at distances zone → distance_at distances zone < 128 → ⊥
+start_alone graph room to distances zones r first zone positive near =
+    let at = r.searching.listed zone near in
+    let place : at.0 ≡ 0 = omega (arith, at.1) in
+    let same : zone ≡ to = sym at.2 ∙ ap (λ i. get_or zones i 0) place ∙ first in
+    let home = r.searching.home in
+    omega (arith, positive, home, ap (distance_at distances) same)
+
+no_step_at : (n zone : ℕ) → get_or (replicate n no_step) zone no_step ≡ no_step
+no_step_at zero zone = refl
+no_step_at (suc n) zero = refl
+no_step_at (suc n) (suc zone) = no_step_at n zone
+
+-- the steps that a search begins with are at zones with places
+pub within_at_first : (steps : List Neighbour) → steps ≡ replicate 64 no_step → (zone : ℕ) → (step_at steps zone).zone < 64
+within_at_first steps no_steps zone = subst (λ (n : Neighbour). n.zone < 64) (sym (ap (λ l. step_at l zone) no_steps ∙ no_step_at 64 zone)) (omega arith)
 
 pub from_started : (graph : Graph) (room : Arc → ℕ) (from : ℕ) (steps : List Neighbour) → HasZone graph from → from < 64 → length steps ≡ 64
     → ((zone : ℕ) → (step_at steps zone).zone < 64) → IsReadyFrom graph room from (begun from steps) 0
@@ -356,29 +381,23 @@ from_started graph room from steps known low places within =
       visited = λ zone positive near. absurd (never zone positive near);
     }
 
--- the tree of a search that has visited all zones that it has found, or has found all zones, tells
--- the best routes
-pub from_done : (graph : Graph) (room : Arc → ℕ) (from : ℕ) (search : Search) (next : ℕ) → IsGrid graph → HasZone graph from
-    → IsReadyFrom graph room from search next → (search.count ≤ next) ⊎ (zone_count graph ≤ search.count)
-    → IsFresh graph room (branches_tree search from false) × HasPlaces (branches_tree search from false)
-from_done graph room from search next grid there r past = (
-  from_fresh graph room from search.distances search.steps search.zones search.count grid there
-      (search_done graph (directed_room room false) from search.distances search.zones search.count next grid r.ready past) (record {
-        steps_from = r.steps.steps_from;
-        origin = origin;
-        later = r.steps.later;
-        ordered = r.steps.ordered;
-        first = λ arc known some near rise.
-            let at = r.ready.searching.listed (start_of graph arc) (omega (arith, near, rise)) in
-            first arc known some near rise at.0 at.1 at.2 (cases_lt at.0 next);
-      }),
-  record {
-    distance_places = r.ready.searching.places;
-    step_places = r.steps.step_places;
-    short = r.ready.searching.few;
-    within = r.steps.within;
-  },
-)
+-- ---- its end
+
+-- the tree of a search
+abbrev pub branches_tree : Search → (zone : ℕ) → (towards : Bool) → Tree
+branches_tree search zone towards = tree_of (record { distances = search.distances; steps = search.steps }) zone towards
+
+first_steps : (graph : Graph) (room : Arc → ℕ) (from : ℕ) (search : Search) (next : ℕ)
+    → IsReadyFrom graph room from search next → AreFirstSteps graph room search.distances search.steps search.zones search.count
+first_steps graph room from search next r = record {
+  steps_from = r.steps.steps_from;
+  origin = origin;
+  later = r.steps.later;
+  ordered = r.steps.ordered;
+  first = λ arc known some near rise.
+      let at = r.ready.searching.listed (start_of graph arc) (omega (arith, near, rise)) in
+      first arc known some near rise at.0 at.1 at.2 (cases_lt at.0 next);
+}
   where
     origin : distance_at search.distances (get_or search.zones 0 0) ≡ 0
     origin =
@@ -395,3 +414,32 @@ from_done graph room from search next grid there r past = (
     first arc known some near rise i within at (inr least) =
         let visited = r.visited (end_of graph arc) (omega (arith, rise)) near in
         inl (visited.0, i, omega (arith, visited.1, least), within, visited.2, at)
+
+-- a search that has visited all zones that it has found, or has found all zones, has the distances,
+-- and the tree of one that goes out from its zone tells the best routes
+pub search_found : (graph : Graph) (room : Arc → ℕ) (zone : ℕ) (towards : Bool) (search : Search) (next : ℕ) → IsGrid graph → HasZone graph zone
+    → IsReadyFrom graph (directed_room room (not towards)) zone search next → (search.count ≤ next) ⊎ (zone_count graph ≤ search.count)
+    → IsFound graph room (branches_tree search zone towards)
+search_found graph room zone towards search next grid there r past = record {
+  distances = distances towards done;
+  places = record {
+    distance_places = r.ready.searching.places;
+    step_places = r.steps.step_places;
+    short = r.ready.searching.few;
+    within = r.steps.within;
+  };
+  fresh = fresh towards done (first_steps graph (directed_room room (not towards)) zone search next r);
+}
+  where
+    done : AreDistances graph (directed_room (directed_room room (not towards)) false) zone search.distances
+    done = search_done graph (directed_room (directed_room room (not towards)) false) zone search.distances search.zones search.count next grid r.ready past
+
+    distances : (t : Bool) → AreDistances graph (directed_room (directed_room room (not t)) false) zone search.distances → AreDistances graph (directed_room room t) zone search.distances
+    distances true a = subst (λ r. AreDistances graph r zone search.distances) (λ i. λ arc. room (opposite-twice arc i)) a
+    distances false a = a
+
+    fresh : (t : Bool) → AreDistances graph (directed_room (directed_room room (not t)) false) zone search.distances
+        → AreFirstSteps graph (directed_room room (not t)) search.distances search.steps search.zones search.count
+        → t ≡ false → IsFresh graph room (branches_tree search zone t)
+    fresh true a f e = absurd (true≢false e)
+    fresh false a f e = from_fresh graph room zone search.distances search.steps search.zones search.count grid there a f

@@ -10,4 +10,3 @@ pub mod Rising
 pub mod Shortest
 pub mod Steady
 pub mod Towards
-pub mod TowardsSearch

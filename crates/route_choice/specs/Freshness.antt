@@ -6,7 +6,7 @@ use Rattle.zone_graph.specs.Graph.{Graph, HasZone, IsGraph}
 use Rattle.zone_graph.specs.Pour.{room_after}
 use Rattle.zone_graph.specs.Route.{IsIn, IsRoute, best_route}
 use Rattle.cut_proof.specs.Distance.{AreDistances, directed_room}
-use Rattle.route_choice.specs.Tree.{Tree, told_route}
+use Rattle.route_choice.specs.Tree.{HasPlaces, Tree, told_route}
 
 -- the best route from another zone to a zone (towards), or from the zone to the other one
 abbrev pub directed_route : Graph → (Arc → ℕ) → (zone other : ℕ) → (towards : Bool) → Option (List Arc)
@@ -35,6 +35,13 @@ pub record IsFresh (graph : Graph) (room : Arc → ℕ) (tree : Tree) : Type 0 w
   pub there : HasZone graph tree.zone
   pub distances : AreDistances graph (directed_room room tree.towards) tree.zone tree.distances
   pub routes : (other : ℕ) → told_route tree other ≡ searched_route graph room tree other
+
+-- a tree has its places and the distances over these rooms, and where it is one of routes from its
+-- zone it tells the best ones
+pub record IsFound (graph : Graph) (room : Arc → ℕ) (tree : Tree) : Type 0 where
+  pub distances : AreDistances graph (directed_room room tree.towards) tree.zone tree.distances
+  pub places : HasPlaces tree
+  pub fresh : tree.towards ≡ false → IsFresh graph room tree
 
 -- over these rooms no route leads between a zone to which a tree tells none and that of the tree
 abbrev pub Excludes : Graph → (Arc → ℕ) → Tree → Type 0

@@ -1,5 +1,5 @@
 -- How a search for the routes of a tree goes on, arc by arc.
-use Rattle.std.specs.Prelude.{ℕ, ◌+◌, ◌<◌, Bool, false, ◌==◌, ◌&&◌, List, length, Option, Some, None, find, is_none, nat_lt, replicate, slice_index_or, slice_set, if◌then◌else◌}
+use Rattle.std.specs.Prelude.{◌≡◌, ℕ, ◌+◌, ◌<◌, Bool, false, ◌==◌, ◌&&◌, List, length, Option, Some, None, find, is_none, nat_lt, replicate, slice_index_or, slice_set, if◌then◌else◌}
 use Rattle.zone_graph.specs.declared.route.Arc.{Arc}
 use Rattle.zone_graph.specs.declared.grid.Neighbour.{Neighbour}
 use Rattle.zone_graph.specs.Graph.{Graph}
@@ -50,13 +50,23 @@ abbrev pub first_met : (has_room : Bool) → Search → (zone distance : ℕ) �
 first_met has_room search zone distance step =
     if is_none (slice_index_or search.distances zone None) && has_room then found search zone distance step else search
 
--- a neighbour is so many arcs far and can be gone to
-abbrev pub leads_at : (Arc → ℕ) → List (Option ℕ) → (arcs : ℕ) → Neighbour → Bool
-leads_at room distances arcs neighbour = (distance_at distances neighbour.zone == arcs) && nat_lt 0 (room neighbour.arc)
+-- a neighbour is one arc less far and can be gone to
+abbrev pub leads_nearer : (Arc → ℕ) → List (Option ℕ) → (far : ℕ) → Neighbour → Bool
+leads_nearer room distances far neighbour = (distance_at distances neighbour.zone + 1 == far) && nat_lt 0 (room neighbour.arc)
 
--- of the steps from a zone to those so many arcs far the one over the least border, if there is one
-abbrev pub least_step : Graph → (Arc → ℕ) → List (Option ℕ) → (arcs zone : ℕ) → Option Neighbour
-least_step graph room distances arcs zone = find (leads_at room distances arcs) (neighbours_of graph zone)
+-- of the steps from a zone to nearer ones the one over the least border, if there is one
+abbrev pub least_step : Graph → (Arc → ℕ) → List (Option ℕ) → (zone : ℕ) → Option Neighbour
+least_step graph room distances zone = find (leads_nearer room distances (distance_at distances zone)) (neighbours_of graph zone)
+
+-- the first so many zones have these steps, where there is one
+pub record AreTaken (graph : Graph) (room : Arc → ℕ) (distances : List (Option ℕ)) (steps : List Neighbour) (count : ℕ) : Type 0 where
+  pub places : length steps ≡ 64
+  pub within : (zone : ℕ) → (step_at steps zone).zone < 64
+  pub taken : (zone : ℕ) (step : Neighbour) → zone < count → least_step graph room distances zone ≡ Some step → step_at steps zone ≡ step
+
+-- no zone is as far as there may be zones
+abbrev pub AreShort : List (Option ℕ) → Type 0
+AreShort distances = (zone arcs : ℕ) → slice_index_or distances zone None ≡ Some arcs → arcs < 64
 
 -- neighbours are over borders that have rooms, and their zones have places for a distance
 abbrev pub AreKnown : List (ℕ × ℕ) → List (Option ℕ) → List Neighbour → Type 0

@@ -1,12 +1,12 @@
 //! The search that a tree of routes is made by.
 
-ghost use Rattle.std.specs.Prelude.{◌≡◌, ◌<◌, ◌+◌, ◌==◌, ℕ, None, IsSome, IsTrue, true, false, find, length, replicate, slice_index_or, slice_set, unwrap_or};
-ghost use Rattle.std.specs.Option.{option_copied};
-ghost use Rattle.zone_graph.specs.Graph.{HasZone, border_count};
+ghost use Rattle.std.specs.Prelude.{◌≡◌, ◌<◌, ◌+◌, ◌==◌, ℕ, None, IfSome, find, length, not, replicate, slice_index_or, slice_set};
+ghost use Rattle.zone_graph.specs.Graph.{HasZone, border_count, zone_count};
+ghost use Rattle.zone_graph.specs.Grid.{IsGrid};
 ghost use Rattle.zone_graph.specs.Rooms.{room_of};
-ghost use Rattle.cut_proof.specs.Distance.{arcs_of_distance};
-ghost use Rattle.route_choice.specs.Freshness.{IsFresh, has_room};
-ghost use Rattle.route_choice.specs.Search.{AreKnown, first_met, leads_at, least_step, no_step, search_over, step_at};
+ghost use Rattle.cut_proof.specs.Distance.{arcs_of_distance, directed_room};
+ghost use Rattle.route_choice.specs.Freshness.{IsFound, IsFresh, has_room};
+ghost use Rattle.route_choice.specs.Search.{AreKnown, AreShort, AreTaken, first_met, leads_nearer, no_step, search_over, step_at};
 ghost use Rattle.route_choice.specs.Tree.{HasPlaces, tree_of};
 
 use cut_proof::Distances;
@@ -76,62 +76,71 @@ impl Branches {
         ensures fresh { IsFresh grid.now (room_of rooms.now) (tree_of self.new zone towards) }
         ensures places { HasPlaces (tree_of self.new zone towards) }
     {
+        self.find_zones(grid, rooms, zone, towards);
         if towards {
-            search_towards(grid, rooms, zone, self);
-        } else {
-            search_from(grid, rooms, zone, self);
+            self.take_least_steps(grid, rooms);
         }
     }
 
-    // Meets a zone, so many arcs far over a step: adds it if it was not found before.
-    fn meet_first(
-        &mut self,
-        queue: &mut Queue,
-        rooms: &Rooms,
-        zone: u32,
-        distance: u32,
-        step: Neighbour,
-    )
-        requires border { step.arc.border < length rooms.now }
+    // Finds the zones from which a route leads to a zone (`towards`), or to which one leads from it: each
+    // zone's step is the one over which it is found first. It ends when all zones of the grid are found.
+    fn find_zones(&mut self, grid: &Grid, rooms: &Rooms, zone: u32, towards: bool)
+        requires zone { HasZone grid.now zone }
+        requires size { length rooms.now ≡ border_count grid.now }
+        requires none { self.old.distances ≡ replicate 64 None }
+        requires within { (zone : ℕ) → (step_at self.old.steps zone).zone < 64 }
+        ensures { IsFound grid.now (room_of rooms.now) (tree_of self.new zone towards) }
+    {
+        let zones = grid.zones();
+        prove!(zone < zones);
+        let mut queue = Queue::new(zone);
+        self.distances[zone as usize] = Some(0);
+        let mut next = 0;
+        while next < queue.count && queue.count < zones as usize {
+            let visited = queue.zones[next];
+            let distance = self.distance(visited).unwrap() + 1;
+            for neighbour in grid.neighbours(visited) {
+                let has_room = has_room_over(rooms, neighbour.arc, towards);
+                let step = Neighbour {
+                    arc: neighbour.arc,
+                    zone: visited,
+                };
+                self.meet(&mut queue, has_room, neighbour.zone, distance, step);
+            }
+            next += 1;
+        }
+    }
+
+    // Meets a zone, so many arcs far over a step: adds it if it was not found before and there is room.
+    fn meet(&mut self, queue: &mut Queue, has_room: bool, zone: u32, distance: u32, step: Neighbour)
         requires zone { zone < 64 }
         requires place { slice_index_or self.old.distances zone None ≡ None → queue.old.count < 64 }
-        ensures { search_over self.new queue.new ≡ first_met (has_room (room_of rooms.now) step.arc) (search_over self.old queue.old) zone distance step }
+        ensures { search_over self.new queue.new ≡ first_met has_room (search_over self.old queue.old) zone distance step }
     {
         let place = zone as usize;
-        if self.distances[place].is_none() && rooms.at(step.arc) > 0 {
+        if self.distances[place].is_none() && has_room {
             self.distances[place] = Some(distance);
             self.steps[place] = step;
             queue.add(zone);
         }
     }
 
-    // Meets a zone, from which an arc leads to one that is so many arcs far: adds it if it was not
-    // found before, with the step over the least border of those to zones as far.
-    fn meet_least(
-        &mut self,
-        queue: &mut Queue,
-        grid: &Grid,
-        rooms: &Rooms,
-        zone: u32,
-        arcs: u32,
-        arc: Arc,
-    )
-        requires border { arc.border < length rooms.now }
-        requires zone { HasZone grid.now zone }
+    // Takes for each zone the step over the least border that leads to a nearer one, if there is one.
+    fn take_least_steps(&mut self, grid: &Grid, rooms: &Rooms)
         requires size { length rooms.now ≡ border_count grid.now }
-        requires short { arcs < 64 }
-        requires place { slice_index_or self.old.distances zone None ≡ None → queue.old.count < 64 }
-        requires some { IsTrue (has_room (room_of rooms.now) arc) → IsSome (least_step grid.now (room_of rooms.now) self.old.distances arcs zone) }
-        ensures { search_over self.new queue.new ≡ first_met (has_room (room_of rooms.now) arc) (search_over self.old queue.old) zone (arcs + 1) (unwrap_or (least_step grid.now (room_of rooms.now) self.old.distances arcs zone) no_step) }
+        requires short { AreShort self.old.distances }
+        requires places { length self.old.steps ≡ 64 }
+        requires within { (zone : ℕ) → (step_at self.old.steps zone).zone < 64 }
+        ensures distances { self.new.distances ≡ self.old.distances }
+        ensures taken { AreTaken grid.now (room_of rooms.now) self.new.distances self.new.steps (zone_count grid.now) }
+        ensures grid { IsGrid grid.now }
     {
         let zones = grid.zones();
-        prove!(zone < zones);
-        let place = zone as usize;
-        if self.distances[place].is_none() && rooms.at(arc) > 0 {
-            let least = *first_at(grid.neighbours(zone), rooms, &self.distances, arcs).unwrap();
-            self.distances[place] = Some(arcs + 1);
-            self.steps[place] = least;
-            queue.add(zone);
+        for zone in 0..zones {
+            let place = zone as usize;
+            let far = self.distances[place];
+            let least = first_nearer(grid.neighbours(zone), rooms, &self.distances, far);
+            self.steps[place] = least.unwrap_or(self.steps[place]);
         }
     }
 
@@ -144,87 +153,43 @@ impl Branches {
     }
 }
 
-// The first of neighbours that is so many arcs far and can be gone to.
-fn first_at<'a>(
-    neighbours: &'a [Neighbour],
+// Whether the arc over a neighbour's border by which energy takes the way towards the zone, or from it, has
+// room.
+fn has_room_over(rooms: &Rooms, arc: Arc, towards: bool) -> bool
+    requires { arc.border < length rooms.now }
+    ensures { result ≡ has_room (directed_room (room_of rooms.now) (not towards)) arc }
+{
+    rooms.at(if towards { arc.opposite() } else { arc }) > 0
+}
+
+// The first of neighbours that is one arc less far and can be gone to.
+fn first_nearer(
+    neighbours: &[Neighbour],
     rooms: &Rooms,
     distances: &[Option<u32>],
-    arcs: u32,
-) -> Option<&'a Neighbour>
+    far: Option<u32>,
+) -> Option<Neighbour>
     requires known { AreKnown rooms.now distances.now neighbours.now }
-    requires short { arcs < 64 }
-    ensures { option_copied result ≡ find (leads_at (room_of rooms.now) distances.now arcs) neighbours.now }
+    requires distances { AreShort distances.now }
+    requires far { IfSome far (λ arcs. arcs < 64) }
+    ensures { result ≡ find (leads_nearer (room_of rooms.now) distances.now (arcs_of_distance far)) neighbours.now }
 {
     for neighbour in neighbours {
-        if is_at(distances[neighbour.zone as usize], arcs) && rooms.at(neighbour.arc) > 0 {
-            return Some(neighbour);
+        if is_one_less(distances[neighbour.zone as usize], far) && rooms.at(neighbour.arc) > 0 {
+            return Some(*neighbour);
         }
     }
     None
 }
 
-// Whether a zone is so many arcs far.
-fn is_at(found: Option<u32>, arcs: u32) -> bool
-    requires { arcs < 64 }
-    ensures { result ≡ (arcs_of_distance found == arcs) }
+// Whether a zone is one arc less far.
+fn is_one_less(found: Option<u32>, far: Option<u32>) -> bool
+    requires found { IfSome found (λ arcs. arcs < 64) }
+    requires far { IfSome far (λ arcs. arcs < 64) }
+    ensures { result ≡ (arcs_of_distance found + 1 == arcs_of_distance far) }
 {
-    match found {
-        Some(far) => far == arcs,
-        None => false,
-    }
-}
-
-// Finds the best routes to a zone: each zone's step is over the least border of those that lead to
-// a nearer one. It ends when all zones of the grid are found.
-fn search_towards(grid: &Grid, rooms: &Rooms, zone: u32, branches: &mut Branches)
-    requires zone { HasZone grid.now zone }
-    requires size { length rooms.now ≡ border_count grid.now }
-    requires none { branches.old.distances ≡ replicate 64 None }
-    requires within { (zone : ℕ) → (step_at branches.old.steps zone).zone < 64 }
-    ensures fresh { IsFresh grid.now (room_of rooms.now) (tree_of branches.new zone true) }
-    ensures places { HasPlaces (tree_of branches.new zone true) }
-{
-    let zones = grid.zones();
-    prove!(zone < zones);
-    let mut queue = Queue::new(zone);
-    branches.distances[zone as usize] = Some(0);
-    let mut next = 0;
-    while next < queue.count && queue.count < zones as usize {
-        let visited = queue.zones[next];
-        let arcs = branches.distance(visited).unwrap();
-        for neighbour in grid.neighbours(visited) {
-            let arc = neighbour.arc.opposite();
-            branches.meet_least(&mut queue, grid, rooms, neighbour.zone, arcs, arc);
-        }
-        next += 1;
-    }
-}
-
-// Finds the best routes from a zone: each zone's step is the one over which it is found first. It
-// ends when all zones of the grid are found.
-fn search_from(grid: &Grid, rooms: &Rooms, zone: u32, branches: &mut Branches)
-    requires zone { HasZone grid.now zone }
-    requires size { length rooms.now ≡ border_count grid.now }
-    requires none { branches.old.distances ≡ replicate 64 None }
-    requires within { (zone : ℕ) → (step_at branches.old.steps zone).zone < 64 }
-    ensures fresh { IsFresh grid.now (room_of rooms.now) (tree_of branches.new zone false) }
-    ensures places { HasPlaces (tree_of branches.new zone false) }
-{
-    let zones = grid.zones();
-    prove!(zone < zones);
-    let mut queue = Queue::new(zone);
-    branches.distances[zone as usize] = Some(0);
-    let mut next = 0;
-    while next < queue.count && queue.count < zones as usize {
-        let visited = queue.zones[next];
-        let distance = branches.distance(visited).unwrap() + 1;
-        for neighbour in grid.neighbours(visited) {
-            let step = Neighbour {
-                arc: neighbour.arc,
-                zone: visited,
-            };
-            branches.meet_first(&mut queue, rooms, neighbour.zone, distance, step);
-        }
-        next += 1;
+    match (found, far) {
+        (Some(nearer), Some(arcs)) => nearer + 1 == arcs,
+        _ => false,
     }
 }

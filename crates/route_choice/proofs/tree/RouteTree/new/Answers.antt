@@ -1,4 +1,4 @@
-use Rattle.route_choice.proofs.TowardsSearch.{within_at_first}
+use Rattle.route_choice.proofs.FromSearch.{within_at_first}
 use Rattle.route_choice.proofs.tree.RouteTree.new.Goals as goal
 
 pub search-requires-clause-within : goal.search-requires-clause-within
