@@ -28,8 +28,8 @@ use Rattle.laws_of_market.proofs.Admitted.{NamesWhatIs, NumbersAreGood, all-pass
 use Rattle.laws_of_market.proofs.Replies.{done-history, kills-peaks, right-within}
 use Rattle.laws_of_market.proofs.Soundness.{block_fault-sound, order_fault-sound}
 use Rattle.laws_of_market.proofs.Admitting.{let_in-refusal, no_entry-rules}
-use Rattle.plain_blocks.specs.Entering.{CanEnterBlock}
-use Rattle.plain_entering.specs.Entering.{CanEnter}
+use Rattle.plain_matching.specs.BlockEntering.{CanEnterBlock}
+use Rattle.plain_market.specs.Entering.{CanEnter}
 
 -- ---- what the commands name
 

@@ -18,7 +18,7 @@ use Rattle.market_model.specs.Sweep.{all_parts, sweeps}
 use Rattle.market_model.specs.WellFormed.{FitAfter, IsMarketSetup, IsLegalOver}
 use Rattle.laws_of_market.proofs.BlockEntries.{MayEnterBlock, enter_block-history}
 use Rattle.laws_of_market.proofs.Growing.{fit-front}
-use Rattle.plain_blocks.specs.Entering.{CanEnterBlock}
+use Rattle.plain_matching.specs.BlockEntering.{CanEnterBlock}
 
 -- the legs of a block with the partner that it finds
 abbrev pub legs_found : Graph → List Event → (caller : ℕ) → BlockOrder → List Event

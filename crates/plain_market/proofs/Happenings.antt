@@ -21,7 +21,7 @@ use Rattle.market_model.specs.WellFormed.{FitAfter, Fits, IsHistory, IsMarketSet
 use Rattle.market_model.specs.LetIn.{IsNoEntry}
 use Rattle.laws_of_market.proofs.BlockEntries.{deals-history}
 use Rattle.laws_of_market.proofs.Growing.{fit-back, fit-front}
-use Rattle.plain_blocks.specs.Entering.{IsHistoryOver}
+use Rattle.plain_matching.specs.BlockEntering.{IsHistoryOver}
 use Rattle.plain_market.specs.declared.border_events.BorderEvent.{BorderEvent}
 use Rattle.plain_market.specs.Borders.{border_event, grant, halt, offer, resumption}
 

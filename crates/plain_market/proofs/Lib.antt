@@ -1,6 +1,13 @@
 pub mod Admitting
+pub mod Baskets
 pub mod BlockEntries
 pub mod Closings
 pub mod Empty
+pub mod Fitting
 pub mod Growing
 pub mod Happenings
+pub mod Hours
+pub mod Judged
+pub mod Made
+pub mod Parts
+pub mod Reach

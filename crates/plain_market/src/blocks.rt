@@ -6,14 +6,13 @@ ghost use Rattle.market_model.specs.Blocks as market;
 ghost use Rattle.market_model.specs.History.{entered_count};
 ghost use Rattle.market_model.specs.Refusals.{block_desk_refusal, has_desk_room as has_room};
 ghost use Rattle.market_model.specs.Sweep.{all_parts};
-ghost use Rattle.plain_blocks.specs.Entering.{CanEnterBlock};
+ghost use Rattle.plain_matching.specs.BlockEntering.{CanEnterBlock};
 ghost use Rattle.plain_matching.specs.Grown.{Grew};
 ghost use Rattle.plain_orders.specs.Histories.{IsSomeHistory};
 
 use event_history::History;
 use market_model::{BlockOrder, NoMemory, OrderName, Refusal};
-use plain_blocks::take_block;
-use plain_matching::{cut_back, sweeps};
+use plain_matching::{cut_back, sweeps, take_block};
 use plain_orders::{has_desk_room, next_name};
 use std::alloc::Global;
 use zone_graph::Grid;

@@ -5,10 +5,17 @@
 //! Quantities are lots, tenths of a MW; prices are cents per MWh.
 #![tactic(auto)]
 
+mod basket;
 mod blocks;
 mod border_events;
 mod changes;
+mod entering;
+mod filling;
 mod gates;
+mod judging;
+mod local_view;
+mod maker;
 mod replying;
+mod rows;
 
 pub use replying::{reply, reply_and_append};

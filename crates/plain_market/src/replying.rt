@@ -12,15 +12,16 @@ ghost use Rattle.market_model.specs.StateRules.{filling_rules};
 ghost use Rattle.market_model.specs.LetIn.{IsLetIn};
 ghost use Rattle.plain_matching.specs.Grown.{Grew};
 
+use crate::basket::enter_basket;
 use crate::blocks::enter_block;
 use crate::changes::change;
+use crate::entering::enter;
+use crate::local_view::view;
 use event_history::History;
 use market_model::{
     Command, Duplicate, Event, Events, NoMemory, Refusal, Reply, Setup, refuse_early,
 };
-use plain_entering::{enter, enter_basket};
 use plain_refusals::refuse_by_state;
-use plain_view::view;
 use std::alloc::Global;
 use zone_graph::Grid;
 

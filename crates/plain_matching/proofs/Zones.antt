@@ -1,20 +1,20 @@
 -- The zones of the two orders of a trade, and what is in reach.
-use Rattle.std.proofs.Common.{◌≡◌, ◌∙◌, ℕ, ◌&&◌, Bool, false, List, Some, None, refl, ap}
+use Rattle.std.proofs.Common.{◌≡◌, ◌∙◌, ℕ, ◌&&◌, Bool, false, List, Option, Some, None, refl, ap}
 use Rattle.std.specs.List.{find, list_any}
 use Rattle.order_kinds.specs.declared.order.Order.{Order}
 use Rattle.order_kinds.specs.declared.side.Side.{Side}
 use Rattle.order_kinds.specs.declared.side.Side.TheVariants.{Buy, Sell}
 use Rattle.zone_graph.specs.declared.route.Arc.{Arc}
-use Rattle.zone_graph.specs.Graph.{Graph, HasZone}
+use Rattle.zone_graph.specs.Graph.{Graph, HasZone, IsGraph}
 use Rattle.zone_graph.specs.Reach.{reaches}
 use Rattle.zone_graph.proofs.Finding.{from_find}
 use Rattle.cut_proof.specs.Cut.{reaches_in}
+use Rattle.cut_proof.specs.Distance.{AreDistances, directed_room}
+use Rattle.cut_proof.proofs.Reaching.{distance_tells}
 use Rattle.market_model.specs.Lines.{buyer_zone, can_trade, seller_zone}
 use Rattle.market_model.specs.Orders.{Standing}
 use Rattle.laws_of_market.proofs.Restrict.{find-same}
 use Rattle.laws_of_market.proofs.Replaced.{on}
-use Rattle.plain_routes.specs.declared.reach.ReachedZones.{ReachedZones}
-use Rattle.plain_routes.specs.Reached.{has_zone}
 use Rattle.plain_matching.specs.Over.{AreInZones, crosses_price, is_buy, is_in_reach, partner_in}
 use Rattle.plain_matching.proofs.Places.{find-nothing}
 
@@ -30,12 +30,16 @@ reached-is graph room own other = by own.order.side
     by Sell = refl
 
 -- the first order in reach is the partner
-pub in_reach-partner : (graph : Graph) (room : Arc → ℕ) (zones : ReachedZones) (line : List Standing) (own : Standing)
-    → ((other : ℕ) → HasZone graph other → has_zone zones other ≡ reaches_in graph room other own.order.zone (is_buy own.order.side))
-    → AreInZones graph line → find (is_in_reach zones own) line ≡ partner_in graph room line own
-in_reach-partner graph room zones line own are in_zones =
-    find-same (is_in_reach zones own) (can_trade graph room own) line
-    (λ other i. ap (λ b. crosses_price own other && b) (are other.order.zone (in_zones.each other i) ∙ reached-is graph room own other))
+pub found-partner : (graph : Graph) (room : Arc → ℕ) (distances : List (Option ℕ)) (line : List Standing) (own : Standing) (order : Order) (towards : Bool)
+    → order ≡ own.order → towards ≡ is_buy order.side → IsGraph graph → AreDistances graph (directed_room room towards) order.zone distances
+    → find (is_in_reach distances own) line ≡ partner_in graph room line own
+found-partner graph room distances line own order towards of_order of_side is are =
+    find-same (is_in_reach distances own) (can_trade graph room own) line
+    (λ other i. ap (λ b. crosses_price own other && b) (
+    distance_tells graph room order.zone towards distances other.order.zone is are
+    ∙ ap (λ t. reaches_in graph room other.order.zone order.zone t) of_side
+    ∙ ap (λ (o : Order). reaches_in graph room other.order.zone o.zone (is_buy o.side)) of_order
+    ∙ reached-is graph room own other))
 
 -- there is no partner where no price crosses
 pub no_partner : (graph : Graph) (room : Arc → ℕ) (line : List Standing) (own : Standing) → list_any (crosses_price own) line ≡ false
@@ -43,19 +47,6 @@ pub no_partner : (graph : Graph) (room : Arc → ℕ) (line : List Standing) (ow
 no_partner graph room line own none =
     find-nothing (can_trade graph room own) (crosses_price own) line
     (λ other apart. ap (λ b. b && reaches graph room (seller_zone own other) (buyer_zone own other)) apart) none
-
--- the first order in reach is the partner, as it is sought
-pub found-partner : (graph : Graph) (room : Arc → ℕ) (zones : ReachedZones) (line : List Standing) (own : Standing) (order : Order) (towards : Bool)
-    → order ≡ own.order → towards ≡ is_buy order.side
-    → ((other : ℕ) → HasZone graph other → has_zone zones other ≡ reaches_in graph room other order.zone towards)
-    → AreInZones graph line → find (is_in_reach zones own) line ≡ partner_in graph room line own
-found-partner graph room zones line own order towards of_order of_side are in_zones =
-    in_reach-partner graph room zones line own
-    (λ other known.
-    are other known
-    ∙ ap (λ t. reaches_in graph room other order.zone t) (of_side ∙ ap (λ (o : Order). is_buy o.side) of_order)
-    ∙ ap (λ (o : Order). reaches_in graph room other o.zone (is_buy own.order.side)) of_order)
-    in_zones
 
 -- the zone of a partner in a line is there
 pub partner-known : (graph : Graph) (room : Arc → ℕ) (line : List Standing) (own other : Standing) → AreInZones graph line

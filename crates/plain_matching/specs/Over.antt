@@ -1,5 +1,5 @@
 -- Partners and legs over rooms that are given, and in lines that are given.
-use Rattle.std.specs.Prelude.{◌≡◌, ℕ, Bool, true, false, ◌&&◌, List, Option, Some, None, length, nat_lt, if◌then◌else◌}
+use Rattle.std.specs.Prelude.{◌≡◌, ℕ, Bool, true, false, ◌&&◌, List, Option, Some, None, is_some, length, nat_lt, slice_index_or, if◌then◌else◌}
 use Rattle.std.specs.List.{find, list_any}
 use Rattle.std.specs.Option.{option_map}
 use Rattle.std.specs.Ordering.{is_lt}
@@ -22,9 +22,6 @@ use Rattle.market_model.specs.Orders.{Standing}
 use Rattle.market_model.specs.Room.{room}
 use Rattle.market_model.specs.Sweep.{first_answer, leg_in}
 use Rattle.market_model.specs.Taking.{leg_over, trade, ◌>>=◌}
-use Rattle.plain_routes.specs.declared.reach.ReachedZones.{ReachedZones}
-use Rattle.plain_routes.specs.Reached.{has_zone}
-use Rattle.plain_matching.specs.declared.partner.FoundPartner.{FoundPartner}
 
 -- these are the rooms of a graph's arcs for a contract after some events
 pub record AreRoomsFor (graph : Graph) (events : List Event) (contract : Contract) (made : List (ℕ × ℕ)) : Type 0 where
@@ -61,18 +58,14 @@ abbrev pub best_cross : (buy sell : Option Price) → Bool
 best_cross (Some buy) (Some sell) = crosses Buy buy sell
 best_cross _ _ = false
 
--- the prices of two orders cross, and the other one's zone is in a set
-abbrev pub is_in_reach : ReachedZones → (own other : Standing) → Bool
-is_in_reach zones own other = crosses_price own other && has_zone zones other.order.zone
+-- the prices of two orders cross, and the other one's zone has a distance
+abbrev pub is_in_reach : (distances : List (Option ℕ)) → (own other : Standing) → Bool
+is_in_reach distances own other = crosses_price own other && is_some (slice_index_or distances other.order.zone None)
 
 -- the side of an order is buy
 abbrev pub is_buy : Side → Bool
 is_buy Buy = true
 is_buy Sell = false
-
--- the order of a partner that was found, if one was
-abbrev pub order_of : Option FoundPartner → Option Standing
-order_of found = option_map (λ partner. partner.order) found
 
 -- the partner of an order in a line, over rooms
 abbrev pub partner_in : Graph → (Arc → ℕ) → List Standing → (own : Standing) → Option Standing

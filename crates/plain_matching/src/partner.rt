@@ -1,23 +1,16 @@
 //! The partner of an order in a line of the order book.
 
-ghost use Rattle.std.specs.Prelude.{◌≡◌, IfSome, length};
+ghost use Rattle.std.specs.Prelude.{◌≡◌, length};
 ghost use Rattle.std.specs.List.{find};
 ghost use Rattle.zone_graph.specs.Graph.{HasZone, border_count};
 ghost use Rattle.zone_graph.specs.Rooms.{room_of};
-ghost use Rattle.plain_routes.specs.Reached.{IsFoundIn};
 ghost use Rattle.plain_matching.specs.Over as over;
 
+use crate::routes::is_reached;
+use cut_proof::distances;
 use market_model::{Price, Side};
 use plain_orders::StandingOrder;
-use plain_routes::{ReachedZones, reached};
 use zone_graph::{Grid, Rooms};
-
-/// The partner of an order, and the zones in reach among which it was found.
-#[derive(Clone, Copy, Debug)]
-pub(crate) struct FoundPartner {
-    pub(crate) order: StandingOrder,
-    pub(crate) zones: ReachedZones,
-}
 
 /// The partner of an order: the first of a line of the other side whose price crosses and to which a
 /// route over arcs with room leads, from the seller to the buyer. The rooms are those of the order's
@@ -27,21 +20,16 @@ pub(crate) fn partner(
     rooms: &Rooms,
     line: &[StandingOrder],
     own: &StandingOrder,
-) -> Option<FoundPartner>
+) -> Option<StandingOrder>
     requires size { length rooms.now ≡ border_count grid.now }
-    requires line { over.AreInZones grid.now line.now }
     requires own { HasZone grid.now own.now.order.zone }
-    ensures order { over.order_of result ≡ over.partner_in grid.now (room_of rooms.now) line.now own.now }
-    ensures zones { IfSome result (λ partner. IsFoundIn grid.now (room_of rooms.now) partner.zones) }
+    ensures { result ≡ over.partner_in grid.now (room_of rooms.now) line.now own.now }
 {
     let order = own.order();
     let count = grid.zones();
     prove!(order.zone < count);
-    let zones = reached(grid, rooms, order.zone, is_buy(order.side));
-    match first_in_reach(&zones, line, own) {
-        Some(order) => Some(FoundPartner { order, zones }),
-        None => None,
-    }
+    let distances = distances(grid, rooms, order.zone, is_buy(order.side));
+    first_in_reach(&distances, line, own)
 }
 
 // Whether an order is a buy.
@@ -71,27 +59,27 @@ pub(crate) fn best_cross(buy: Option<Price>, sell: Option<Price>) -> bool
     }
 }
 
-// The first order of the line whose price crosses and whose zone is in the set.
+// The first order of the line whose price crosses and whose zone has a distance.
 fn first_in_reach(
-    zones: &ReachedZones,
+    distances: &[Option<u32>],
     line: &[StandingOrder],
     own: &StandingOrder,
 ) -> Option<StandingOrder>
-    ensures { result ≡ find (over.is_in_reach zones.now own.now) line.now }
+    ensures { result ≡ find (over.is_in_reach distances.now own.now) line.now }
 {
     for other in line {
-        if is_in_reach(zones, own, other) {
+        if is_in_reach(distances, own, other) {
             return Some(*other);
         }
     }
     None
 }
 
-// Whether the prices of two orders cross and the other one's zone is in the set.
-fn is_in_reach(zones: &ReachedZones, own: &StandingOrder, other: &StandingOrder) -> bool
-    ensures { result ≡ over.is_in_reach zones.now own.now other.now }
+// Whether the prices of two orders cross and the other one's zone has a distance.
+fn is_in_reach(distances: &[Option<u32>], own: &StandingOrder, other: &StandingOrder) -> bool
+    ensures { result ≡ over.is_in_reach distances.now own.now other.now }
 {
-    crosses_price(own, other) && zones.contains(other.order().zone)
+    crosses_price(own, other) && is_reached(distances, other.order().zone)
 }
 
 // Whether the prices of two orders cross.

@@ -80,13 +80,9 @@ pub fn sweeps(
     Ok(())
 }
 
-/// The next leg of an hour's sweep: in the first of the hour, its halves and its quarters in which a
-/// buy has a partner, that of the first such buy in priority.
-///
-/// # Errors
-///
-/// [`NoMemory`], where there is no memory for the orders, the lines, the rooms or the route.
-pub fn sweep_leg(
+// The next leg of an hour's sweep: in the first of the hour, its halves and its quarters in which a
+// buy has a partner, that of the first such buy in priority.
+fn sweep_leg(
     alloc: Global,
     grid: &Grid,
     events: &History,
@@ -235,7 +231,7 @@ fn leg_of_buy(
         return Ok(None);
     }
     match partner(grid, rooms, sells, buy) {
-        Some(partner) => resting_trade(alloc, grid, rooms, &partner.zones, buy, &partner.order),
+        Some(sell) => resting_trade(alloc, grid, rooms, buy, &sell),
         None => Ok(None),
     }
 }

@@ -52,12 +52,8 @@ pub fn take(
     Ok(())
 }
 
-/// The next leg of the order of this name: with its partner, if it is open and has one.
-///
-/// # Errors
-///
-/// [`NoMemory`], where there is no memory for the orders, the line, the rooms or the route.
-pub fn next_leg(
+// The next leg of the order of this name: with its partner, if it is open and has one.
+fn next_leg(
     alloc: Global,
     grid: &Grid,
     events: &History,
@@ -130,7 +126,7 @@ fn leg_with_partner(
     let line = line(alloc, orders, order.contract, side)?;
     let rooms = contract_rooms_over(alloc, grid, events, capacity, order.contract)?;
     match partner(grid, &rooms, line.as_slice(), own) {
-        Some(partner) => trade(alloc, grid, &rooms, &partner.zones, own, &partner.order),
+        Some(maker) => trade(alloc, grid, &rooms, own, &maker),
         None => Ok(None),
     }
 }

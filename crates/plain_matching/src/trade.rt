@@ -8,19 +8,18 @@ ghost use Rattle.zone_graph.specs.Rooms.{room_of};
 ghost use Rattle.zone_graph.specs.Route.{IsIn};
 ghost use Rattle.market_model.specs.Lines as lines;
 ghost use Rattle.market_model.specs.Taking as taking;
-ghost use Rattle.plain_routes.specs.Reached.{IsFoundIn};
 ghost use Rattle.plain_matching.specs.Over as over;
 
+use crate::routes::best_route;
 use cut_proof::carried;
 use market_model::{Event, Leg, NoMemory, Route, Side};
 use plain_orders::StandingOrder;
-use plain_routes::ReachedZones;
 use std::alloc::Global;
 use std::cmp::Ordering;
 use zone_graph::{Grid, Rooms};
 
 /// The leg of two resting orders of a contract that can trade: the one that was there earlier is the
-/// maker. The rooms are those of the contract, and the zones were found over them.
+/// maker. The rooms are those of the contract.
 ///
 /// # Errors
 ///
@@ -29,20 +28,18 @@ pub(crate) fn resting_trade(
     alloc: Global,
     grid: &Grid,
     rooms: &Rooms,
-    zones: &ReachedZones,
     buy: &StandingOrder,
     sell: &StandingOrder,
 ) -> Result<Option<Event>, NoMemory>
     requires size { length rooms.now ≡ border_count grid.now }
-    requires zones { IsFoundIn grid.now (room_of rooms.now) zones.now }
     requires buy { HasZone grid.now buy.now.order.zone }
     requires sell { HasZone grid.now sell.now.order.zone }
     ensures { IfOk result (λ leg. leg ≡ over.resting_trade_over grid.now (room_of rooms.now) buy.now sell.now) }
 {
     if is_earlier(buy, sell) {
-        trade(alloc, grid, rooms, zones, sell, buy)
+        trade(alloc, grid, rooms, sell, buy)
     } else {
-        trade(alloc, grid, rooms, zones, buy, sell)
+        trade(alloc, grid, rooms, buy, sell)
     }
 }
 
@@ -64,8 +61,7 @@ fn by_time(one: &StandingOrder, other: &StandingOrder) -> Ordering
 
 /// The leg of a taker with a maker of its contract, over the best route from the seller to the buyer:
 /// at the maker's price, for the least of what both show and what the route can carry. `None` exactly
-/// where no route is there. The rooms are those of the contract, and the zones were found over them, so
-/// that the route need not be searched again where their routes lead to the buyer.
+/// where no route is there. The rooms are those of the contract.
 ///
 /// # Errors
 ///
@@ -74,12 +70,10 @@ pub(crate) fn trade(
     alloc: Global,
     grid: &Grid,
     rooms: &Rooms,
-    zones: &ReachedZones,
     taker: &StandingOrder,
     maker: &StandingOrder,
 ) -> Result<Option<Event>, NoMemory>
     requires size { length rooms.now ≡ border_count grid.now }
-    requires zones { IsFoundIn grid.now (room_of rooms.now) zones.now }
     requires taker { HasZone grid.now taker.now.order.zone }
     requires maker { HasZone grid.now maker.now.order.zone }
     ensures { IfOk result (λ leg. leg ≡ over.trade_over grid.now (room_of rooms.now) taker.now maker.now) }
@@ -88,7 +82,7 @@ pub(crate) fn trade(
     let seller = seller_zone(taker, maker);
     let buyer = buyer_zone(taker, maker);
     prove!(seller < count);
-    match zones.best_route(alloc, grid, rooms, seller, buyer)? {
+    match best_route(alloc, grid, rooms, seller, buyer)? {
         Some(route) => Ok(Some(leg_over(rooms, taker, maker, route))),
         None => Ok(None),
     }

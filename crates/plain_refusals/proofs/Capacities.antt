@@ -1,5 +1,5 @@
 -- What the capacity of an hour says of offers and requests, and what the events say of them.
-use Rattle.std.proofs.Common.{◌≡◌, ℕ, suc, zero, ◌+◌, ◌<◌, ◌≤◌, Bool, true, false, List, ◌∷◌, cond, filter, map, nat_le, not, Option, Some, None, pos, int_lt, ◌≤ℤ◌, refl, sym, ap, ap₂, subst, arith}
+use Rattle.std.proofs.Common.{◌≡◌, ◌∙◌, ℕ, suc, zero, ◌+◌, ◌<◌, ◌≤◌, Bool, true, false, List, ◌∷◌, cond, filter, map, nat_le, not, Option, Some, None, pos, int_lt, ◌≤ℤ◌, refl, sym, ap, ap₂, subst, arith}
 use Rattle.std.proofs.lemmas.Int.{ints}
 use Rattle.std.specs.List.{range_with_len}
 use Rattle.std.specs.Option.{option_and_then, option_map}
@@ -18,6 +18,7 @@ use Rattle.market_model.specs.Capacity.{allocated, offered}
 use Rattle.market_model.specs.Refusals.{below_flow, no_room, offer_refusal, request_refusal}
 use Rattle.market_model.specs.Room.{lots_of}
 use Rattle.market_model.specs.Rules.{unless}
+use Rattle.market_model.specs.StateRules.{capacity_refusal}
 use Rattle.market_model.specs.Sweep.{first_answer, or_else}
 use Rattle.market_model.specs.WellFormed.{IsLegalOver}
 use Rattle.market_model.specs.declared.asked.Asked.{Asked}
@@ -25,7 +26,9 @@ use Rattle.market_model.specs.Asked.{first_in_hour, is_asked}
 use Rattle.laws_of_market.proofs.Uses.{within_offers}
 use Rattle.plain_capacity.specs.Hour.{Capacity, IsCapacityOf}
 use Rattle.plain_capacity.proofs.RoomLemmas.{room-is}
-use Rattle.plain_refusals.specs.Asked.{FlowsAtMost, asked_between, below_flow_at, first_below_flow, first_no_room, no_room_at}
+use Rattle.plain_refusals.specs.declared.capacity.Rule.{Rule}
+use Rattle.plain_refusals.specs.declared.capacity.Rule.TheVariants.{Offer, Request}
+use Rattle.plain_refusals.specs.Asked.{FlowsAtMost, asked_between, first_refusal, refusal_at, refusal_by}
 
 -- ---- the same answers in each quarter
 
@@ -65,15 +68,17 @@ module _ (graph : Graph) (events : List Event) (hour : ℕ) (capacity : Capacity
       (within.covered quarter asked.arc) (within.most quarter asked.arc))
 
   -- the capacity says what the events say
-  pub below_flow-is : first_in_hour (below_flow_at capacity asked) asked hour ≡ first_in_hour (below_flow events asked.arc asked.lots) asked hour
-  below_flow-is = same-in_hour (below_flow_at capacity asked) (below_flow events asked.arc asked.lots) asked hour (λ number first last.
+  pub refusals-same : (rule : Rule) → HasArc graph asked.arc → first_in_hour (refusal_at rule capacity asked) asked hour ≡ first_in_hour (refusal_by rule events asked) asked hour
+  refusals-same Offer known = same-in_hour (refusal_at Offer capacity asked) (refusal_by Offer events asked) asked hour (λ number first last.
       ap (λ z. unless (not (int_lt (pos asked.lots) z)) (refusal.BelowFlow (quarter_of hour number) (lots_of z))) ((is.quarters number first last).flows asked.arc))
-
-  pub no_room-is : HasArc graph asked.arc → first_in_hour (no_room_at capacity asked) asked hour ≡ first_in_hour (no_room events asked.arc asked.lots) asked hour
-  no_room-is known = same-in_hour (no_room_at capacity asked) (no_room events asked.arc asked.lots) asked hour (λ number first last.
+  refusals-same Request known = same-in_hour (refusal_at Request capacity asked) (refusal_by Request events asked) asked hour (λ number first last.
       ap (λ (room : ℕ). unless (nat_le asked.lots room) (refusal.NoRoom (quarter_of hour number) room)) (room-is graph events hour capacity is asked.arc known number first last))
 
 -- ---- an offer and a request over the arc between two zones
+
+alone : (o : Option Refusal) → or_else o (λ _. None) ≡ o
+alone None = refl
+alone (Some answer) = refl
 
 module _ (graph : Graph) (events : List Event) (from to : ℕ) (first last : Quarter) (lots : ℕ) (asked : Asked)
     (found : asked_between graph from to first last lots ≡ Some asked) where
@@ -89,10 +94,10 @@ module _ (graph : Graph) (events : List Event) (from to : ℕ) (first last : Qua
           let same : asked ≡ made = cc in
           ap ask same
 
-  pub offer-is : first_below_flow events asked ≡ offer_refusal graph events (command.Offer from to first last lots)
-  unfolding first_below_flow
-  offer-is = over (λ (a : Asked). first_answer (below_flow events a.arc a.lots) (range_quarters a.first a.last))
+  pub offer-is : first_refusal Offer events asked ≡ capacity_refusal graph events (command.Offer from to first last lots)
+  unfolding first_refusal capacity_refusal
+  offer-is = over (λ (a : Asked). first_answer (below_flow events a.arc a.lots) (range_quarters a.first a.last)) ∙ sym (alone (offer_refusal graph events (command.Offer from to first last lots)))
 
-  pub request-is : first_no_room events asked ≡ request_refusal graph events (command.Request from to first last lots)
-  unfolding first_no_room
-  request-is = over (λ (a : Asked). first_answer (no_room events a.arc a.lots) (range_quarters a.first a.last))
+  pub request-is : first_refusal Request events asked ≡ capacity_refusal graph events (command.Request from to first last lots)
+  unfolding first_refusal capacity_refusal
+  request-is = over (λ (a : Asked). first_answer (no_room events a.arc a.lots) (range_quarters a.first a.last)) ∙ sym (alone (request_refusal graph events (command.Request from to first last lots)))

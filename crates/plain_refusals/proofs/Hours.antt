@@ -1,6 +1,6 @@
 -- The first answer of the quarters of a range, hour by hour, and the first hour of a period that passes
 -- a test.
-use Rattle.std.proofs.Common.{◌≡◌, ◌∙◌, ℕ, ◌+◌, ◌-◌, ◌<◌, ◌≤◌, Bool, true, false, filter, flat_map, Option, Some, None, refl, ap}
+use Rattle.std.proofs.Common.{◌≡◌, ◌∙◌, ℕ, ◌+◌, ◌<◌, ◌≤◌, Bool, true, false, filter, flat_map, Option, Some, None, refl, ap}
 use Rattle.std.proofs.lemmas.List.Elements.{filter-append}
 use Rattle.std.specs.List.{find}
 use Rattle.order_kinds.specs.declared.contract.Quarter.{Quarter}

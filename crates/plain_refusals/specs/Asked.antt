@@ -16,6 +16,8 @@ use Rattle.market_model.specs.Rules.{unless}
 use Rattle.market_model.specs.Sweep.{first_answer}
 use Rattle.market_model.specs.declared.asked.Asked.{Asked}
 use Rattle.plain_capacity.specs.Hour.{Capacity, flow_in, room_in}
+use Rattle.plain_refusals.specs.declared.capacity.Rule.{Rule}
+use Rattle.plain_refusals.specs.declared.capacity.Rule.TheVariants.{Offer, Request}
 
 -- what is asked over the arc from a zone to a zone, if there is one
 abbrev pub asked_between : Graph → (from to : ℕ) → (first last : Quarter) → (lots : ℕ) → Option Asked
@@ -26,19 +28,19 @@ asked_between graph from to first last lots =
 abbrev pub FlowsAtMost : (most : ℕ) → Capacity → Arc → Type 0
 FlowsAtMost most capacity arc = EachQuarter (λ number. flow_in capacity number arc ≤ℤ pos most)
 
--- what flows in a quarter of the hour, where that is more than is offered
-abbrev pub below_flow_at : Capacity → Asked → Quarter → Option Refusal
-below_flow_at capacity offer quarter =
-    unless (not (int_lt (pos offer.lots) (flow_in capacity quarter.number offer.arc))) (refusal.BelowFlow quarter (lots_of (flow_in capacity quarter.number offer.arc)))
+-- what flows in a quarter of the hour, where that is more than is offered; the room in it, where that is
+-- less than is asked for
+abbrev pub refusal_at : Rule → Capacity → Asked → Quarter → Option Refusal
+refusal_at Offer capacity asked quarter =
+    unless (not (int_lt (pos asked.lots) (flow_in capacity quarter.number asked.arc))) (refusal.BelowFlow quarter (lots_of (flow_in capacity quarter.number asked.arc)))
+refusal_at Request capacity asked quarter =
+    unless (nat_le asked.lots (room_in capacity asked.arc quarter.number)) (refusal.NoRoom quarter (room_in capacity asked.arc quarter.number))
 
--- the room in a quarter of the hour, where that is less than is asked for
-abbrev pub no_room_at : Capacity → Asked → Quarter → Option Refusal
-no_room_at capacity request quarter =
-    unless (nat_le request.lots (room_in capacity request.arc quarter.number)) (refusal.NoRoom quarter (room_in capacity request.arc quarter.number))
+-- the same by the events
+abbrev pub refusal_by : Rule → List Event → Asked → Quarter → Option Refusal
+refusal_by Offer events asked = below_flow events asked.arc asked.lots
+refusal_by Request events asked = no_room events asked.arc asked.lots
 
--- the first quarter of an offer in which more flows, and of a request in which there is less room
-unfoldable pub first_below_flow : List Event → Asked → Option Refusal
-first_below_flow events offer = first_answer (below_flow events offer.arc offer.lots) (range_quarters offer.first offer.last)
-
-unfoldable pub first_no_room : List Event → Asked → Option Refusal
-first_no_room events request = first_answer (no_room events request.arc request.lots) (range_quarters request.first request.last)
+-- that of the first quarter of a range that breaks a rule
+unfoldable pub first_refusal : Rule → List Event → Asked → Option Refusal
+first_refusal rule events asked = first_answer (refusal_by rule events asked) (range_quarters asked.first asked.last)

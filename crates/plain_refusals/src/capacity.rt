@@ -4,7 +4,7 @@
 ghost use Rattle.std.specs.Prelude.{◌≡◌, ◌≤◌, ◌<◌, IfOk, IfSome};
 ghost use Rattle.quarter_capacity.specs.Capacity.{most_offered};
 ghost use Rattle.zone_graph.specs.Graph.{HasArc};
-ghost use Rattle.market_model.specs.Refusals as refusals;
+ghost use Rattle.market_model.specs.StateRules as state;
 ghost use Rattle.market_model.specs.WellFormed.{IsLegalOver};
 ghost use Rattle.plain_capacity.specs.Hour as hours;
 ghost use Rattle.market_model.specs.Asked as ranges;
@@ -16,15 +16,26 @@ use plain_capacity::{HourCapacity, hour_capacity};
 use std::alloc::Global;
 use zone_graph::Grid;
 
-/// The refusal of an offer that is below what flows in one of its quarters.
-pub(crate) fn refuse_offer(
+// The rule on each quarter of a range.
+#[derive(Clone, Copy, Debug)]
+enum Rule {
+    // An offer is not below what flows.
+    Offer,
+    // A request finds room.
+    Request,
+}
+
+/// The refusal of an offer that is below what flows in one of its quarters, or of a request that does not
+/// find room in one of its.
+#[tactic(auto, unfolding(market_model::specs::StateRules::capacity_refusal))]
+pub(crate) fn refuse_by_capacity(
     alloc: Global,
     grid: &Grid,
     events: &History,
     command: &Command,
 ) -> Result<Option<Refusal>, NoMemory>
     requires { IsLegalOver grid.now events.now }
-    ensures { IfOk result (λ refusal. refusal ≡ refusals.offer_refusal grid.now events.now command.now) }
+    ensures { IfOk result (λ refusal. refusal ≡ state.capacity_refusal grid.now events.now command.now) }
 {
     match command {
         Command::Offer {
@@ -34,24 +45,9 @@ pub(crate) fn refuse_offer(
             last,
             lots,
         } => match asked_between(grid, *from, *to, *first, *last, *lots) {
-            Some(offer) => first_below_flow(alloc, grid, events, &offer),
+            Some(offer) => first_refusal(alloc, grid, events, Rule::Offer, &offer),
             None => Ok(None),
         },
-        _ => Ok(None),
-    }
-}
-
-/// The refusal of a request that does not find room in one of its quarters.
-pub(crate) fn refuse_request(
-    alloc: Global,
-    grid: &Grid,
-    events: &History,
-    command: &Command,
-) -> Result<Option<Refusal>, NoMemory>
-    requires { IsLegalOver grid.now events.now }
-    ensures { IfOk result (λ refusal. refusal ≡ refusals.request_refusal grid.now events.now command.now) }
-{
-    match command {
         Command::Request {
             from,
             to,
@@ -59,7 +55,7 @@ pub(crate) fn refuse_request(
             last,
             lots,
         } => match asked_between(grid, *from, *to, *first, *last, *lots) {
-            Some(request) => first_no_room(alloc, grid, events, &request),
+            Some(request) => first_refusal(alloc, grid, events, Rule::Request, &request),
             None => Ok(None),
         },
         _ => Ok(None),
@@ -87,42 +83,62 @@ fn asked_between(
     })
 }
 
-// The first quarter in which more flows than is offered.
-fn first_below_flow(
+// The first quarter of a range that breaks a rule.
+fn first_refusal(
     alloc: Global,
     grid: &Grid,
     events: &History,
-    offer: &Asked,
+    rule: Rule,
+    asked: &Asked,
 ) -> Result<Option<Refusal>, NoMemory>
     requires legal { IsLegalOver grid.now events.now }
-    requires there { HasArc grid.now offer.now.arc }
-    ensures { IfOk result (λ refusal. refusal ≡ range.first_below_flow events.now offer.now) }
+    requires there { HasArc grid.now asked.now.arc }
+    ensures { IfOk result (λ refusal. refusal ≡ range.first_refusal rule events.now asked.now) }
 {
-    for hour in offer.first.hour..=offer.last.hour {
+    for hour in asked.first.hour..=asked.last.hour {
         let capacity = hour_capacity(alloc, grid, events, hour)?;
-        if let Some(refusal) = below_flow_in(&capacity, hour, offer) {
+        if let Some(refusal) = refusal_in(&capacity, hour, rule, asked) {
             return Ok(Some(refusal));
         }
     }
     Ok(None)
 }
 
-// The first quarter of an hour in which more flows than is offered.
+// The first quarter of an hour that breaks a rule.
 #[tactic(auto, using(crate::proofs::Quarters::answered, crate::proofs::Quarters::not_passed, crate::proofs::Quarters::no_answer, crate::proofs::Quarters::from_first))]
-fn below_flow_in(capacity: &HourCapacity, hour: u32, offer: &Asked) -> Option<Refusal>
-    requires border { offer.now.arc.border < hours.size_of capacity.now }
-    requires most { range.FlowsAtMost most_offered capacity.now offer.now.arc }
-    ensures { result ≡ ranges.first_in_hour (range.below_flow_at capacity.now offer.now) offer.now hour }
+fn refusal_in(capacity: &HourCapacity, hour: u32, rule: Rule, asked: &Asked) -> Option<Refusal>
+    requires border { asked.now.arc.border < hours.size_of capacity.now }
+    requires most { range.FlowsAtMost most_offered capacity.now asked.now.arc }
+    ensures { result ≡ ranges.first_in_hour (range.refusal_at rule capacity.now asked.now) asked.now hour }
 {
     for number in 1..5 {
         let quarter = Quarter { hour, number };
-        if is_asked(offer, quarter) {
-            if let Some(refusal) = below_flow(capacity, offer, quarter) {
+        if is_asked(asked, quarter) {
+            if let Some(refusal) = refusal_at(capacity, rule, asked, quarter) {
                 return Some(refusal);
             }
         }
     }
     None
+}
+
+// The refusal of what is asked, if a quarter breaks a rule.
+fn refusal_at(
+    capacity: &HourCapacity,
+    rule: Rule,
+    asked: &Asked,
+    quarter: Quarter,
+) -> Option<Refusal>
+    requires border { asked.now.arc.border < hours.size_of capacity.now }
+    requires first { 1 ≤ quarter.number }
+    requires last { quarter.number ≤ 4 }
+    requires most { range.FlowsAtMost most_offered capacity.now asked.now.arc }
+    ensures { result ≡ range.refusal_at rule capacity.now asked.now quarter }
+{
+    match rule {
+        Rule::Offer => below_flow(capacity, asked, quarter),
+        Rule::Request => no_room(capacity, asked, quarter),
+    }
 }
 
 // The refusal of an offer in a quarter in which more flows.
@@ -131,7 +147,7 @@ fn below_flow(capacity: &HourCapacity, offer: &Asked, quarter: Quarter) -> Optio
     requires first { 1 ≤ quarter.number }
     requires last { quarter.number ≤ 4 }
     requires most { range.FlowsAtMost most_offered capacity.now offer.now.arc }
-    ensures { result ≡ range.below_flow_at capacity.now offer.now quarter }
+    ensures { result ≡ range.refusal_at Rule.Offer capacity.now offer.now quarter }
 {
     let flow = capacity.flow(offer.arc, quarter.number);
     if i64::from(offer.lots) < flow {
@@ -144,49 +160,12 @@ fn below_flow(capacity: &HourCapacity, offer: &Asked, quarter: Quarter) -> Optio
     }
 }
 
-// The first quarter in which there is less room than is asked for.
-fn first_no_room(
-    alloc: Global,
-    grid: &Grid,
-    events: &History,
-    request: &Asked,
-) -> Result<Option<Refusal>, NoMemory>
-    requires legal { IsLegalOver grid.now events.now }
-    requires there { HasArc grid.now request.now.arc }
-    ensures { IfOk result (λ refusal. refusal ≡ range.first_no_room events.now request.now) }
-{
-    for hour in request.first.hour..=request.last.hour {
-        let capacity = hour_capacity(alloc, grid, events, hour)?;
-        if let Some(refusal) = no_room_in(&capacity, hour, request) {
-            return Ok(Some(refusal));
-        }
-    }
-    Ok(None)
-}
-
-// The first quarter of an hour in which there is less room than is asked for.
-#[tactic(auto, using(crate::proofs::Quarters::answered, crate::proofs::Quarters::not_passed, crate::proofs::Quarters::no_answer, crate::proofs::Quarters::from_first))]
-fn no_room_in(capacity: &HourCapacity, hour: u32, request: &Asked) -> Option<Refusal>
-    requires border { request.now.arc.border < hours.size_of capacity.now }
-    ensures { result ≡ ranges.first_in_hour (range.no_room_at capacity.now request.now) request.now hour }
-{
-    for number in 1..5 {
-        let quarter = Quarter { hour, number };
-        if is_asked(request, quarter) {
-            if let Some(refusal) = no_room(capacity, request, quarter) {
-                return Some(refusal);
-            }
-        }
-    }
-    None
-}
-
 // The refusal of a request in a quarter in which there is less room.
 fn no_room(capacity: &HourCapacity, request: &Asked, quarter: Quarter) -> Option<Refusal>
     requires border { request.now.arc.border < hours.size_of capacity.now }
     requires first { 1 ≤ quarter.number }
     requires last { quarter.number ≤ 4 }
-    ensures { result ≡ range.no_room_at capacity.now request.now quarter }
+    ensures { result ≡ range.refusal_at Rule.Request capacity.now request.now quarter }
 {
     let room = capacity.room(request.arc, quarter.number);
     if request.lots <= room {

@@ -5,7 +5,7 @@ ghost use Rattle.market_model.specs.WellFormed.{IsLegalOver};
 ghost use Rattle.plain_orders.specs.Histories.{IsSomeHistory};
 ghost use Rattle.market_model.specs.StateRules as state;
 
-use crate::capacity::{refuse_offer, refuse_request};
+use crate::capacity::refuse_by_capacity;
 use crate::closing::{refuse_closed, refuse_gate};
 use crate::orders::{refuse_reduction, refuse_unknown};
 use event_history::History;
@@ -50,21 +50,4 @@ fn refuse_by_orders(events: &History, caller: u32, command: &Command) -> Option<
         .or_else(|| refuse_closed(events, command))
         .or_else(|| refuse_gate(events, command))
         .or_else(|| refuse_unknown(events, caller, command))
-}
-
-// The first broken rule on capacity.
-#[tactic(auto, unfolding(market_model::specs::StateRules::capacity_refusal))]
-fn refuse_by_capacity(
-    alloc: Global,
-    grid: &Grid,
-    events: &History,
-    command: &Command,
-) -> Result<Option<Refusal>, NoMemory>
-    requires { IsLegalOver grid.now events.now }
-    ensures { IfOk result (λ refusal. refusal ≡ state.capacity_refusal grid.now events.now command.now) }
-{
-    match refuse_offer(alloc, grid, events, command)? {
-        Some(refusal) => Ok(Some(refusal)),
-        None => refuse_request(alloc, grid, events, command),
-    }
 }

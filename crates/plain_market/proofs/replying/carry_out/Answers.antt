@@ -5,7 +5,7 @@ use Rattle.market_model.specs.Entering.{enter_all}
 use Rattle.market_model.specs.Sweep.{all_parts}
 use Rattle.market_model.specs.Rules.{basket_is_good}
 use Rattle.market_model.specs.LetIn.{IsLetIn}
-use Rattle.plain_entering.specs.Entering.{CanEnter}
+use Rattle.plain_market.specs.Entering.{CanEnter}
 use Rattle.plain_market.proofs.Admitting.{basket-done, basket-enters, basket-good, block-done, block-enters, no_entry-history, order-done, order-enters}
 use Rattle.laws_of_market.proofs.Admitting.{is-no_entry}
 use Rattle.plain_market.proofs.replying.carry_out.Goals as goal

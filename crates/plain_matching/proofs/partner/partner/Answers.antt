@@ -3,14 +3,8 @@ use Rattle.zone_graph.specs.Rooms.{room_of}
 use Rattle.plain_matching.proofs.Zones.{found-partner}
 use Rattle.plain_matching.proofs.partner.partner.Goals as goal
 
-pub returns-in-Some-clause-order : goal.returns-in-Some-clause-order
-returns-in-Some-clause-order c =
-    c.in-Some.ensures
-    ∙ found-partner c.args.grid.now (room_of c.args.rooms.now) c.reached-zones.result c.args.line.now c.args.own.now c.order-order.result c.is_buy.result
-    c.order-order.ensures c.is_buy.ensures c.reached-zones.ensures.zones c.requires.line
-
-pub returns-in-None-clause-order : goal.returns-in-None-clause-order
-returns-in-None-clause-order c =
-    c.in-None.ensures
-    ∙ found-partner c.args.grid.now (room_of c.args.rooms.now) c.reached-zones.result c.args.line.now c.args.own.now c.order-order.result c.is_buy.result
-    c.order-order.ensures c.is_buy.ensures c.reached-zones.ensures.zones c.requires.line
+pub returns : goal.returns
+returns c =
+    c.first_in_reach.ensures
+    ∙ found-partner c.args.grid.now (room_of c.args.rooms.now) c.distances-distances.result c.args.line.now c.args.own.now c.order-order.result c.is_buy.result
+    c.order-order.ensures c.is_buy.ensures c.zones-count.ensures.grid.is_graph c.distances-distances.ensures

@@ -6,7 +6,7 @@ use Rattle.plain_matching.proofs.sweeping.leg_of_buy.Goals as goal
 
 pub resting_trade-requires-clause-sell : goal.resting_trade-requires-clause-sell
 resting_trade-requires-clause-sell c =
-    partner-known c.args.grid.now (room_of c.args.rooms.now) c.args.sells.now c.args.buy.now c.in-Some.partner.order c.requires.sells (sym c.in-Some.ensures.order)
+    partner-known c.args.grid.now (room_of c.args.rooms.now) c.args.sells.now c.args.buy.now c.in-Some.sell c.requires.sells (sym c.in-Some.ensures)
 
 pub returns-then-not-crosses_best : goal.returns-then-not-crosses_best
 returns-then-not-crosses_best c =

@@ -29,18 +29,12 @@ contract_rooms_over-requires-clause-part c =
     subst (λ (o : Order). is_known o.contract.part ≡ true) (sym c.order-order.ensures)
     (own-sound c.args.grid.now c.args.events.now c.args.orders.now c.args.own.now c.requires.legal c.requires.orders c.requires.own).in_part
 
-pub partner-requires-clause-line : goal.partner-requires-clause-line
-partner-requires-clause-line c =
-    (ready c.args.grid.now c.args.events.now c.args.orders.now c.args.own.now c.order-order.result c.opposite-side.result c.in_ok-line.line.items c.as_slice.result.now
-    c.in_ok-rooms.rooms c.requires.legal c.requires.orders c.order-order.ensures c.opposite-side.ensures c.in_ok-line.ensures c.as_slice.ensures.value
-    (record { size = c.in_ok-rooms.ensures.size; rooms = c.in_ok-rooms.ensures.rooms })).in_zones
-
 pub trade-requires-clause-maker : goal.trade-requires-clause-maker
 trade-requires-clause-maker c =
     let r = ready c.args.grid.now c.args.events.now c.args.orders.now c.args.own.now c.order-order.result c.opposite-side.result c.in_ok-line.line.items c.as_slice.result.now
     c.in_ok-rooms.rooms c.requires.legal c.requires.orders c.order-order.ensures c.opposite-side.ensures c.in_ok-line.ensures c.as_slice.ensures.value
     (record { size = c.in_ok-rooms.ensures.size; rooms = c.in_ok-rooms.ensures.rooms }) in
-    partner-known c.args.grid.now (room_of c.in_ok-rooms.rooms) c.as_slice.result.now c.args.own.now c.in-Some.partner.order r.in_zones (sym c.in-Some.ensures.order)
+    partner-known c.args.grid.now (room_of c.in_ok-rooms.rooms) c.as_slice.result.now c.args.own.now c.in-Some.maker r.in_zones (sym c.in-Some.ensures)
 
 pub returns-in-Some-clause-leg : goal.returns-in-Some-clause-leg
 returns-in-Some-clause-leg c =
@@ -48,10 +42,10 @@ returns-in-Some-clause-leg c =
     c.in_ok-rooms.rooms c.requires.legal c.requires.orders c.order-order.ensures c.opposite-side.ensures c.in_ok-line.ensures c.as_slice.ensures.value
     (record { size = c.in_ok-rooms.ensures.size; rooms = c.in_ok-rooms.ensures.rooms }) in
     let found = sym (partner-here c.args.grid.now c.zones-zones.ensures.grid.is_graph c.args.events.now c.args.own.now.order.contract c.in_ok-rooms.rooms r.are
-    c.args.own.now c.as_slice.result.now refl r.line_is) ∙ sym c.in-Some.ensures.order in
+    c.args.own.now c.as_slice.result.now refl r.line_is) ∙ sym c.in-Some.ensures in
     subst (λ v. IfOk c.trade.result (λ leg. leg ≡ v))
     (leg-here c.args.grid.now c.zones-zones.ensures.grid.is_graph c.args.events.now c.args.own.now.order.contract c.in_ok-rooms.rooms r.are
-    c.args.own.now c.in-Some.partner.order refl found) c.trade.ensures
+    c.args.own.now c.in-Some.maker refl found) c.trade.ensures
 
 pub returns-clause-leg : goal.returns-clause-leg
 returns-clause-leg c =
@@ -60,4 +54,4 @@ returns-clause-leg c =
     (record { size = c.in_ok-rooms.ensures.size; rooms = c.in_ok-rooms.ensures.rooms }) in
     no_partner-leg c.args.grid.now c.args.events.now c.args.own.now
     (sym (partner-here c.args.grid.now c.zones-zones.ensures.grid.is_graph c.args.events.now c.args.own.now.order.contract c.in_ok-rooms.rooms r.are
-    c.args.own.now c.as_slice.result.now refl r.line_is) ∙ sym c.in-None.ensures.order)
+    c.args.own.now c.as_slice.result.now refl r.line_is) ∙ sym c.in-None.ensures)

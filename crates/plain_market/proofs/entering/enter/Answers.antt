@@ -1,0 +1,63 @@
+use Rattle.std.proofs.Common.{rules, ◌∙◌, ◌+◌, Ok, length, refl, sym, ap}
+use Rattle.market_model.specs.Sweep.{all_parts}
+use Rattle.plain_matching.specs.Grown.{Grew}
+use Rattle.plain_market.proofs.Fitting.{can-part, can-zone, taken-legal}
+use Rattle.plain_market.proofs.Judged.{order-found}
+use Rattle.plain_market.proofs.Parts.{entered-is, few-in, taken, taken-back, taken-few, taken-grew}
+use Rattle.plain_market.proofs.entering.enter.Goals as goal
+
+pub enter_and_take-requires-clause-few : goal.enter_and_take-requires-clause-few
+enter_and_take-requires-clause-few c = few-in c.args.events.now c.args.order.now.contract.hour c.requires.few
+
+pub refusal_after-requires-clause-start : goal.refusal_after-requires-clause-start
+refusal_after-requires-clause-start c =
+    taken-legal c.args.grid.now c.args.events.now c.args.caller c.args.order.now _ c.enter_and_take.new.events c.in_ok-name.name c.requires.can (taken c.args.grid.now c.args.events.now c.args.caller c.args.order.now c.enter_and_take.new.events c.in_ok-name.name (length c.as_slice-before.result.now)
+    (ap length c.as_slice-before.ensures) c.in_ok-name.ensures.name c.in_ok-name.ensures.ok)
+
+pub refusal_after-requires-clause-few : goal.refusal_after-requires-clause-few
+refusal_after-requires-clause-few c =
+    taken-few c.args.grid.now c.args.events.now c.args.caller c.args.order.now _ c.enter_and_take.new.events c.in_ok-name.name (taken c.args.grid.now c.args.events.now c.args.caller c.args.order.now c.enter_and_take.new.events c.in_ok-name.name (length c.as_slice-before.result.now)
+    (ap length c.as_slice-before.ensures) c.in_ok-name.ensures.name c.in_ok-name.ensures.ok) c.requires.few
+
+pub refusal_after-requires-clause-part : goal.refusal_after-requires-clause-part
+refusal_after-requires-clause-part c = can-part c.args.grid.now c.args.events.now c.args.caller c.args.order.now c.requires.can
+
+pub refusal_after-requires-clause-zone : goal.refusal_after-requires-clause-zone
+refusal_after-requires-clause-zone c = can-zone c.args.grid.now c.args.events.now c.args.caller c.args.order.now c.requires.can
+
+pub returns-in_err-refusal-clause-err : goal.returns-in_err-refusal-clause-err
+returns-in_err-refusal-clause-err c =
+    let grown : Grew c.args.events.now c.refusal_after.new.events =
+    taken-grew c.args.grid.now c.args.events.now c.args.caller c.args.order.now _ c.enter_and_take.new.events c.refusal_after.new.events c.in_ok-name.name
+    (length c.as_slice-before.result.now + 1) refl (taken c.args.grid.now c.args.events.now c.args.caller c.args.order.now c.enter_and_take.new.events c.in_ok-name.name (length c.as_slice-before.result.now)
+    (ap length c.as_slice-before.ensures) c.in_ok-name.ensures.name c.in_ok-name.ensures.ok) c.refusal_after.ensures.cut in
+    search (rules, grown)
+
+pub returns-in-Some-clause-refusal : goal.returns-in-Some-clause-refusal
+returns-in-Some-clause-refusal c =
+    sym c.in-Some.is
+    ∙ order-found c.args.grid.now c.args.events.now c.args.caller c.args.order.now _ c.enter_and_take.new.events c.in_ok-name.name (taken c.args.grid.now c.args.events.now c.args.caller c.args.order.now c.enter_and_take.new.events c.in_ok-name.name (length c.as_slice-before.result.now)
+    (ap length c.as_slice-before.ensures) c.in_ok-name.ensures.name c.in_ok-name.ensures.ok)
+    c.in_ok-refusal.field-0 c.in_ok-refusal.ensures.refusal
+
+pub returns-in-Some-clause-kept : goal.returns-in-Some-clause-kept
+returns-in-Some-clause-kept c = λ _ _.
+    c.cut_back.ensures
+    ∙ taken-back c.args.grid.now c.args.events.now c.args.caller c.args.order.now c.enter_and_take.new.events c.refusal_after.new.events c.in_ok-name.name
+    (length c.as_slice-before.result.now) (ap length c.as_slice-before.ensures) (taken c.args.grid.now c.args.events.now c.args.caller c.args.order.now c.enter_and_take.new.events c.in_ok-name.name (length c.as_slice-before.result.now)
+    (ap length c.as_slice-before.ensures) c.in_ok-name.ensures.name c.in_ok-name.ensures.ok) c.refusal_after.ensures.cut
+
+pub returns-clause-refusal : goal.returns-clause-refusal
+returns-clause-refusal c =
+    sym c.in-None.is
+    ∙ order-found c.args.grid.now c.args.events.now c.args.caller c.args.order.now _ c.enter_and_take.new.events c.in_ok-name.name (taken c.args.grid.now c.args.events.now c.args.caller c.args.order.now c.enter_and_take.new.events c.in_ok-name.name (length c.as_slice-before.result.now)
+    (ap length c.as_slice-before.ensures) c.in_ok-name.ensures.name c.in_ok-name.ensures.ok)
+    c.in_ok-refusal.field-0 c.in_ok-refusal.ensures.refusal
+
+pub returns-clause-entered : goal.returns-clause-entered
+returns-clause-entered c =
+    λ _. entered-is all_parts c.args.grid.now c.args.events.now c.refusal_after.new.events c.finish.new.events c.args.caller c.args.order.now c.in_ok-name.name
+    (c.in_ok-refusal.ensures.kept (ap Ok c.in-None.is) ∙ c.in_ok-name.ensures.ok) c.in_ok-name.ensures.name c.in_ok-finish-in-None.ensures.ok
+
+pub enter_and_take-requires-clause-summed : goal.enter_and_take-requires-clause-summed
+enter_and_take-requires-clause-summed c = c.none-sums.ensures c.args.grid.now c.args.events.now c.args.order.now.contract.hour

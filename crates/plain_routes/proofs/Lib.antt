@@ -1,4 +1,0 @@
-pub mod Onward
-pub mod Passes
-pub mod Spreads
-pub mod Steps
