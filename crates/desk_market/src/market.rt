@@ -21,7 +21,6 @@ use zone_graph::{Grid, NoMemory};
 /// A market that is held by one thread: contracts see its setup, and the entries so far, a legal journal.
 ///
 /// It keeps a desk for each hour of the delivery day, so that a command costs what its own hours need.
-#[derive(Drop)]
 pub struct DeskMarket {
     grid: Grid,
     desks: DayDesks,
@@ -38,6 +37,18 @@ impl Model for DeskMarket {
     ghost view = { λ market. market.journal };
 
     ghost invariant = { λ market. IsMarket market.grid market.journal.setup market.journal.entries market.desks.desks market.given };
+}
+
+// Written out: a crate that drops one need not know what it is made of.
+impl Drop for DeskMarket {
+    fn drop(self) {
+        let DeskMarket {
+            grid: _,
+            desks: _,
+            journal: _,
+            given: _,
+        } = self;
+    }
 }
 
 impl DeskMarket {
@@ -99,7 +110,13 @@ impl DeskMarket {
     pub fn into_journal(self) -> Journal
         ensures { result ≡ self }
     {
-        self.journal
+        let DeskMarket {
+            grid: _,
+            desks: _,
+            journal,
+            given: _,
+        } = self;
+        journal
     }
 
     /// What the market replies to a caller's command, which is not given yet: nothing changes.

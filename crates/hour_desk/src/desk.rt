@@ -31,7 +31,6 @@ use zone_graph::{Arc, Grid, NoMemory, Rooms};
 /// something is planned, these with the planned ones behind them.
 ///
 /// Parts of the hour have numbers: 0 is the hour, 1 to 4 are its quarters, 5 and 6 its halves.
-#[derive(Drop)]
 pub struct HourDesk {
     pub(crate) alloc: Global,
     pub(crate) kept: KeptHour,
@@ -48,6 +47,18 @@ impl Model for HourDesk {
     ghost view = { λ desk. desk_of desk.kept desk.is_planned };
 
     ghost invariant = { λ desk. IsInside desk.kept desk.views desk.is_planned };
+}
+
+// Written out: a crate that drops one need not know what it is made of.
+impl Drop for HourDesk {
+    fn drop(self) {
+        let HourDesk {
+            alloc: _,
+            kept: _,
+            views: _,
+            is_planned: _,
+        } = self;
+    }
 }
 
 impl HourDesk {

@@ -24,7 +24,6 @@ use std::mem;
 
 /// The front of the journal: a word that counts the journal's entries. Contracts see which front it is,
 /// and its setup.
-#[derive(Drop)]
 pub struct Front {
     table: Table<u8, View, Setup, JournalRule, Global>,
 }
@@ -38,6 +37,13 @@ impl Model for Front {
     ghost view = { λ front. record { id = front.table.shared.table_id; setup = front.table.shared.key } };
 
     ghost invariant = { λ front. front.table.shared.table_id.words ≡ 1 };
+}
+
+// Written out: a crate that drops one need not know what it is made of.
+impl Drop for Front {
+    fn drop(self) {
+        let Front { table: _ } = self;
+    }
 }
 
 impl Front {

@@ -35,7 +35,6 @@ impl Model for JournalSeat {
 /// no entry that touches the hour.
 ///
 /// While a commit is made the seat is away, joined into the journal's.
-#[derive(Drop)]
 pub struct DeskSeat {
     hour: u32,
     badge: Badge<View>,
@@ -50,6 +49,13 @@ impl Model for DeskSeat {
     ghost view = { λ seat. desk_state seat.badge.table_id seat.hour seat.badge.views };
 
     ghost invariant = { λ seat. IsDeskPlace seat.hour seat.badge.views };
+}
+
+// Written out: a crate that drops one need not know what it is made of.
+impl Drop for DeskSeat {
+    fn drop(self) {
+        let DeskSeat { hour: _, badge: _ } = self;
+    }
 }
 
 /// The seats of the desks, by ascending hour.

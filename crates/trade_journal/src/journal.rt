@@ -13,7 +13,6 @@ use std::marker::Model;
 /// Each reply is the market's after the entries before it, each entry is of a caller of the setup,
 /// and no caller has more entries than its room. The room for all entries is there from the start:
 /// no call but [`Journal::new`] takes memory.
-#[derive(Drop)]
 pub struct Journal {
     setup: Setup,
     entries: Vec<Entry>,
@@ -29,6 +28,16 @@ impl Model for Journal {
     ghost view = { λ a. record { setup = a.setup; entries = a.entries.items } };
 
     ghost invariant = { λ a. IsInside a.setup a.entries.items (vec_capacity a.entries) };
+}
+
+// Written out: a crate that drops one need not know what it is made of.
+impl Drop for Journal {
+    fn drop(self) {
+        let Journal {
+            setup: _,
+            entries: _,
+        } = self;
+    }
 }
 
 impl Journal {

@@ -16,7 +16,6 @@ use std::marker::Model;
 /// Contracts see which front it is of and the setup, the caller, the entries that the pass has seen,
 /// which are a beginning of the journal, those of them that are the caller's own, and the greatest
 /// number of entries that the pass was told.
-#[derive(Drop)]
 pub struct Pass {
     seat: PassSeat,
 }
@@ -27,6 +26,13 @@ impl Model for Pass {
     ghost Value = { PassState };
 
     ghost view = { λ pass. pass_of_seat pass.seat };
+}
+
+// Written out: a crate that drops one need not know what it is made of.
+impl Drop for Pass {
+    fn drop(self) {
+        let Pass { seat: _ } = self;
+    }
 }
 
 impl Pass {
@@ -41,7 +47,8 @@ impl Pass {
     pub fn into_seat(self) -> PassSeat
         ensures { self ≡ pass_of_seat result }
     {
-        self.seat
+        let Pass { seat } = self;
+        seat
     }
 
     /// The caller.

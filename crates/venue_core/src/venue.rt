@@ -48,7 +48,6 @@ pub struct Receipt {
 /// there.
 ///
 /// Contracts see the front of the venue's journal: which one it is, and its setup.
-#[derive(Drop)]
 pub struct Venue {
     setup: Setup,
     grid: Grid,
@@ -66,6 +65,19 @@ impl Model for Venue {
     ghost view = { λ venue. venue.front };
 
     ghost invariant = { λ venue. IsVenue venue.front venue.setup venue.grid venue.row venue.lock.key };
+}
+
+// Written out: a crate that drops one need not know what it is made of.
+impl Drop for Venue {
+    fn drop(self) {
+        let Venue {
+            setup: _,
+            grid: _,
+            front: _,
+            row: _,
+            lock: _,
+        } = self;
+    }
 }
 
 impl Venue {
