@@ -1,4 +1,5 @@
-//! Tests of takings, sweeps and local views, and of sweeps of a few parts alone: worked sessions on small boards.
+//! Tests of takings, sweeps, local views and deals of blocks, and of sweeps of a few parts alone: worked sessions on
+//! small boards.
 //!
 //! A crate that has tests is proved once more for them, so these stand beside the crate of the board.
 #![tactic(auto)]
@@ -7,6 +8,8 @@
 mod board_tests;
 #[cfg(test)]
 mod crossing;
+#[cfg(test)]
+mod deal_tests;
 #[cfg(test)]
 mod few_parts;
 #[cfg(test)]

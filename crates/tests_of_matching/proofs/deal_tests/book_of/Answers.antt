@@ -3,7 +3,7 @@ use Rattle.zone_graph.specs.Route.{IsIn}
 use Rattle.zone_graph.proofs.InOrder.{from_put_in_order}
 use Rattle.block_book.specs.declared.block.RestingBlock.{RestingBlock}
 use Rattle.block_book.specs.Blocks.{number_cmp}
-use Rattle.tests_of_blocks.proofs.deal_tests.book_of.Goals as goal
+use Rattle.tests_of_matching.proofs.deal_tests.book_of.Goals as goal
 
 pub loop-row-preserved : goal.loop-row-preserved
 loop-row-preserved g c = λ block i.
