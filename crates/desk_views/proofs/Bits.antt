@@ -1,7 +1,5 @@
--- Zones as bits.
-use Rattle.std.proofs.Common.{◌≡◌, ◌∙◌, inl, inr, ℕ, zero, suc, ◌<◌, ◌==◌, ◌&&◌, ◌||◌, Bool, true, false, List, [], ◌∷◌, filter, length, max, refl, sym, ap, ap₂, arith}
-use Rattle.std.proofs.lemmas.Nat.Bits.{bit_at-lt, bit_at-zero, bit_at_or}
-use Rattle.std.specs.Int.{bit_at}
+-- The zones that are touched, as bits.
+use Rattle.std.proofs.Common.{◌≡◌, ◌∙◌, ℕ, ◌<◌, ◌&&◌, ◌||◌, Bool, true, false, List, [], ◌∷◌, filter, length, refl, ap, arith}
 use Rattle.std.specs.Int.RustNames.{bit_or}
 use Rattle.std.specs.List.{list_any, range_with_len}
 use Rattle.order_kinds.specs.declared.side.Side.{Side}
@@ -15,22 +13,7 @@ use Rattle.laws_of_views.specs.Changes.{AreAmong}
 use Rattle.kept_hour.specs.Changed.{HasTouched}
 use Rattle.contract_book.proofs.BookShapes.{any-no}
 use Rattle.local_view.specs.Nearness.{is_joined, is_near, near_count, zones_touched}
-
-pub holds-zero : (zone : ℕ) → holds 0 zone ≡ false
-holds-zero zone = ap (λ n. n == 1) (bit_at-zero zone)
-
-max-one : (a b : ℕ) → a < 2 → b < 2 → (max a b == 1) ≡ ((a == 1) || (b == 1))
-max-one zero zero low small = refl
-max-one zero (suc zero) low small = refl
-max-one (suc zero) zero low small = refl
-max-one (suc zero) (suc zero) low small = refl
-max-one zero (suc (suc b)) low small = absurd (let no : ⊥ = omega (arith, small) in no)
-max-one (suc zero) (suc (suc b)) low small = absurd (let no : ⊥ = omega (arith, small) in no)
-max-one (suc (suc a)) b low small = absurd (let no : ⊥ = omega (arith, low) in no)
-
--- a zone has a bit in the one or in the other
-pub holds-or : (a b zone : ℕ) → holds (bit_or a b) zone ≡ (holds a zone || holds b zone)
-holds-or a b zone = ap (λ n. n == 1) (bit_at_or a b zone) ∙ max-one (bit_at a zone) (bit_at b zone) (bit_at-lt a zone) (bit_at-lt b zone)
+use Rattle.local_view.proofs.Bits.{holds-or, holds-zero}
 
 pub in_touched : (graph : Graph) (bits zone : ℕ) → HasZone graph zone → holds bits zone ≡ true → IsIn zone (zones_touched graph bits)
 in_touched graph bits zone known is = IsIn-filter (holds bits) zone (range_with_len 0 (zone_count graph)) (IsIn-range zone 0 (zone_count graph) (omega arith) (omega (arith, known))) is

@@ -1,66 +1,78 @@
 -- The rows of each zone, of which some were computed and the others are kept.
-use Rattle.std.proofs.Common.{◌≡◌, ◌∙◌, ◌<◌, ℕ, zero, suc, Bool, true, false, List, [], ◌∷◌, ◌++◌, Some, take, get_or, length, refl, sym, ap, if◌then◌else◌, arith}
+use Rattle.std.proofs.Common.{◌≡◌, ◌∙◌, ◌<◌, ◌≤◌, ◌+◌, ℕ, zero, suc, Bool, true, false, List, [], ◌∷◌, ◌++◌, Some, take, get_or, length, map, replicate, refl, sym, ap, if◌then◌else◌, arith}
+use Rattle.std.proofs.lemmas.List.FromFn.{get_or-map-range_with_len, length-map-range_with_len}
+use Rattle.std.proofs.lemmas.List.{get_or_past}
 use Rattle.std.proofs.Math.Seq.{take-append_seam}
+use Rattle.std.specs.List.{range_with_len}
+use Rattle.cut_proof.specs.ZoneSet.{holds}
 use Rattle.order_kinds.specs.declared.side.Side.{Side}
+use Rattle.zone_graph.specs.Graph.{HasZone, zone_count}
 use Rattle.market_model.specs.declared.reply.ViewRow.{ViewRow}
 use Rattle.market_model.specs.Board.{BoardState}
 use Rattle.local_view.specs.Boards.{view_of}
-use Rattle.local_view.specs.Rows.{LineRows, chosen}
+use Rattle.local_view.specs.Rows.{LineRows, chosen, chosen_at, of_zones}
 use Rattle.local_view.specs.Works.{AreComputed, HasMade}
 
--- the rows at a place
-abbrev pub chosen_at : List Bool → (kept next : List (List ViewRow)) → ℕ → List ViewRow
-chosen_at flags kept next k = if get_or flags k false then get_or next k [] else get_or kept k []
+abbrev get_or_empty : List (List ViewRow) → ℕ → List ViewRow
+get_or_empty lists zone = get_or lists zone []
 
-pub length-chosen : (flags : List Bool) (kept next : List (List ViewRow)) → length (chosen flags kept next) ≡ length kept
-unfolding chosen
-length-chosen [] kept next = refl
-length-chosen (flag ∷ flags) [] next = refl
-length-chosen (flag ∷ flags) (rows ∷ kept) [] = refl
-length-chosen (flag ∷ flags) (rows ∷ kept) (later ∷ next) = ap suc (length-chosen flags kept next)
+-- lists that are none are empty
+none_there : (from count : ℕ) → map (get_or_empty []) (range_with_len from count) ≡ replicate count []
+none_there from zero = refl
+none_there from (suc count) = ap (λ rows. [] ∷ rows) (none_there (from + 1) count)
 
-pub get_or-chosen : (flags : List Bool) (kept next : List (List ViewRow)) (k : ℕ) → length next ≡ length kept → k < length kept
-    → get_or (chosen flags kept next) k [] ≡ chosen_at flags kept next k
-unfolding chosen
-get_or-chosen [] kept next k same less = refl
-get_or-chosen (flag ∷ flags) [] next k same less = absurd (let no : ⊥ = omega (arith, less) in no)
-get_or-chosen (flag ∷ flags) (rows ∷ kept) [] k same less = absurd (let no : ⊥ = omega (arith, same) in no)
-get_or-chosen (flag ∷ flags) (rows ∷ kept) (later ∷ next) zero same less = refl
-get_or-chosen (flag ∷ flags) (rows ∷ kept) (later ∷ next) (suc k) same less = get_or-chosen flags kept next k (omega (arith, same)) (omega (arith, less))
+pub none-of_zones : (zones : ℕ) → of_zones zones [] ≡ replicate zones []
+none-of_zones zones = none_there 0 zones
 
-same_lists : (xs ys : List (List ViewRow)) → length xs ≡ length ys → ((k : ℕ) → k < length ys → get_or xs k [] ≡ get_or ys k []) → xs ≡ ys
-same_lists [] [] same at = refl
-same_lists [] (y ∷ ys) same at = absurd (let no : ⊥ = omega (arith, same) in no)
-same_lists (x ∷ xs) [] same at = absurd (let no : ⊥ = omega (arith, same) in no)
-same_lists (x ∷ xs) (y ∷ ys) same at =
-    let first : x ≡ y = at zero (omega arith) in
-    let rest = same_lists xs ys (omega (arith, same)) (λ k less. at (suc k) (omega (arith, less))) in
-    λ i. first i ∷ rest i
+none_past : (lists : List (List ViewRow)) (zone : ℕ) → length lists ≤ zone → get_or_empty lists zone ≡ []
+none_past lists zone past = get_or_past lists zone [] past
 
--- lists that are those rows at each place
-pub chosen-is : (flags : List Bool) (kept next now : List (List ViewRow)) → length next ≡ length kept → length now ≡ length kept
-    → ((k : ℕ) → k < length kept → get_or now k [] ≡ chosen_at flags kept next k) → now ≡ chosen flags kept next
-chosen-is flags kept next now same size at =
-    same_lists now (chosen flags kept next) (size ∙ sym (length-chosen flags kept next))
-    (λ k less. let within : k < length kept = (let many = length-chosen flags kept next in omega (arith, less, many)) in at k within ∙ sym (get_or-chosen flags kept next k same within))
+-- past the last list there are no rows
+pub past_chosen : (computed : ℕ) (kept next new : List (List ViewRow)) (zone : ℕ) → length new ≡ length kept → length next ≡ length kept → length kept ≤ zone
+    → get_or new zone [] ≡ chosen_at computed kept next zone
+past_chosen computed kept next new zone size same past = none_past new zone (omega (arith, size, past)) ∙ by (holds computed zone)
+  where
+    by : (b : Bool) → [] ≡ (if b then get_or_empty next zone else get_or_empty kept zone)
+    by true = sym (none_past next zone (omega (arith, same, past)))
+    by false = sym (none_past kept zone past)
 
 -- the next rows are computed or kept
-pub made_of : (flags : List Bool) (board : BoardState) (part : ℕ) (side : Side) (kept next : List (List ViewRow)) (line : LineRows) → length next ≡ length kept
-    → AreComputed flags board part side next → line.next ≡ Some (chosen flags kept next) → HasMade flags board part side kept line
-made_of flags board part side kept next line same computed is = record {
-  rows = chosen flags kept next;
+pub made_of : (zones computed : ℕ) (board : BoardState) (part : ℕ) (side : Side) (kept next : List (List ViewRow)) (was : List (List ViewRow)) (line : LineRows) → zones ≡ zone_count board.grid
+    → was ≡ of_zones zones kept → AreComputed computed board part side next → line.next ≡ Some (chosen zones computed kept next) → HasMade computed board part side was line
+made_of zones computed board part side kept next was line count are made is = record {
+  rows = chosen zones computed kept next;
   is = is;
-  size = length-chosen flags kept next;
+  size = many ∙ sym (ap length are ∙ length-map-range_with_len (λ zone. get_or kept zone []) 0 zones);
   made = λ zone less.
-      let within : zone < length kept = (let many = length-chosen flags kept next in omega (arith, less, many)) in
-      get_or-chosen flags kept next zone same within ∙ by zone within (get_or flags zone false) refl;
+      let within : zone < zones = omega (arith, less, many) in
+      get_or-map-range_with_len (chosen_at computed kept next) 0 zones zone zone [] within (omega arith)
+      ∙ by zone (omega (arith, within, count)) (holds computed zone) refl
+      ∙ ap (λ rows. if holds computed zone then view_of board part side zone else rows)
+      (sym (ap (λ lists. get_or lists zone []) are ∙ get_or-map-range_with_len (λ k. get_or kept k []) 0 zones zone zone [] within (omega arith)));
 }
   where
-    by : (zone : ℕ) → zone < length kept → (b : Bool) → get_or flags zone false ≡ b
+    many : length (chosen zones computed kept next) ≡ zones
+    many = length-map-range_with_len (chosen_at computed kept next) 0 zones
+
+    by : (zone : ℕ) → HasZone board.grid zone → (b : Bool) → holds computed zone ≡ b
         → (if b then get_or next zone [] else get_or kept zone []) ≡ (if b then view_of board part side zone else get_or kept zone [])
-    by zone within true e = computed zone (omega (arith, within, same)) e
-    by zone within false e = refl
+    by zone there true e = made zone there e
+    by zone there false e = refl
 
 -- lists that were lent whole and written back are those that were written
 pub written_whole : (new rest : List (List ViewRow)) (len : ℕ) → length new ≡ len → take len (new ++ rest) ≡ new
 written_whole new rest len size = ap (λ n. take n (new ++ rest)) (sym size) ∙ take-append_seam new rest
+
+-- so many zones have lists
+pub zones_are : (zones count : ℕ) (lists was : List (List ViewRow)) → of_zones zones lists ≡ was → length was ≡ count → zones ≡ count
+zones_are zones count lists was are size = sym (length-map-range_with_len (λ zone. get_or lists zone []) 0 zones) ∙ ap length are ∙ size
+
+-- a kept list
+pub listed_at : (zones : ℕ) (lists now : List (List ViewRow)) (zone : ℕ) → of_zones zones lists ≡ now → zone < length now → get_or lists zone [] ≡ get_or now zone []
+listed_at zones lists now zone are less =
+    sym (get_or-map-range_with_len (λ k. get_or lists k []) 0 zones zone zone [] (let size = zones_are zones (length now) lists now are refl in omega (arith, size, less)) (omega arith))
+    ∙ ap (λ rows. get_or rows zone []) are
+
+-- the lists of a line that has none are empty
+pub empty_line : (zones : ℕ) (lists : List (List ViewRow)) → lists ≡ [] → of_zones zones lists ≡ replicate zones []
+empty_line zones lists none = ap (of_zones zones) none ∙ none-of_zones zones

@@ -1,8 +1,9 @@
+pub mod Bits
 mod Bringing
 mod Chosen
-mod Counting
 mod Hours
 mod Leading
+mod Joining
 mod LineMakers
 mod LineTrees
 mod Lines

@@ -1,12 +1,13 @@
 -- What refreshes make, of lists and of parts.
-use Rattle.std.proofs.Common.{◌≡◌, ◌∙◌, ℕ, zero, suc, ◌+◌, Bool, List, [], ◌∷◌, ◌++◌, get_or, length, replicate, Result, Ok, Err, OnOk, refl, ap, if◌then◌else◌, arith}
+use Rattle.std.proofs.Common.{◌≡◌, ◌∙◌, ℕ, zero, suc, ◌+◌, ◌<◌, true, List, [], ◌∷◌, ◌++◌, get_or, length, replicate, Result, Ok, Err, OnOk, refl, ap, if◌then◌else◌, arith}
 use Rattle.order_kinds.specs.declared.side.Side.{Side}
 use Rattle.market_model.specs.declared.reply.ViewRow.{ViewRow}
 use Rattle.market_model.specs.Board.{BoardState}
+use Rattle.cut_proof.specs.ZoneSet.{holds}
 use Rattle.local_view.specs.Boards.{view_of}
 use Rattle.local_view.specs.Kept.{AreNext}
 use Rattle.local_view.specs.Rows.{LineRows}
-use Rattle.local_view.specs.Works.{AllComputed, HasMade}
+use Rattle.local_view.specs.Works.{HasMade}
 
 replicate-push : {X : Type 0} (count : ℕ) (x : X) → replicate count x ++ x ∷ [] ≡ replicate (suc count) x
 replicate-push zero x = refl
@@ -20,8 +21,8 @@ one_more_of x count items after added are is pushed =
     ∙ ap (λ n. replicate n x) (let next : suc count ≡ count + 1 = omega arith in next)
 
 -- where all rows are computed they are the views
-pub all_next : (board : BoardState) (part : ℕ) (side : Side) (zones : ℕ) (computed : List Bool) (kept : List (List ViewRow)) (line : LineRows) → length kept ≡ zones
-    → AllComputed zones computed → HasMade computed board part side kept line → AreNext board part side zones line
+pub all_next : (board : BoardState) (part : ℕ) (side : Side) (zones : ℕ) (computed : ℕ) (kept : List (List ViewRow)) (line : LineRows) → length kept ≡ zones
+    → ((zone : ℕ) → zone < zones → holds computed zone ≡ true) → HasMade computed board part side kept line → AreNext board part side zones line
 all_next board part side zones computed kept line size all made = record {
   rows = made.rows;
   is = made.is;

@@ -1,5 +1,5 @@
 -- Rows of which only those near a change are made anew are the views.
-use Rattle.std.proofs.Common.{◌≡◌, ◌∙◌, ℕ, ◌<◌, ◌&&◌, Bool, true, false, List, [], ◌∷◌, ◌++◌, filter, get_or, inl, inr, is_some, length, Result, OnOk, take, refl, sym, ap, subst, if◌then◌else◌, arith}
+use Rattle.std.proofs.Common.{◌≡◌, ◌∙◌, ℕ, ◌<◌, ◌&&◌, Bool, true, false, List, [], ◌∷◌, ◌++◌, get_or, inl, inr, is_some, length, Result, OnOk, take, refl, sym, ap, subst, if◌then◌else◌, arith}
 use Rattle.std.proofs.lemmas.Bool.{or_parts, true≢false}
 use Rattle.std.proofs.Math.Seq.{take-append_seam}
 use Rattle.std.specs.List.{list_any, range_with_len}
@@ -15,17 +15,16 @@ use Rattle.zone_graph.specs.Reach.{reaches}
 use Rattle.zone_graph.specs.Rooms.{room_of}
 use Rattle.zone_graph.specs.Route.{IsIn}
 use Rattle.zone_graph.proofs.BestRoute.{best_route-rooms}
-use Rattle.zone_graph.proofs.Membership.{from_filter, from_range}
+use Rattle.zone_graph.proofs.Membership.{from_filter}
 use Rattle.market_model.specs.declared.reply.ViewRow.{ViewRow}
 use Rattle.market_model.specs.Board.{BoardState, IsBoard}
 use Rattle.market_model.specs.Certificate.{zones_in_reach}
 use Rattle.market_model.specs.Room.{room}
 use Rattle.laws_of_views.specs.Nearby.{HaveNoZoneInCommon, zones_of_view}
-use Rattle.laws_of_market.proofs.Restrict.{filter-same}
 use Rattle.local_view.specs.declared.part_views.PartViews.{PartViews}
 use Rattle.local_view.specs.Boards.{view_of}
 use Rattle.local_view.specs.Kept.{AreNext, AreSized, IsSized, Views, line_of, no_part, on_side}
-use Rattle.local_view.specs.Nearness.{AreOthers, WereViews, is_joined, is_near, near_count, zones_touched}
+use Rattle.local_view.specs.Nearness.{AreOthers, WereViews, is_joined, is_near, zones_touched}
 use Rattle.local_view.specs.Rows.{LineRows}
 use Rattle.local_view.specs.Works.{HasMade}
 use Rattle.local_view.proofs.Hours.{hour-graph}
@@ -60,8 +59,8 @@ module _ (board : BoardState) (is : IsBoard board) (part : ℕ) (side : Side) (t
       let both : (holds touched other && is_joined board.grid (room_of rooms) side zone other) ≡ true = ap (λ b. b && is_joined board.grid (room_of rooms) side zone other) found.1 ∙ joined in
       true≢false (sym both ∙ none_passes (λ o. holds touched o && is_joined board.grid (room_of rooms) side zone o) (range_with_len 0 (zone_count board.grid)) other far found.0)
 
-  pub near_next : (zones : ℕ) (computed : List Bool) (line : LineRows) → zone_count board.grid ≡ zones → length kept ≡ zones
-      → ((zone : ℕ) → zone < zone_count board.grid → get_or computed zone false ≡ is_near board.grid (room_of rooms) side touched zone)
+  pub near_next : (zones : ℕ) (computed : ℕ) (line : LineRows) → zone_count board.grid ≡ zones → length kept ≡ zones
+      → ((zone : ℕ) → zone < zone_count board.grid → holds computed zone ≡ is_near board.grid (room_of rooms) side touched zone)
       → HasMade computed board part side kept line → AreNext board part side zones line
   near_next zones computed line count size told made = record {
     rows = made.rows;
@@ -69,10 +68,10 @@ module _ (board : BoardState) (is : IsBoard board) (part : ℕ) (side : Side) (t
     size = made.size ∙ size;
     each = λ zone less.
         let own = made.size in
-        made.made zone (omega (arith, less, own, size)) ∙ by zone (omega (arith, less, count)) (get_or computed zone false) refl;
+        made.made zone (omega (arith, less, own, size)) ∙ by zone (omega (arith, less, count)) (holds computed zone) refl;
   }
     where
-      by : (zone : ℕ) → zone < zone_count board.grid → (b : Bool) → get_or computed zone false ≡ b
+      by : (zone : ℕ) → zone < zone_count board.grid → (b : Bool) → holds computed zone ≡ b
           → (if b then view_of board part side zone else get_or kept zone []) ≡ view_of board part side zone
       by zone known true e = refl
       by zone known false e =
@@ -89,9 +88,9 @@ written_back lent new rest len size many = ap (λ n. take n (new ++ rest)) (sym 
 
 -- where the parts were written back the next rows of the one are the views
 pub near_back : {E : Type 0} (result : Result (Unit {0}) E) (board : BoardState) (is : IsBoard board) (part : ℕ) (side : Side) (touched : ℕ) (rooms : List (ℕ × ℕ)) (old : Views)
-    (items lent new rest : List PartViews) (len zones : ℕ) (computed : List Bool) → WereViews board part side touched rooms (line_of old part side).kept
+    (items lent new rest : List PartViews) (len zones : ℕ) (computed : ℕ) → WereViews board part side touched rooms (line_of old part side).kept
     → items ≡ old.lines → lent ≡ items → length lent ≡ len → length new ≡ length lent → AreSized zones items → part < length old.lines → zone_count board.grid ≡ zones
-    → ((zone : ℕ) → zone < zone_count board.grid → get_or computed zone false ≡ is_near board.grid (room_of rooms) side touched zone)
+    → ((zone : ℕ) → zone < zone_count board.grid → holds computed zone ≡ is_near board.grid (room_of rooms) side touched zone)
     → OnOk result (HasMade computed board part side (on_side (get_or lent part no_part) side).kept (on_side (get_or new part no_part) side))
     → OnOk result (AreNext board part side zones (on_side (get_or (take len (new ++ rest)) part no_part) side))
 near_back result board is part side touched rooms old items lent new rest len zones computed were of_old of_items size many sized there count told made =
@@ -103,17 +102,6 @@ near_back result board is part side touched rooms old items lent new rest len zo
     told
     (subst (λ ps. HasMade computed board part side (on_side (get_or ps part no_part) side).kept (on_side (get_or new part no_part) side)) (of_items ∙ of_old) m))) made
 
--- so the next rows of all are
-pub all_back : {E : Type 0} (result : Result (Unit {0}) E) (board : BoardState) (lent new rest : List PartViews) (len zones zones_now : ℕ) → length lent ≡ len → length new ≡ length lent
-    → zones_now ≡ zones
-    → OnOk result ((part : ℕ) (side : Side) → part < length new → AreNext board part side zones_now (on_side (get_or new part no_part) side))
-    → OnOk result ((part : ℕ) (side : Side) → part < length (take len (new ++ rest)) → AreNext board part side zones (on_side (get_or (take len (new ++ rest)) part no_part) side))
-all_back result board lent new rest len zones zones_now size many same next =
-    on_ok_map result (λ each part side less.
-    let back = written_back lent new rest len size many in
-    subst (λ ps. AreNext board part side zones (on_side (get_or ps part no_part) side)) (sym back)
-    (subst (λ z. AreNext board part side z (on_side (get_or new part no_part) side)) same (each part side (subst (λ ps. part < length ps) back less)))) next
-
 pub others_back : {E : Type 0} (result : Result (Unit {0}) E) (part : ℕ) (side : Side) (old : Views) (items lent new rest : List PartViews) (len : ℕ)
     → items ≡ old.lines → lent ≡ items → length lent ≡ len → length new ≡ length lent
     → ((other : ℕ) (otherwise : Side) → AreOthers part side other otherwise → on_side (get_or new other no_part) otherwise ≡ on_side (get_or lent other no_part) otherwise)
@@ -122,12 +110,3 @@ others_back result part side old items lent new rest len of_old of_items size ma
     on_ok result (λ other otherwise are.
     ap (λ ps. on_side (get_or ps other no_part) otherwise) (written_back lent new rest len size many)
     ∙ others other otherwise are ∙ ap (λ ps. on_side (get_or ps other no_part) otherwise) (of_items ∙ of_old))
-
--- as many lists are made as zones are near
-pub near_counted : (graph : Graph) (room : Arc → ℕ) (side : Side) (touched lists zones : ℕ) (flags : List Bool) → zones ≡ zone_count graph
-    → ((zone : ℕ) → zone < zone_count graph → get_or flags zone false ≡ is_near graph room side touched zone)
-    → lists ≡ length (filter (λ place. get_or flags place false) (range_with_len 0 zones)) → lists ≡ near_count graph room side touched
-near_counted graph room side touched lists zones flags count told are =
-    are ∙ ap (λ n. length (filter (λ place. get_or flags place false) (range_with_len 0 n))) count
-    ∙ ap length (filter-same (λ place. get_or flags place false) (is_near graph room side touched) (range_with_len 0 (zone_count graph))
-    (λ zone i. told zone (let within = (from_range zone 0 (zone_count graph) i).1 in omega (arith, within))))

@@ -2,8 +2,9 @@
 use Rattle.std.specs.Prelude.{◌≡◌, ◌≢◌, ℕ, ◌+◌, ◌<◌, ◌≤◌, Bool, true, false, List, length, slice_index_or, sum_by}
 use Rattle.order_kinds.specs.declared.side.Side.{Side}
 use Rattle.order_kinds.specs.declared.side.Side.TheVariants.{Buy, Sell}
+use Rattle.cut_proof.specs.ZoneSet.{holds}
 use Rattle.zone_graph.specs.declared.route.Arc.{Arc}
-use Rattle.zone_graph.specs.Graph.{Graph, HasArc, HasZone, end_of}
+use Rattle.zone_graph.specs.Graph.{Graph, HasArc, HasZone, end_of, start_of}
 use Rattle.zone_graph.specs.Pour.{opposite_arc}
 use Rattle.route_choice.specs.Flow.{sent_out, taken_in}
 
@@ -51,3 +52,9 @@ pub record ComeTogether (graph : Graph) (room : Arc → ℕ) (side : Side) (zone
   pub flow : Arc → ℕ
   pub within : (arc : Arc) → HasArc graph arc → flow arc ≤ room arc
   pub balanced : (other : ℕ) → HasZone graph other → other ≢ zone → PassesOn graph side flow other (slice_index_or shown other 0)
+
+-- the zones of a set are joined with a zone by an arc each that has room for what comes from a side's orders there,
+-- or goes to them; bit z stands for zone z
+pub record AreJoined (graph : Graph) (room : Arc → ℕ) (side : Side) (zone joined : ℕ) : Type 0 where
+  pub by : (other : ℕ) → holds joined other ≡ true → (arc : Arc) × HasArc graph arc × (start_of graph arc ≡ other) × (end_of graph arc ≡ zone) × (0 < room (over side arc))
+  pub all : (arc : Arc) → HasArc graph arc → end_of graph arc ≡ zone → 0 < room (over side arc) → holds joined (start_of graph arc) ≡ true

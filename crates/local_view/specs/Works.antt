@@ -1,11 +1,12 @@
 -- What a refresh works with.
-use Rattle.std.specs.Prelude.{◌≡◌, ℕ, ◌<◌, Bool, true, false, List, [], length, get_or, Some, if◌then◌else◌}
+use Rattle.std.specs.Prelude.{◌≡◌, ℕ, ◌<◌, true, List, [], length, get_or, None, Option, Some, if◌then◌else◌}
 use Rattle.order_kinds.specs.declared.side.Side.{Side}
+use Rattle.cut_proof.specs.ZoneSet.{holds}
 use Rattle.market_model.specs.declared.reply.ViewRow.{ViewRow}
 use Rattle.market_model.specs.Board.{BoardState}
 use Rattle.local_view.specs.Boards.{view_of}
 use Rattle.local_view.specs.Rows.{LineRows}
-use Rattle.zone_graph.specs.Graph.{Graph, border_count, zone_count}
+use Rattle.zone_graph.specs.Graph.{Graph, HasZone, border_count, zone_count}
 use Rattle.local_view.specs.declared.walk.Walk.{Walk}
 use Rattle.local_view.specs.declared.work.Work.{Work}
 
@@ -26,33 +27,33 @@ pub record IsWork (graph : Graph) (work : Work) : Type 0 where
   pub zones : work.zones ≡ zone_count graph
   pub sound : IsSound work
 
+-- they are there
+abbrev pub IsThere : Graph → Option Work → Type 0
+IsThere graph None = ⊥
+IsThere graph (Some work) = IsWork graph work
+
 -- a step leaves all but what lists work with, and that as large
 pub record KeepsWork (graph : Graph) (old new : Work) : Type 0 where
   pub work : IsWork graph new
   pub of_part : new.of_part ≡ old.of_part
   pub whole : new.whole ≡ old.whole
-  pub computed : new.computed ≡ old.computed
-
--- the rows of all of so many zones are computed
-abbrev pub AllComputed : (zones : ℕ) → List Bool → Type 0
-AllComputed zones computed = (zone : ℕ) → zone < zones → get_or computed zone false ≡ true
 
 -- the rows of a zone, where they are computed or kept
-abbrev pub row_made : (computed : List Bool) → BoardState → (part : ℕ) → Side → (kept : List (List ViewRow)) → (zone : ℕ) → List ViewRow
+abbrev pub row_made : (computed : ℕ) → BoardState → (part : ℕ) → Side → (kept : List (List ViewRow)) → (zone : ℕ) → List ViewRow
 row_made computed board part side kept zone =
-    if get_or computed zone false then view_of board part side zone else get_or kept zone []
+    if holds computed zone then view_of board part side zone else get_or kept zone []
 
 -- the lists of the zones whose rows are computed are the views of the board
-abbrev pub AreComputed : (computed : List Bool) → BoardState → (part : ℕ) → Side → (lists : List (List ViewRow)) → Type 0
+abbrev pub AreComputed : (computed : ℕ) → BoardState → (part : ℕ) → Side → (lists : List (List ViewRow)) → Type 0
 AreComputed computed board part side lists =
-    (zone : ℕ) → zone < length lists → get_or computed zone false ≡ true → get_or lists zone [] ≡ view_of board part side zone
+    (zone : ℕ) → HasZone board.grid zone → holds computed zone ≡ true → get_or lists zone [] ≡ view_of board part side zone
 
 -- lists of rows are computed or kept, zone by zone
-abbrev pub AreMade : (computed : List Bool) → BoardState → (part : ℕ) → Side → (kept made : List (List ViewRow)) → Type 0
+abbrev pub AreMade : (computed : ℕ) → BoardState → (part : ℕ) → Side → (kept made : List (List ViewRow)) → Type 0
 AreMade computed board part side kept made = (zone : ℕ) → zone < length made → get_or made zone [] ≡ row_made computed board part side kept zone
 
 -- the next rows of a part and side are computed or kept, zone by zone
-pub record HasMade (computed : List Bool) (board : BoardState) (part : ℕ) (side : Side) (kept : List (List ViewRow)) (line : LineRows) : Type 0 where
+pub record HasMade (computed : ℕ) (board : BoardState) (part : ℕ) (side : Side) (kept : List (List ViewRow)) (line : LineRows) : Type 0 where
   pub rows : List (List ViewRow)
   pub is : line.next ≡ Some rows
   pub size : length rows ≡ length kept

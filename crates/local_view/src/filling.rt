@@ -1,23 +1,22 @@
 //! The lists of rows of one part and side, for each zone.
 
-ghost use Rattle.std.specs.Prelude.{◌≡◌, ◌<◌, ℕ, [], None, OnOk, get_or, length};
+ghost use Rattle.std.specs.Prelude.{◌≡◌, ◌<◌, ℕ, [], IfSome, None, OnOk, get_or, length};
+ghost use Rattle.cut_proof.specs.ZoneSet.{holds};
 ghost use Rattle.zone_graph.specs.Graph.{HasZone, zone_count};
 ghost use Rattle.zone_graph.specs.Rooms.{room_of};
-ghost use Rattle.market_model.specs.Board.{IsBoard};
 ghost use Rattle.local_view.specs.Boards.{AreRoomsOf, view_of};
 ghost use Rattle.local_view.specs.Takers.{IsReady};
 ghost use Rattle.local_view.specs.Whole.{IsRead};
-ghost use Rattle.local_view.specs.Works.{AreComputed, IsWork, KeepsWork};
+ghost use Rattle.local_view.specs.Works.{AreComputed, IsSound, IsWork, KeepsWork};
 
 use crate::listing::{Line, list_rows};
-use crate::work::Work;
+use crate::work::{Work, make_work};
 use market_model::{Board, NoMemory, Rows, ViewRow};
 use std::alloc::Global;
 use std::mem;
 use zone_graph::Grid;
 
-/// Makes the list of rows of each zone that the work says is computed. Of the other lists nothing is said.
-/// The rooms of the part are asked for once, where an order rests in the line.
+/// Makes the list of rows of each zone of a set. Of the other lists nothing is said.
 ///
 /// # Errors
 ///
@@ -26,8 +25,35 @@ pub(crate) fn fill_lists<B: Board>(
     alloc: Global,
     board: &B,
     grid: &Grid,
+    kept: &mut Option<Work>,
+    line: Line,
+    computed: u64,
+    lists: &mut [Rows],
+) -> Result<(), NoMemory>
+    requires grid { grid.now ≡ (B.state board.now).grid }
+    requires hand { (B.state board.now).hand ≡ None }
+    requires part { line.part < (B.state board.now).parts }
+    requires work { IfSome kept.old IsSound }
+    requires zones { length lists.old ≡ zone_count grid.now }
+    ensures lists { OnOk result (AreComputed computed (B.state board.now) line.part line.side lists.new) }
+    ensures size { length lists.new ≡ length lists.old }
+    ensures work { IfSome kept.new IsSound }
+{
+    make_work(alloc, grid, kept)?;
+    match kept {
+        Some(work) => fill_over(alloc, board, grid, work, line, computed, lists),
+        None => Ok(()),
+    }
+}
+
+// Makes them over the rooms of the part, which are asked for once.
+fn fill_over<B: Board>(
+    alloc: Global,
+    board: &B,
+    grid: &Grid,
     work: &mut Work,
     line: Line,
+    computed: u64,
     lists: &mut [Rows],
 ) -> Result<(), NoMemory>
     requires grid { grid.now ≡ (B.state board.now).grid }
@@ -35,25 +61,19 @@ pub(crate) fn fill_lists<B: Board>(
     requires part { line.part < (B.state board.now).parts }
     requires work { IsWork grid.now work.old }
     requires zones { length lists.old ≡ zone_count grid.now }
-    ensures lists { OnOk result (AreComputed work.old.computed (B.state board.now) line.part line.side lists.new) }
+    ensures lists { OnOk result (AreComputed computed (B.state board.now) line.part line.side lists.new) }
     ensures size { length lists.new ≡ length lists.old }
     ensures work { IsWork grid.now work.new }
-    ensures computed { work.new.computed ≡ work.old.computed }
-    ensures board { IsBoard (B.state board.now) }
 {
-    if board.first(line.part, line.side).is_none() {
-        clear_lists(alloc, lists);
-        return Ok(());
-    }
     board.rooms(line.part, &mut work.of_part);
     work.walk.trees.forget();
     work.whole.read(board, grid, line)?;
-    list_zones(alloc, board, grid, work, line, lists)
+    list_zones(alloc, board, grid, work, line, computed, lists)
 }
 
-// Clears all lists. The memory that they have stays.
-fn clear_lists(alloc: Global, lists: &mut [Rows])
-    ensures lists { (zone : ℕ) → zone < length lists.new → get_or lists.new zone [] ≡ [] }
+/// Clears all lists. The memory that they have stays.
+pub(crate) fn clear_lists(alloc: Global, lists: &mut [Rows])
+    ensures lists { (zone : ℕ) → get_or lists.new zone [] ≡ [] }
     ensures size { length lists.new ≡ length lists.old }
 {
     for list in lists.iter_mut() {
@@ -72,13 +92,14 @@ fn clear(alloc: Global, list: &mut Rows)
     }
 }
 
-// Makes the list of rows of each zone that the work says is computed, over the rooms of the part.
+// Makes the list of rows of each zone of a set, over the rooms of the part.
 fn list_zones<B: Board>(
     alloc: Global,
     board: &B,
     grid: &Grid,
     work: &mut Work,
     line: Line,
+    computed: u64,
     lists: &mut [Rows],
 ) -> Result<(), NoMemory>
     requires grid { grid.now ≡ (B.state board.now).grid }
@@ -89,7 +110,7 @@ fn list_zones<B: Board>(
     requires walk { IsReady grid.now (room_of work.old.of_part) line.side work.old.walk }
     requires read { IsRead (B.state board.now) line.part line.side work.old.whole }
     requires zones { length lists.old ≡ zone_count grid.now }
-    ensures lists { OnOk result (AreComputed work.old.computed (B.state board.now) line.part line.side lists.new) }
+    ensures lists { OnOk result (AreComputed computed (B.state board.now) line.part line.side lists.new) }
     ensures size { length lists.new ≡ length lists.old }
     ensures work { KeepsWork grid.now work.old work.new }
     ensures walk { IsReady grid.now (room_of work.new.of_part) line.side work.new.walk }
@@ -97,11 +118,22 @@ fn list_zones<B: Board>(
     let zones = grid.zones();
     for (zone, list) in lists.iter_mut().enumerate() {
         prove!(zone < zones as usize);
-        if work.computed[zone] {
+        if is_set(computed, zone) {
             fill_list(alloc, board, grid, work, line, zone as u32, list)?;
         }
     }
     Ok(())
+}
+
+/// Whether the bit at a place is set.
+pub(crate) fn is_set(bits: u64, place: usize) -> bool
+    ensures { result ≡ holds bits place }
+{
+    if place < 64 {
+        (bits >> place) & 1 == 1
+    } else {
+        false
+    }
 }
 
 // Computes the rows of a zone.

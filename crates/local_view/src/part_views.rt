@@ -1,59 +1,57 @@
 //! The views of one part: for each side the rows of each zone, kept and next.
 
-ghost use Rattle.std.specs.Prelude.{◌≡◌, ◌<◌, ℕ, [], false, None, IfOk, OnOk, length, get_or, replicate};
+ghost use Rattle.std.specs.Prelude.{◌≡◌, ◌<◌, ℕ, [], IfOk, IfSome, None, OnOk, length, get_or, replicate};
 ghost use Rattle.order_kinds.specs.declared.side.Side.TheVariants.{Buy, Sell};
 ghost use Rattle.order_kinds.specs.Side.{opposite};
 ghost use Rattle.market_model.specs.Board.{IsBoard};
 ghost use Rattle.zone_graph.specs.Graph.{zone_count};
 ghost use Rattle.local_view.specs.Kept.{AreNext, IsSized, adopted, empty_part, empty_rows, forgotten, on_side, part_adopted, part_forgotten};
-ghost use Rattle.local_view.specs.Rows.{chosen};
-ghost use Rattle.local_view.specs.Works.{AllComputed, HasMade, IsWork};
+ghost use Rattle.local_view.specs.Rows.{HaveLists, chosen_at, of_zones};
+ghost use Rattle.local_view.specs.Works.{HasMade, IsSound};
 
-use crate::filling::fill_lists;
+use crate::filling::{clear_lists, fill_lists, is_set};
 use crate::listing::Line;
 use crate::work::Work;
 use market_model::{Board, NoMemory, Rows, Side, ViewRow};
 use std::alloc::Global;
 use std::marker::Model;
 use std::mem;
-use zone_graph::{Grid, MOST_ZONES};
+use zone_graph::Grid;
 
 /// The rows of the views of one part and side: the kept ones of each zone, and the next ones, where
-/// there are such. Of the zones whose rows were not computed the next ones are the kept ones.
+/// there are such. Of the zones whose rows were not computed the next ones are the kept ones. No list is
+/// made before an order rests in the line.
 #[derive(Drop)]
 pub(crate) struct LineViews {
+    zones: u32,
     kept: Vec<Rows>,
     next: Vec<Rows>,
-    computed: [bool; MOST_ZONES],
+    computed: u64,
     is_next: bool,
 }
 
 impl Model for LineViews {
-    ghost use Rattle.std.specs.Prelude.{◌≡◌, length};
-    ghost use Rattle.local_view.specs.Rows.{LineRows, chosen, rows_if};
+    ghost use Rattle.local_view.specs.Rows.{HaveLists, LineRows, chosen, of_zones, rows_if};
 
     ghost Value = { LineRows };
 
-    ghost view = { λ line. record { kept = line.kept.items; next = rows_if line.is_next (chosen line.computed line.kept.items line.next.items) } };
+    ghost view = { λ line. record { kept = of_zones line.zones line.kept.items; next = rows_if line.is_next (chosen line.zones line.computed line.kept.items line.next.items) } };
 
-    ghost invariant = { λ line. length line.next.items ≡ length line.kept.items };
+    ghost invariant = { λ line. HaveLists line.zones line.kept.items line.next.items };
 }
 
 impl LineViews {
     /// Empty rows of each zone, and none that are next.
-    ///
-    /// # Errors
-    ///
-    /// [`NoMemory`] where memory runs out.
-    pub(crate) fn new(alloc: Global, zones: u32) -> Result<LineViews, NoMemory>
-        ensures { IfOk result (λ line. line ≡ empty_rows zones) }
+    pub(crate) fn new(alloc: Global, zones: u32) -> LineViews
+        ensures { result ≡ empty_rows zones }
     {
-        Ok(LineViews {
-            kept: empty_lists(alloc, zones)?,
-            next: empty_lists(alloc, zones)?,
-            computed: [false; MOST_ZONES],
+        LineViews {
+            zones,
+            kept: Vec::new(alloc),
+            next: Vec::new(alloc),
+            computed: 0,
             is_next: false,
-        })
+        }
     }
 
     /// The kept rows of a zone.
@@ -61,7 +59,7 @@ impl LineViews {
         requires { zone < length self.now.kept }
         ensures { result.now ≡ get_or self.now.kept zone [] }
     {
-        self.kept.as_slice()[zone as usize].as_slice()
+        rows_of(self.kept.as_slice(), zone as usize)
     }
 
     /// The next rows become the kept ones, where there are such.
@@ -73,7 +71,7 @@ impl LineViews {
             adopt_lists(
                 self.kept.as_mut_slice(),
                 self.next.as_mut_slice(),
-                &self.computed,
+                self.computed,
             );
             self.is_next = false;
         }
@@ -86,8 +84,8 @@ impl LineViews {
         self.is_next = false;
     }
 
-    /// Makes the next rows of each zone: those that the work says are computed from the board, and the
-    /// others are the kept ones.
+    /// Makes the next rows of each zone: those of a set of zones from the board, and the others are the
+    /// kept ones.
     ///
     /// # Errors
     ///
@@ -97,32 +95,50 @@ impl LineViews {
         alloc: Global,
         board: &B,
         grid: &Grid,
-        work: &mut Work,
+        work: &mut Option<Work>,
         line: Line,
+        computed: u64,
     ) -> Result<(), NoMemory>
         requires grid { grid.now ≡ (B.state board.now).grid }
         requires hand { (B.state board.now).hand ≡ None }
         requires part { line.part < (B.state board.now).parts }
-        requires work { IsWork grid.now work.old }
+        requires work { IfSome work.old IsSound }
         requires zones { length self.old.kept ≡ zone_count grid.now }
-        ensures next { OnOk result (HasMade work.old.computed (B.state board.now) line.part line.side self.old.kept self.new) }
+        ensures next { OnOk result (HasMade computed (B.state board.now) line.part line.side self.old.kept self.new) }
         ensures kept { forgotten self.new ≡ forgotten self.old }
-        ensures work { IsWork grid.now work.new }
-        ensures computed { work.new.computed ≡ work.old.computed }
+        ensures work { IfSome work.new IsSound }
         ensures board { IsBoard (B.state board.now) }
     {
         self.is_next = false;
-        fill_lists(alloc, board, grid, work, line, self.next.as_mut_slice())?;
-        self.computed = work.computed;
+        if board.first(line.part, line.side).is_none() {
+            clear_lists(alloc, self.next.as_mut_slice());
+            self.computed = computed;
+            self.is_next = true;
+            return Ok(());
+        }
+        make_lists(alloc, self.zones, &mut self.kept, &mut self.next)?;
+        let lists = self.next.as_mut_slice();
+        fill_lists(alloc, board, grid, work, line, computed, lists)?;
+        self.computed = computed;
         self.is_next = true;
         Ok(())
     }
 }
 
+// The rows of a zone: none, where its list is not made.
+fn rows_of(lists: &[Rows], zone: usize) -> &[ViewRow]
+    ensures { result.now ≡ get_or lists.now zone [] }
+{
+    match lists.get(zone) {
+        Some(rows) => rows.as_slice(),
+        None => &[],
+    }
+}
+
 // The lists of the zones that were computed change places with the kept ones.
-fn adopt_lists(kept: &mut [Rows], next: &mut [Rows], computed: &[bool])
+fn adopt_lists(kept: &mut [Rows], next: &mut [Rows], computed: u64)
     requires { length next.old ≡ length kept.old }
-    ensures kept { kept.new ≡ chosen computed.now kept.old next.old }
+    ensures kept { (zone : ℕ) → get_or kept.new zone [] ≡ chosen_at computed kept.old next.old zone }
     ensures size { length kept.new ≡ length kept.old }
     ensures next { length next.new ≡ length next.old }
 {
@@ -133,14 +149,24 @@ fn adopt_lists(kept: &mut [Rows], next: &mut [Rows], computed: &[bool])
     }
 }
 
-// Whether there is a flag at a place, and it is set.
-fn is_set(flags: &[bool], place: usize) -> bool
-    ensures { result ≡ get_or flags.now place false }
+// Makes the lists of so many zones, where none are made yet: empty ones.
+fn make_lists(
+    alloc: Global,
+    zones: u32,
+    kept: &mut Vec<Rows>,
+    next: &mut Vec<Rows>,
+) -> Result<(), NoMemory>
+    requires { HaveLists zones kept.old.items next.old.items }
+    ensures lists { HaveLists zones kept.new.items next.new.items }
+    ensures made { OnOk result (length next.new.items ≡ zones) }
+    ensures same { of_zones zones kept.new.items ≡ of_zones zones kept.old.items }
 {
-    match flags.get(place) {
-        Some(flag) => *flag,
-        None => false,
+    if next.is_empty() {
+        let empty = empty_lists(alloc, zones)?;
+        *next = empty_lists(alloc, zones)?;
+        *kept = empty;
     }
+    Ok(())
 }
 
 // Empty rows of so many zones.
@@ -165,17 +191,13 @@ pub(crate) struct PartViews {
 
 impl PartViews {
     /// Empty rows of each zone, and none that are next.
-    ///
-    /// # Errors
-    ///
-    /// [`NoMemory`] where memory runs out.
-    pub(crate) fn new(alloc: Global, zones: u32) -> Result<PartViews, NoMemory>
-        ensures { IfOk result (λ part. part ≡ empty_part zones) }
+    pub(crate) fn new(alloc: Global, zones: u32) -> PartViews
+        ensures { result ≡ empty_part zones }
     {
-        Ok(PartViews {
-            buys: LineViews::new(alloc, zones)?,
-            sells: LineViews::new(alloc, zones)?,
-        })
+        PartViews {
+            buys: LineViews::new(alloc, zones),
+            sells: LineViews::new(alloc, zones),
+        }
     }
 
     /// The views of a side.
@@ -215,36 +237,36 @@ impl PartViews {
         alloc: Global,
         board: &B,
         grid: &Grid,
-        work: &mut Work,
+        work: &mut Option<Work>,
         part: u32,
     ) -> Result<(), NoMemory>
         requires grid { grid.now ≡ (B.state board.now).grid }
         requires hand { (B.state board.now).hand ≡ None }
         requires part { part < (B.state board.now).parts }
-        requires work { IsWork grid.now work.old }
-        requires all { AllComputed (zone_count grid.now) work.old.computed }
+        requires work { IfSome work.old IsSound }
         requires zones { IsSized (zone_count grid.now) self.old }
         ensures buys { OnOk result (AreNext (B.state board.now) part Buy (zone_count grid.now) self.new.buys) }
         ensures sells { OnOk result (AreNext (B.state board.now) part Sell (zone_count grid.now) self.new.sells) }
         ensures kept { part_forgotten self.new ≡ part_forgotten self.old }
         ensures sized { IsSized (zone_count grid.now) self.new }
-        ensures work { IsWork grid.now work.new }
-        ensures all { AllComputed (zone_count grid.now) work.new.computed }
+        ensures work { IfSome work.new IsSound }
     {
+        // It shows that the grid has no more than 64 zones.
+        let _ = grid.zones();
         let buys = Line {
             part,
             side: Side::Buy,
         };
-        self.buys.refresh(alloc, board, grid, work, buys)?;
+        self.buys.refresh(alloc, board, grid, work, buys, u64::MAX)?;
         let sells = Line {
             part,
             side: Side::Sell,
         };
-        self.sells.refresh(alloc, board, grid, work, sells)
+        self.sells
+            .refresh(alloc, board, grid, work, sells, u64::MAX)
     }
 
-    /// Makes the next rows of one side: of the zones that the work says from the board, and of the others
-    /// the kept ones.
+    /// Makes the next rows of one side: of a set of zones from the board, and of the others the kept ones.
     ///
     /// # Errors
     ///
@@ -254,23 +276,24 @@ impl PartViews {
         alloc: Global,
         board: &B,
         grid: &Grid,
-        work: &mut Work,
+        work: &mut Option<Work>,
         line: Line,
+        computed: u64,
     ) -> Result<(), NoMemory>
         requires grid { grid.now ≡ (B.state board.now).grid }
         requires hand { (B.state board.now).hand ≡ None }
         requires part { line.part < (B.state board.now).parts }
-        requires work { IsWork grid.now work.old }
+        requires work { IfSome work.old IsSound }
         requires zones { IsSized (zone_count grid.now) self.old }
-        ensures next { OnOk result (HasMade work.old.computed (B.state board.now) line.part line.side (on_side self.old line.side).kept (on_side self.new line.side)) }
+        ensures next { OnOk result (HasMade computed (B.state board.now) line.part line.side (on_side self.old line.side).kept (on_side self.new line.side)) }
         ensures other { on_side self.new (opposite line.side) ≡ on_side self.old (opposite line.side) }
         ensures kept { part_forgotten self.new ≡ part_forgotten self.old }
-        ensures work { IsWork grid.now work.new }
+        ensures work { IfSome work.new IsSound }
         ensures board { IsBoard (B.state board.now) }
     {
         match line.side {
-            Side::Buy => self.buys.refresh(alloc, board, grid, work, line),
-            Side::Sell => self.sells.refresh(alloc, board, grid, work, line),
+            Side::Buy => self.buys.refresh(alloc, board, grid, work, line, computed),
+            Side::Sell => self.sells.refresh(alloc, board, grid, work, line, computed),
         }
     }
 }

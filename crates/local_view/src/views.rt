@@ -1,6 +1,6 @@
 //! The local views of one hour over a board.
 
-ghost use Rattle.std.specs.Prelude.{◌≡◌, ◌+◌, ◌*◌, ◌<◌, ◌^◌, ℕ, None, IfOk, OnErr, OnOk, get_or, length, map, replicate};
+ghost use Rattle.std.specs.Prelude.{◌≡◌, ◌+◌, ◌*◌, ◌<◌, ◌^◌, ℕ, None, IfOk, IfSome, OnErr, OnOk, get_or, length, map, replicate};
 ghost use Rattle.order_kinds.specs.declared.side.Side.{Side};
 ghost use Rattle.zone_graph.specs.Graph.{zone_count};
 ghost use Rattle.local_view.specs.Kept.{AreAllNext, AreNext, AreSized, empty_part, kept_of, line_of, made_after as most_made, no_part, on_side, part_adopted, part_forgotten, views_adopted, views_forgotten};
@@ -8,16 +8,16 @@ ghost use Rattle.market_model.specs.Board.{IsBoard};
 ghost use Rattle.zone_graph.specs.Rooms.{room_of};
 ghost use Rattle.local_view.specs.Nearness.{AreOthers, WereViews, near_count};
 ghost use Rattle.local_view.specs.Sums.{AllNextAddUp, NextAddUp};
-ghost use Rattle.local_view.specs.Works.{AllComputed, HasMade, IsWork};
+ghost use Rattle.local_view.specs.Works.{HasMade, IsSound};
 
 use crate::listing::Line;
-use crate::nearness::{count, near_zones};
+use crate::nearness::near_zones;
 use crate::part_views::PartViews;
 use crate::work::Work;
 use market_model::{Board, NoMemory, Side, ViewRow};
 use std::alloc::Global;
 use std::marker::Model;
-use zone_graph::{Grid, MOST_ZONES, Rooms};
+use zone_graph::{Grid, Rooms};
 
 /// The local views of one hour: for each part, side and zone the rows that are kept, and for each part
 /// and side the rows of all zones that are next, or none.
@@ -106,10 +106,8 @@ impl LocalViews {
     {
         let alloc = *self.parts.allocator();
         let zones = grid.zones();
-        let mut work = Work::over(alloc, self.work.take(), grid)?;
-        work.computed = [true; MOST_ZONES];
-        let filled = fill_parts(alloc, board, grid, &mut work, self.parts.as_mut_slice());
-        self.work = Some(work);
+        let parts = self.parts.as_mut_slice();
+        let filled = fill_parts(alloc, board, grid, &mut self.work, parts);
         if filled.is_ok() {
             self.made = made_after(self.made, self.parts.len(), zones);
         }
@@ -182,19 +180,10 @@ impl LocalViews {
         ensures failed { OnErr result (self.new.made ≡ self.old.made) }
     {
         let alloc = *self.parts.allocator();
-        let zones = grid.zones();
-        let mut work = Work::over(alloc, self.work.take(), grid)?;
-        work.computed = near_zones(grid, old_rooms, line.side, touched);
-        let lists = count(&work.computed, zones);
-        let filled = fill_near(
-            alloc,
-            board,
-            grid,
-            &mut work,
-            self.parts.as_mut_slice(),
-            line,
-        );
-        self.work = Some(work);
+        let near = near_zones(grid, old_rooms, line.side, touched);
+        let lists = u64::from(near.count_ones());
+        let parts = self.parts.as_mut_slice();
+        let filled = fill_near(alloc, board, grid, &mut self.work, parts, line, near);
         if filled.is_ok() {
             self.made = made_more(self.made, lists);
         }
@@ -239,8 +228,7 @@ fn empty_parts(alloc: Global, zones: u32, parts: u32) -> Result<Vec<PartViews>, 
 {
     let mut made = Vec::with_capacity(alloc, parts as usize)?;
     for _ in 0..parts {
-        let part = PartViews::new(alloc, zones)?;
-        made.push(part)?;
+        made.push(PartViews::new(alloc, zones))?;
     }
     Ok(made)
 }
@@ -269,19 +257,18 @@ fn fill_parts<B: Board>(
     alloc: Global,
     board: &B,
     grid: &Grid,
-    work: &mut Work,
+    work: &mut Option<Work>,
     parts: &mut [PartViews],
 ) -> Result<(), NoMemory>
     requires grid { grid.now ≡ (B.state board.now).grid }
     requires hand { (B.state board.now).hand ≡ None }
     requires parts { (B.state board.now).parts ≡ length parts.old }
     requires few { length parts.old < 2 ^ 32 }
-    requires work { IsWork grid.now work.old }
-    requires all { AllComputed (zone_count grid.now) work.old.computed }
+    requires work { IfSome work.old IsSound }
     requires sized { AreSized (zone_count grid.now) parts.old }
     ensures next { OnOk result ((part : ℕ) (side : Side) → part < length parts.new → AreNext (B.state board.now) part side (zone_count grid.now) (on_side (get_or parts.new part no_part) side)) }
     ensures kept { map part_forgotten parts.new ≡ map part_forgotten parts.old }
-    ensures work { IsWork grid.now work.new }
+    ensures work { IfSome work.new IsSound }
 {
     for (part, views) in parts.iter_mut().enumerate() {
         views.refresh(alloc, board, grid, work, part as u32)?;
@@ -305,27 +292,27 @@ fn made_after(made: u64, parts: usize, zones: u32) -> u64
     made.saturating_add(parts as u64 * (2 * u64::from(zones)))
 }
 
-// Makes the next rows of one part and side: of the zones that the work says from the board, and of the
-// others the kept ones.
+// Makes the next rows of one part and side: of a set of zones from the board, and of the others the kept ones.
 fn fill_near<B: Board>(
     alloc: Global,
     board: &B,
     grid: &Grid,
-    work: &mut Work,
+    work: &mut Option<Work>,
     parts: &mut [PartViews],
     line: Line,
+    computed: u64,
 ) -> Result<(), NoMemory>
     requires grid { grid.now ≡ (B.state board.now).grid }
     requires hand { (B.state board.now).hand ≡ None }
     requires parts { (B.state board.now).parts ≡ length parts.old }
     requires part { line.part < length parts.old }
-    requires work { IsWork grid.now work.old }
+    requires work { IfSome work.old IsSound }
     requires sized { AreSized (zone_count grid.now) parts.old }
-    ensures next { OnOk result (HasMade work.old.computed (B.state board.now) line.part line.side (on_side (get_or parts.old line.part no_part) line.side).kept (on_side (get_or parts.new line.part no_part) line.side)) }
+    ensures next { OnOk result (HasMade computed (B.state board.now) line.part line.side (on_side (get_or parts.old line.part no_part) line.side).kept (on_side (get_or parts.new line.part no_part) line.side)) }
     ensures others { (other : ℕ) (otherwise : Side) → AreOthers line.part line.side other otherwise → on_side (get_or parts.new other no_part) otherwise ≡ on_side (get_or parts.old other no_part) otherwise }
     ensures kept { map part_forgotten parts.new ≡ map part_forgotten parts.old }
-    ensures work { IsWork grid.now work.new }
+    ensures work { IfSome work.new IsSound }
     ensures board { IsBoard (B.state board.now) }
 {
-    parts[line.part as usize].refresh_near(alloc, board, grid, work, line)
+    parts[line.part as usize].refresh_near(alloc, board, grid, work, line, computed)
 }

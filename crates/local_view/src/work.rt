@@ -1,14 +1,14 @@
 //! What a refresh works with, kept from one refresh to the next.
 
-ghost use Rattle.std.specs.Prelude.{IfOk, IfSome};
-ghost use Rattle.local_view.specs.Works.{IsSound, IsWork};
+ghost use Rattle.std.specs.Prelude.{IfOk, IfSome, OnOk};
+ghost use Rattle.local_view.specs.Works.{IsSound, IsThere, IsWork};
 
 use crate::walk::Walk;
 use crate::whole::WholeLine;
 use std::alloc::Global;
-use zone_graph::{Grid, MOST_ZONES, NoMemory, Rooms};
+use zone_graph::{Grid, NoMemory, Rooms};
 
-/// Rooms that a refresh works on, what its lists work with, and the zones whose rows it computes.
+/// Rooms that a refresh works on, and what its lists work with.
 #[derive(Drop)]
 pub(crate) struct Work {
     /// How many borders the rooms have.
@@ -21,33 +21,39 @@ pub(crate) struct Work {
     pub(crate) walk: Walk,
     /// The line whose lists are made.
     pub(crate) whole: WholeLine,
-    /// Whether the rows of a zone are computed, by zone; the others stay as they are kept.
-    pub(crate) computed: [bool; MOST_ZONES],
 }
 
 impl Work {
-    /// What a refresh over a grid works with: what was kept, where it has the grid's borders and zones,
-    /// and else a new one.
-    ///
-    /// # Errors
-    ///
-    /// [`NoMemory`] where memory runs out.
-    pub(crate) fn over(alloc: Global, kept: Option<Work>, grid: &Grid) -> Result<Work, NoMemory>
-        requires { IfSome kept IsSound }
+    // What a refresh over a grid works with.
+    fn over(alloc: Global, grid: &Grid) -> Result<Work, NoMemory>
         ensures { IfOk result (IsWork grid.now) }
     {
-        if let Some(work) = kept {
-            if work.borders == grid.borders() && work.zones == grid.zones() {
-                return Ok(work);
-            }
-        }
         Ok(Work {
             borders: grid.borders(),
             zones: grid.zones(),
             of_part: Rooms::new(grid)?,
             walk: Walk::over(alloc, grid)?,
             whole: WholeLine::new(alloc),
-            computed: [true; MOST_ZONES],
         })
     }
+}
+
+/// Makes what a refresh over a grid works with, where what is kept has not as many borders and zones, or
+/// nothing is kept.
+///
+/// # Errors
+///
+/// [`NoMemory`] where memory runs out. What is kept stays then.
+pub(crate) fn make_work(alloc: Global, grid: &Grid, kept: &mut Option<Work>) -> Result<(), NoMemory>
+    requires { IfSome kept.old IsSound }
+    ensures there { OnOk result (IsThere grid.now kept.new) }
+    ensures sound { IfSome kept.new IsSound }
+{
+    if let Some(work) = kept {
+        if work.borders == grid.borders() && work.zones == grid.zones() {
+            return Ok(());
+        }
+    }
+    *kept = Some(Work::over(alloc, grid)?);
+    Ok(())
 }

@@ -1,5 +1,5 @@
 use Rattle.std.proofs.Common.{◌≡◌, ◌<◌, ◌≤◌, ℕ, [], get_or, length}
-use Rattle.local_view.proofs.Chosen.{chosen_at}
+use Rattle.local_view.specs.Rows.{chosen_at}
 use Rattle.local_view.proofs.part_views.adopt_lists.Given as goal
 
 -- the lists so far have changed places where they were computed, and the others are as they were

@@ -13,7 +13,6 @@ loop-part-preserved g c =
     let kept = kept_set c.loop-part.parts c.loop-part.part c.refresh.new.self c.index-parts-part.result c.refresh.ensures.kept in
     record {
       work = c.refresh.ensures.work;
-      all = c.refresh.ensures.all;
       kept = kept ∙ c.loop-part.invariant.kept;
       sized = sized_alike (zone_count c.args.grid.now) c.loop-part.parts _ kept c.loop-part.invariant.sized;
       next = next_set (g.B.Board.state c.args.board.now) (zone_count c.args.grid.now) c.loop-part.parts c.loop-part.part c.refresh.new.self
