@@ -100,25 +100,33 @@ impl Branches {
             let visited = queue.zones[next];
             let distance = self.distance(visited).unwrap() + 1;
             for neighbour in grid.neighbours(visited) {
-                let has_room = has_room_over(rooms, neighbour.arc, towards);
                 let step = Neighbour {
                     arc: neighbour.arc,
                     zone: visited,
                 };
-                self.meet(&mut queue, has_room, neighbour.zone, distance, step);
+                self.meet(&mut queue, rooms, towards, neighbour.zone, distance, step);
             }
             next += 1;
         }
     }
 
     // Meets a zone, so many arcs far over a step: adds it if it was not found before and there is room.
-    fn meet(&mut self, queue: &mut Queue, has_room: bool, zone: u32, distance: u32, step: Neighbour)
+    fn meet(
+        &mut self,
+        queue: &mut Queue,
+        rooms: &Rooms,
+        towards: bool,
+        zone: u32,
+        distance: u32,
+        step: Neighbour,
+    )
+        requires border { step.arc.border < length rooms.now }
         requires zone { zone < 64 }
         requires place { slice_index_or self.old.distances zone None ≡ None → queue.old.count < 64 }
-        ensures { search_over self.new queue.new ≡ first_met has_room (search_over self.old queue.old) zone distance step }
+        ensures { search_over self.new queue.new ≡ first_met (has_room (directed_room (room_of rooms.now) (not towards)) step.arc) (search_over self.old queue.old) zone distance step }
     {
         let place = zone as usize;
-        if self.distances[place].is_none() && has_room {
+        if self.distances[place].is_none() && has_room_over(rooms, step.arc, towards) {
             self.distances[place] = Some(distance);
             self.steps[place] = step;
             queue.add(zone);

@@ -1,10 +1,9 @@
 use Rattle.std.proofs.Common.{rules, ◌∙◌, ◌+◌, ℕ, inl, inr, false, not, get_or, sym, ap, subst, refl, arith}
-use Rattle.zone_graph.specs.declared.grid.Neighbour.{Neighbour}
 use Rattle.zone_graph.specs.Rooms.{room_of}
 use Rattle.cut_proof.specs.Distance.{arcs_of_distance, directed_room}
 use Rattle.cut_proof.proofs.Neighbours.{neighbour_at, neighbour_within}
 use Rattle.cut_proof.proofs.Searches.{spaces_in}
-use Rattle.route_choice.specs.Search.{Search, first_met, search_over, no_step}
+use Rattle.route_choice.specs.Search.{Search, search_over, no_step}
 use Rattle.route_choice.proofs.FromSearch.{IsReadyFrom, IsVisitingFrom, begun_over, from_begins, from_ends, from_meets, from_started, search_found}
 use Rattle.route_choice.proofs.search.Branches.find_zones.Goals as goal
 
@@ -27,8 +26,8 @@ loop-neighbour-init c = record {
   neighbours = c.neighbours-neighbour-items.ensures.neighbours;
 }
 
-pub has_room_over-has_room-requires : goal.has_room_over-has_room-requires
-has_room_over-has_room-requires c =
+pub meet-requires-clause-border : goal.meet-requires-clause-border
+meet-requires-clause-border c =
     let known = (neighbour_at c.args.grid.now _ c.neighbours-neighbour-items.result.now c.loop-neighbour.neighbour-index no_step
     c.zones-zones.ensures.grid.is_graph c.neighbours-neighbour-items.ensures.neighbours c.loop-neighbour-test.true).known in
     omega (arith, known, c.requires.size)
@@ -50,16 +49,13 @@ loop-neighbour-preserved c = record {
   grid = c.zones-zones.ensures.grid;
   low = c.loop-neighbour.invariant.low;
   visiting =
-      let neighbour : Neighbour = get_or c.neighbours-neighbour-items.result.now c.loop-neighbour.neighbour-index no_step in
       let visited : ℕ = (get_or c.loop-next.queue.zones c.loop-next.next 0) in
       let meets = from_meets c.args.grid.now (directed_room (room_of c.args.rooms.now) (not c.args.towards)) c.args.zone (search_over c.loop-neighbour.self c.loop-neighbour.queue) c.loop-next.next visited
       (c.unwrap-distance.result + 1) c.neighbours-neighbour-items.result.now c.loop-neighbour.neighbour-index c.zones-zones.ensures.grid c.neighbours-neighbour-items.ensures.neighbours
       c.loop-neighbour-test.true c.loop-neighbour.invariant.low c.loop-neighbour.invariant.visiting in
       subst (λ (s : Search). IsVisitingFrom c.args.grid.now (directed_room (room_of c.args.rooms.now) (not c.args.towards)) c.args.zone s c.loop-next.next visited
       (c.unwrap-distance.result + 1) c.neighbours-neighbour-items.result.now (c.loop-neighbour.neighbour-index + 1))
-      (sym (c.meet.ensures
-      ∙ ap (λ b. first_met b (search_over c.loop-neighbour.self c.loop-neighbour.queue) neighbour.zone (c.unwrap-distance.result + 1) (record { arc = neighbour.arc; zone = visited }))
-      c.has_room_over-has_room.ensures)) meets;
+      (sym c.meet.ensures) meets;
   neighbours = c.neighbours-neighbour-items.ensures.neighbours;
 }
 
