@@ -1,5 +1,5 @@
 -- The views of an hour without events are empty, and no arc has room.
-use Rattle.std.proofs.Common.{◌≡◌, ◌∙◌, ◌<◌, ◌≤◌, ℕ, zero, suc, List, [], get_or, length, replicate, map, None, refl, sym, ap, subst, arith}
+use Rattle.std.proofs.Common.{◌≡◌, ◌∙◌, ◌<◌, ◌≤◌, ℕ, zero, suc, [], get_or, length, replicate, map, None, refl, sym, ap, subst, arith}
 use Rattle.std.proofs.lemmas.List.{get_or-replicate}
 use Rattle.order_kinds.specs.declared.contract.Contract.{Contract}
 use Rattle.order_kinds.specs.declared.side.Side.{Side}

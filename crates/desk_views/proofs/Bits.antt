@@ -1,7 +1,7 @@
 -- The zones that are touched, as bits.
-use Rattle.std.proofs.Common.{◌≡◌, ◌∙◌, ℕ, ◌<◌, ◌&&◌, ◌||◌, Bool, true, false, List, [], ◌∷◌, filter, length, refl, ap, arith}
+use Rattle.std.proofs.Common.{◌≡◌, ◌∙◌, ℕ, ◌&&◌, ◌||◌, Bool, true, false, List, [], ◌∷◌, filter, length, refl, ap, arith}
 use Rattle.std.specs.Int.RustNames.{bit_or}
-use Rattle.std.specs.List.{list_any, range_with_len}
+use Rattle.std.specs.List.{range_with_len}
 use Rattle.order_kinds.specs.declared.side.Side.{Side}
 use Rattle.cut_proof.specs.ZoneSet.{holds}
 use Rattle.zone_graph.specs.declared.route.Arc.{Arc}

@@ -1,5 +1,5 @@
 -- The rows that a part and side will have, where they were made anew and where none were.
-use Rattle.std.proofs.Common.{◌≡◌, ◌∙◌, ◌<◌, ℕ, List, [], get_or, None, refl, sym, ap, subst, arith}
+use Rattle.std.proofs.Common.{◌≡◌, ◌∙◌, ℕ, List, [], get_or, None, sym, ap, subst, arith}
 use Rattle.order_kinds.specs.declared.side.Side.{Side}
 use Rattle.order_kinds.specs.Contract.{contract_at}
 use Rattle.zone_graph.specs.Graph.{zone_count}

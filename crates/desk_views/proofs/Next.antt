@@ -1,12 +1,10 @@
 -- What is next after a refresh.
-use Rattle.std.proofs.Common.{◌≡◌, ◌∙◌, ◌<◌, ◌≤◌, ℕ, zero, suc, Bool, true, false, List, [], get_or, length, replicate, Option, Some, None, unwrap_or, refl, sym, ap, subst, arith}
-use Rattle.std.proofs.lemmas.Bool.{true≢false}
+use Rattle.std.proofs.Common.{◌≡◌, ◌∙◌, ◌<◌, ◌≤◌, ℕ, zero, suc, Bool, true, false, List, [], get_or, length, replicate, unwrap_or, refl, sym, ap, arith}
 use Rattle.std.specs.Int.RustNames.{bit_or}
 use Rattle.contract_book.specs.Book.{line_number}
 use Rattle.order_kinds.specs.declared.side.Side.{Side}
-use Rattle.order_kinds.specs.declared.side.Side.TheVariants.{Buy, Sell}
 use Rattle.order_kinds.specs.Contract.{contract_at}
-use Rattle.zone_graph.specs.Graph.{Graph, HasArc, IsGraph, border_count, zone_count}
+use Rattle.zone_graph.specs.Graph.{IsGraph, zone_count}
 use Rattle.hour_store.specs.Changed.{no_zones, zones_of}
 use Rattle.kept_hour.specs.Changed.{AreBoards, AreRoomsSettled, AreSeenElsewhere}
 use Rattle.kept_hour.specs.State.{HourState, settled_board}

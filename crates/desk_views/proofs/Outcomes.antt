@@ -1,5 +1,5 @@
 -- What holds where a call was well, or was not.
-use Rattle.std.proofs.Common.{◌≡◌, Result, Ok, Err, IsOk, OnErr, OnOk}
+use Rattle.std.proofs.Common.{Result, Ok, Err, OnErr, OnOk}
 
 pub on_ok : {X E : Type 0} {P Q : Type 0} (result : Result X E) → (P → Q) → OnOk result P → OnOk result Q
 on_ok (Ok x) f p = f p

@@ -1,9 +1,9 @@
 -- What a desk's refresh is given, and what it leaves.
-use Rattle.std.proofs.Common.{◌≡◌, ◌∙◌, ◌++◌, ◌<◌, ◌≤◌, ℕ, Bool, true, false, List, [], get_or, length, take, None, unwrap_or, refl, sym, ap, subst, arith}
+use Rattle.std.proofs.Common.{◌≡◌, ◌∙◌, ◌++◌, ◌<◌, ◌≤◌, ℕ, Bool, true, false, List, [], get_or, length, take, None, unwrap_or, sym, ap, subst, arith}
 use Rattle.std.proofs.Math.Seq.{take-append_seam}
 use Rattle.order_kinds.specs.declared.side.Side.{Side}
 use Rattle.order_kinds.specs.Contract.{contract_at}
-use Rattle.zone_graph.specs.Graph.{Graph, IsGraph, border_count, zone_count}
+use Rattle.zone_graph.specs.Graph.{Graph, IsGraph, zone_count}
 use Rattle.zone_graph.specs.Grid.{IsGrid}
 use Rattle.laws_of_views.specs.Changes.{RoomsDifferWithin}
 use Rattle.kept_hour.specs.Changed.{AreBoards, AreRoomsSettled, AreSeenElsewhere}

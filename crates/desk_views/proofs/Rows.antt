@@ -1,13 +1,12 @@
 -- The rows of a part and side of views that are forgotten, adopted or made anew.
-use Rattle.std.proofs.Common.{◌≡◌, ◌∙◌, ℕ, ◌<◌, List, [], get_or, length, map, Option, None, refl, sym, ap, subst}
+use Rattle.std.proofs.Common.{◌≡◌, ◌∙◌, ℕ, get_or, length, None, refl, sym, ap}
 use mathlib.Core.List.{map-map}
 use Rattle.std.proofs.Math.ListN.{get_or-map}
 use Rattle.std.proofs.lemmas.List.{length-map}
 use Rattle.order_kinds.specs.declared.side.Side.{Side}
 use Rattle.order_kinds.specs.declared.side.Side.TheVariants.{Buy, Sell}
-use Rattle.market_model.specs.declared.reply.ViewRow.{ViewRow}
 use Rattle.local_view.specs.declared.part_views.PartViews.{PartViews}
-use Rattle.local_view.specs.Kept.{Views, adopted, adopted_rows, forgotten, line_of, no_part, on_side, part_adopted, part_forgotten, views_adopted, views_forgotten}
+use Rattle.local_view.specs.Kept.{Views, adopted, forgotten, line_of, no_part, on_side, part_adopted, part_forgotten, views_adopted, views_forgotten}
 use Rattle.local_view.specs.Rows.{LineRows}
 use Rattle.desk_views.specs.Desk.{views_with_made}
 

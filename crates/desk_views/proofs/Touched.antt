@@ -1,13 +1,11 @@
 -- An hour as it is planned differs from the hour as it is settled in touched zones alone.
-use Rattle.std.proofs.Common.{◌≡◌, ◌≢◌, ◌∙◌, ◌⊎◌, inl, inr, ℕ, ◌<◌, ◌≤◌, ◌==◌, ◌&&◌, ◌||◌, Bool, true, false, not, List, [], ◌∷◌, refl, sym, ap, subst, arith, eq-eqb, eqb-true}
+use Rattle.std.proofs.Common.{◌≡◌, ◌∙◌, inl, inr, ℕ, ◌≤◌, ◌==◌, ◌&&◌, ◌||◌, Bool, true, false, not, List, refl, sym, ap, arith, eq-eqb}
 use Rattle.std.proofs.lemmas.Bool.{and_from, and_parts, cases_eq, ne_eqb, true≢false}
 use Rattle.std.specs.Int.RustNames.{bit_or}
-use Rattle.std.specs.List.{list_any, range_with_len}
+use Rattle.std.specs.List.{range_with_len}
 use Rattle.order_kinds.specs.declared.contract.Contract.{Contract}
 use Rattle.order_kinds.specs.declared.side.Side.{Side}
-use Rattle.order_kinds.specs.Contract.{contract_at}
 use Rattle.order_kinds.specs.Period.{contract_quarters}
-use Rattle.cut_proof.specs.ZoneSet.{holds}
 use Rattle.zone_graph.specs.declared.route.Arc.{Arc}
 use Rattle.zone_graph.specs.Graph.{Graph, HasArc, HasZone, IsGraph, border_count, end_of, ends_of, start_of, zone_count}
 use Rattle.zone_graph.specs.Rooms.{room_of}

@@ -6,7 +6,6 @@ use Rattle.order_kinds.specs.declared.side.Side.TheVariants.{Buy, Sell}
 use Rattle.order_kinds.specs.Contract.{contract_at}
 use Rattle.zone_graph.specs.Graph.{Graph, zone_count}
 use Rattle.zone_graph.specs.Rooms.{room_of}
-use Rattle.market_model.specs.declared.reply.ViewRow.{ViewRow}
 use Rattle.market_model.specs.Board.{BoardState}
 use Rattle.laws_of_views.specs.Nearby.{DifferWithin}
 use Rattle.local_view.specs.Boards.{AreRoomsOf, view_of}

@@ -1,5 +1,5 @@
 use Rattle.std.proofs.lemmas.Bool.{false≢true}
-use Rattle.std.proofs.Common.{◌≡◌, ◌≢◌, ◌∙◌, ◌+◌, ◌^◌, ◌<◌, ◌≤◌, ℕ, [], get_or, refl, sym, ap, arith}
+use Rattle.std.proofs.Common.{◌∙◌, ◌^◌, ◌<◌, [], get_or, refl, sym, ap, arith}
 use Rattle.order_kinds.specs.declared.side.Side.TheVariants.{Buy, Sell}
 use Rattle.zone_graph.proofs.Places.{at_any}
 use Rattle.local_view.specs.Kept.{line_of}

@@ -1,4 +1,4 @@
-use Rattle.std.proofs.Common.{◌≡◌, ◌∙◌, ◌+◌, ◌<◌, ℕ, [], get_or, length, ap, arith}
+use Rattle.std.proofs.Common.{◌≡◌, ◌∙◌, ◌<◌, [], get_or, length, ap, arith}
 use Rattle.zone_graph.proofs.Places.{at_any}
 use Rattle.local_view.specs.Boards.{AreRoomsOf}
 use Rattle.desk_views.proofs.Lists.{each-set}

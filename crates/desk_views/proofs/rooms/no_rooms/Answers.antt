@@ -1,4 +1,4 @@
-use Rattle.std.proofs.Common.{◌≡◌, ◌∙◌, ◌+◌, ◌<◌, ◌++◌, ◌∷◌, [], get_or, length, length-append, ap, subst, sym, arith}
+use Rattle.std.proofs.Common.{◌≡◌, ◌++◌, ◌∷◌, [], get_or, length, length-append, ap, subst, sym, arith}
 use Rattle.desk_views.specs.Insides.{HasNoRoom}
 use Rattle.desk_views.proofs.Lists.{each-push}
 use Rattle.desk_views.proofs.rooms.no_rooms.Goals as goal

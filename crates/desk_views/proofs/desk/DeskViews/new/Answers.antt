@@ -1,5 +1,5 @@
 use Rattle.std.proofs.Common.{◌∙◌, None, ap, replicate}
-use Rattle.local_view.specs.Kept.{Views, empty_part}
+use Rattle.local_view.specs.Kept.{empty_part}
 use Rattle.desk_views.specs.Desk.{DeskState}
 use Rattle.desk_views.proofs.Beginning.{begins}
 use Rattle.desk_views.proofs.desk.DeskViews.new.Goals as goal

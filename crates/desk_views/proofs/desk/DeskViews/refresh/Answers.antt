@@ -1,6 +1,4 @@
-use Rattle.std.proofs.Common.{◌++◌, List, drop, length, refl}
-use Rattle.desk_views.specs.Desk.{DeskState}
-use Rattle.desk_views.specs.Insides.{planned_if}
+use Rattle.std.proofs.Common.{drop, length, refl}
 use Rattle.desk_views.proofs.Next.{touched-none}
 use Rattle.desk_views.proofs.Refreshed.{all-still, inside-back, kept-made, near, near-made, next-stands, written-back}
 use Rattle.desk_views.proofs.desk.DeskViews.refresh.Goals as goal
