@@ -26,6 +26,10 @@ store-is-text : IsUtf8 (codes "store")
 unfolding encode_utf8
 store-is-text = (codes "store", (refl, refl))
 
+recover-is-text : IsUtf8 (codes "recover")
+unfolding encode_utf8
+recover-is-text = (codes "recover", (refl, refl))
+
 generate-is-text : IsUtf8 (codes "generate")
 unfolding encode_utf8
 generate-is-text = (codes "generate", (refl, refl))
@@ -36,7 +40,7 @@ asking-is-text [] asked = absurd (true≢false (sym asked))
 asking-is-text (word ∷ []) asked = only
   where
     only : (i : ℕ) (d : List ℕ) → i < 1 → IsUtf8 (get_or (word ∷ []) i d)
-    only zero d within = one-word IsUtf8 replay-is-text audit-is-text ship-is-text store-is-text word asked
+    only zero d within = one-word IsUtf8 replay-is-text audit-is-text ship-is-text store-is-text recover-is-text word asked
     only (suc i) d within = absurd (omega (arith, within))
 asking-is-text (word ∷ count ∷ []) asked = by (bytes_eq word (codes "generate")) refl asked
   where
@@ -54,14 +58,16 @@ asking-is-text (word ∷ count ∷ more ∷ words) asked = absurd (true≢false 
 pub asked_in_range : (words : List (List ℕ)) → IsInRange (task_of words)
 asked_in_range [] = tt
 asked_in_range (word ∷ []) =
-    one (bytes_eq word (codes "replay")) (bytes_eq word (codes "audit")) (bytes_eq word (codes "ship")) (bytes_eq word (codes "store"))
+    one (bytes_eq word (codes "replay")) (bytes_eq word (codes "audit")) (bytes_eq word (codes "ship")) (bytes_eq word (codes "store")) (bytes_eq word (codes "recover"))
   where
-    one : (a b c d : Bool) → IsInRange (if a then Some task.Replay else if b then Some task.Audit else if c then Some task.Ship else if d then Some task.Store else None)
-    one true b c d = tt
-    one false true c d = tt
-    one false false true d = tt
-    one false false false true = tt
-    one false false false false = tt
+    one : (a b c d e : Bool) → IsInRange (if a then Some task.Replay else if b then Some task.Audit else if c then Some task.Ship
+        else if d then Some task.Store else if e then Some task.Recover else None)
+    one true b c d e = tt
+    one false true c d e = tt
+    one false false true d e = tt
+    one false false false true e = tt
+    one false false false false true = tt
+    one false false false false false = tt
 asked_in_range (word ∷ count ∷ []) = two (bytes_eq word (codes "generate"))
   where
     counted : (o : Option ℕ) → count_of count ≡ o → IsInRange (option_map task.Generate o)

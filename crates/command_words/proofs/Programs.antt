@@ -37,28 +37,40 @@ store-parsed : IsParsed (codes "store" ∷ [])
 unfolding clap_on_literals
 store-parsed = (refl, refl)
 
--- what holds of the four words holds of each one that asks for something
-pub one-word : (P : List ℕ → Type 0) → P (codes "replay") → P (codes "audit") → P (codes "ship") → P (codes "store")
+recover-parsed : IsParsed (codes "recover" ∷ [])
+unfolding clap_on_literals
+recover-parsed = (refl, refl)
+
+-- what holds of the five words holds of each one that asks for something
+pub one-word : (P : List ℕ → Type 0) → P (codes "replay") → P (codes "audit") → P (codes "ship") → P (codes "store") → P (codes "recover")
     → (word : List ℕ) → is_some (task_of_word word) ≡ true → P word
-one-word P replay audit ship store word asked = first (bytes_eq word (codes "replay")) refl asked
+one-word P replay audit ship store recover word asked = first (bytes_eq word (codes "replay")) refl asked
   where
-    fourth : (b : Bool) → bytes_eq word (codes "store") ≡ b → is_some (if b then Some task.Store else None) ≡ true → P word
+    fifth : (b : Bool) → bytes_eq word (codes "recover") ≡ b → is_some (if b then Some task.Recover else None) ≡ true → P word
+    fifth true same asked = subst P (sym ((bytes_eq-Decides word (codes "recover")).0 same)) recover
+    fifth false same asked = absurd (true≢false (sym asked))
+
+    fourth : (b : Bool) → bytes_eq word (codes "store") ≡ b
+        → is_some (if b then Some task.Store else if bytes_eq word (codes "recover") then Some task.Recover else None) ≡ true → P word
     fourth true same asked = subst P (sym ((bytes_eq-Decides word (codes "store")).0 same)) store
-    fourth false same asked = absurd (true≢false (sym asked))
+    fourth false same asked = fifth (bytes_eq word (codes "recover")) refl asked
 
     third : (b : Bool) → bytes_eq word (codes "ship") ≡ b
-        → is_some (if b then Some task.Ship else if bytes_eq word (codes "store") then Some task.Store else None) ≡ true → P word
+        → is_some (if b then Some task.Ship else if bytes_eq word (codes "store") then Some task.Store
+        else if bytes_eq word (codes "recover") then Some task.Recover else None) ≡ true → P word
     third true same asked = subst P (sym ((bytes_eq-Decides word (codes "ship")).0 same)) ship
     third false same asked = fourth (bytes_eq word (codes "store")) refl asked
 
     second : (b : Bool) → bytes_eq word (codes "audit") ≡ b
-        → is_some (if b then Some task.Audit else if bytes_eq word (codes "ship") then Some task.Ship else if bytes_eq word (codes "store") then Some task.Store else None) ≡ true → P word
+        → is_some (if b then Some task.Audit else if bytes_eq word (codes "ship") then Some task.Ship else if bytes_eq word (codes "store") then Some task.Store
+        else if bytes_eq word (codes "recover") then Some task.Recover else None) ≡ true → P word
     second true same asked = subst P (sym ((bytes_eq-Decides word (codes "audit")).0 same)) audit
     second false same asked = third (bytes_eq word (codes "ship")) refl asked
 
     first : (b : Bool) → bytes_eq word (codes "replay") ≡ b
         → is_some (if b then Some task.Replay else if bytes_eq word (codes "audit") then Some task.Audit
-        else if bytes_eq word (codes "ship") then Some task.Ship else if bytes_eq word (codes "store") then Some task.Store else None) ≡ true → P word
+        else if bytes_eq word (codes "ship") then Some task.Ship else if bytes_eq word (codes "store") then Some task.Store
+        else if bytes_eq word (codes "recover") then Some task.Recover else None) ≡ true → P word
     first true same asked = subst P (sym ((bytes_eq-Decides word (codes "replay")).0 same)) replay
     first false same asked = second (bytes_eq word (codes "audit")) refl asked
 
@@ -104,7 +116,7 @@ some-count (Some n) asked = (n, refl)
 
 pub parses : (words : List (List ℕ)) → is_some (task_of words) ≡ true → IsParsed words
 parses [] asked = absurd (true≢false (sym asked))
-parses (word ∷ []) asked = one-word (λ w. IsParsed (w ∷ [])) replay-parsed audit-parsed ship-parsed store-parsed word asked
+parses (word ∷ []) asked = one-word (λ w. IsParsed (w ∷ [])) replay-parsed audit-parsed ship-parsed store-parsed recover-parsed word asked
 parses (word ∷ count ∷ []) asked = by (bytes_eq word (codes "generate")) refl asked
   where
     by : (b : Bool) → bytes_eq word (codes "generate") ≡ b → is_some (if b then option_map task.Generate (count_of count) else None) ≡ true

@@ -33,13 +33,19 @@ ship = new_app (codes "ship")
 abbrev pub with_record_words : App → App
 with_record_words line = with_subcommand (with_subcommand line audit.top) ship.top
 
--- the word `store`, with nothing behind it
+-- the words `store` and `recover`, with nothing behind them
 abbrev pub store : App
 store = new_app (codes "store")
 
+abbrev pub recover : App
+recover = new_app (codes "recover")
+
+abbrev pub with_disk_words : App → App
+with_disk_words line = with_subcommand (with_subcommand line store.top) recover.top
+
 -- the command line of the program
 abbrev pub program : App
-program = with_subcommand (with_record_words session_words) store.top
+program = with_disk_words (with_record_words session_words)
 
 -- what the matches ask for, if they ask for anything
 abbrev pub task_matched : Option (Text × List Row) → Option Task

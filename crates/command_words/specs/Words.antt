@@ -21,6 +21,7 @@ task_of_word word =
     else if bytes_eq word (codes "audit") then Some task.Audit
     else if bytes_eq word (codes "ship") then Some task.Ship
     else if bytes_eq word (codes "store") then Some task.Store
+    else if bytes_eq word (codes "recover") then Some task.Recover
     else None
 
 -- what a list of words asks for, if it asks for anything: one word that does, or `generate` and a
@@ -39,9 +40,9 @@ IsInRange _ = Unit {0}
 abbrev pub ReadsRecord : Option Task → Type 0
 ReadsRecord asked = (asked ≡ Some task.Audit) ⊎ (asked ≡ Some task.Ship)
 
--- words that work on a disk: `store`
+-- words that work on a disk: `store` and `recover`
 abbrev pub WorksOnDisk : Option Task → Type 0
-WorksOnDisk asked = asked ≡ Some task.Store
+WorksOnDisk asked = (asked ≡ Some task.Store) ⊎ (asked ≡ Some task.Recover)
 
 -- the one word `trade`
 abbrev pub is_trade : List (List ℕ) → Bool

@@ -63,7 +63,7 @@ fn program<'a>(alloc: Global) -> Result<Command<'a>, AllocError>
 {
     let line = session_words(alloc)?;
     let line = with_record_words(alloc, line)?;
-    line.subcommand(Command::new(alloc, "store"))
+    with_disk_words(alloc, line)
 }
 
 // The command line with the words that play a session alone.
@@ -87,6 +87,15 @@ fn with_record_words<'a>(alloc: Global, line: Command<'a>) -> Result<Command<'a>
     let audit = Command::new(alloc, "audit");
     let ship = Command::new(alloc, "ship");
     line.subcommand(audit)?.subcommand(ship)
+}
+
+// The same command line with the words that work on a disk.
+fn with_disk_words<'a>(alloc: Global, line: Command<'a>) -> Result<Command<'a>, AllocError>
+    ensures { IfOk result (λ command. app_of command ≡ asked.with_disk_words (app_of line.entry)) }
+{
+    let store = Command::new(alloc, "store");
+    let recover = Command::new(alloc, "recover");
+    line.subcommand(store)?.subcommand(recover)
 }
 
 // What the matches ask for.

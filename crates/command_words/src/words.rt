@@ -19,6 +19,9 @@ pub enum Task {
     /// `store`: plays a session in the order of its lines, appends the line of each entry to a durable journal on a disk,
     /// and writes the image of the disk.
     Store,
+    /// `recover`: reads a session and the image of a disk, plays on behind the lines that the image stores, and writes the
+    /// whole journal.
+    Recover,
     /// `generate N`: plays the session that is generated for so many commands, and writes the
     /// summary of its journal.
     Generate {
@@ -65,6 +68,8 @@ pub(crate) fn task_of_word(word: &[u8]) -> Option<Task>
         Some(Task::Ship)
     } else if word == b"store".as_slice() {
         Some(Task::Store)
+    } else if word == b"recover".as_slice() {
+        Some(Task::Recover)
     } else {
         None
     }

@@ -28,7 +28,7 @@ pub enum Status {
     /// its journal or an image, and 67108864 for the image; or the stored lines of a journal would be
     /// longer than 67108864 bytes.
     TooLong,
-    /// The journal of a session is not complete.
+    /// The journal of a session is not complete, or a stored line is not that of the market.
     Illegal {
         /// Its first fault, counted from 1.
         entry: u64,

@@ -1,7 +1,5 @@
 -- An empty disk stores no line, and is not damaged.
-use Rattle.std.proofs.Common.{◌≡◌, ℕ, List, [], Option, Some, arith}
-use Rattle.disk_model.specs.Contents.{Contents, settled}
-use Rattle.durable_journal.specs.Resting.{HoldsLines}
+use Rattle.std.proofs.Common.{◌≡◌, ℕ, List, [], arith}
 use Rattle.durable_journal.specs.Stored.{IsDamaged, StoresLines, Stores}
 use Rattle.durable_journal.proofs.Parsing.{short_stores_none}
 use Rattle.durable_journal.proofs.Steps.{short_stores}

@@ -1,11 +1,11 @@
 -- The stored lines of a journal that grows, and what they take on a disk.
-use Rattle.std.proofs.Common.{◌≡◌, ◌∙◌, ℕ, ◌+◌, ◌-◌, ◌<◌, List, [], ◌∷◌, ◌++◌, codes, length, length-append, take, refl, sym, ap, arith}
+use Rattle.std.proofs.Common.{◌≡◌, ◌∙◌, ℕ, ◌+◌, ◌-◌, ◌<◌, List, [], ◌∷◌, ◌++◌, codes, length, length-append, take, ap, arith}
 use Rattle.std.proofs.lemmas.List.{take_at}
 use Rattle.durable_journal.specs.Stored.{blocks, image_of}
 use Rattle.durable_journal.specs.Appending.{size_behind}
 use Rattle.durable_journal.proofs.Blocks.{length-blocks_more}
 use Rattle.journal_print.specs.Json.{braces}
-use Rattle.journal_print.specs.Line.{entry_line, entry_members}
+use Rattle.journal_print.specs.Line.{entry_line}
 use Rattle.market_model.specs.declared.entry.Entry.{Entry}
 use Rattle.market_model.specs.declared.setup.Setup.{Setup}
 use Rattle.stored_journal.specs.Lines.{stored_from, stored_line, stored_lines}

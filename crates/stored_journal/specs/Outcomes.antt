@@ -1,5 +1,4 @@
 -- How a call on the disk of a journal ends a run.
-use Rattle.std.specs.Prelude.{ℕ}
 use Rattle.run_status.specs.declared.status.Status.{Status}
 use Rattle.run_status.specs.declared.status.Status.TheVariants as status
 

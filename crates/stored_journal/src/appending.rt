@@ -1,6 +1,7 @@
 //! The line of an entry is appended to a disk.
 
 ghost use Rattle.std.specs.Prelude.{◌≡◌, ℕ, ◌-◌, ◌<◌, ◌≤◌, List, [], ◌∷◌, ◌++◌, length, take, Err, IfOk, IfErr, OnOk};
+ghost use Rattle.std.specs.Str.{bytes_eq};
 ghost use Rattle.outside.specs.Faults.{Rose};
 ghost use Rattle.disk_model.specs.Moments.{LeavesOnly};
 ghost use Rattle.durable_journal.specs.Appending.{StoresOldOrNew, end_behind, most_stored, size_behind};
@@ -16,6 +17,7 @@ use journal_print::print_entry;
 use market_model::{Entry, Setup};
 use run_status::Status;
 use std::alloc::Global;
+use zone_graph::NoMemory;
 
 /// Appends the line of an entry, without its line feed, to those that a disk stores, and answers where they end then.
 ///
@@ -84,6 +86,26 @@ fn append_line<D: Disk>(alloc: Global, disk: &mut D, at: At, line: &[u8]) -> Res
         Err(AppendFault::TooLarge { .. }) => Err(Status::TooLong),
         Err(AppendFault::NoMemory { .. }) => Err(Status::NoMemory),
     }
+}
+
+/// Whether a stored line is that of an entry.
+///
+/// # Errors
+///
+/// [`NoMemory`] where memory runs out.
+pub fn is_line_of(
+    alloc: Global,
+    setup: &Setup,
+    place: u64,
+    entry: &Entry,
+    line: &[u8],
+) -> Result<bool, NoMemory>
+    requires named { IsNamed setup.now }
+    requires within { IsEntryIn setup.now entry.now }
+    ensures { IfOk result (λ same. same ≡ bytes_eq (stored_line setup.now place entry.now) line.now) }
+{
+    let text = print_entry(alloc, setup, place, entry)?;
+    Ok(without_line_feed(text.bytes()) == line)
 }
 
 // A line of a journal without the line feed that ends it.

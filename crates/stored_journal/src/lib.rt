@@ -4,5 +4,5 @@
 mod appending;
 mod images;
 
-pub use appending::append_entry;
-pub use images::{open_empty, read_image};
+pub use appending::{append_entry, is_line_of};
+pub use images::{open_empty, open_written, read_image};
