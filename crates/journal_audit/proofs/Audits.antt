@@ -14,7 +14,7 @@ use Rattle.market_text.specs.Commands.{commands_of}
 use Rattle.market_text.specs.declared.session.Session.{Session}
 use Rattle.session_io.specs.JournalText.{journal_text}
 use Rattle.session_journal.proofs.Journals.{count-callers}
-use Rattle.journal_audit.specs.Audit.{AreRight, IsComplete, IsFirstFault, IsFirstWanting, IsFirstWrong, IsJournalWith, IsNoJournal, IsRightThroughout, entries_named, times_named}
+use Rattle.journal_audit.specs.Audit.{AreRight, AreRightThroughout, IsComplete, IsFirstFault, IsFirstWanting, IsFirstWrongAmong, IsJournalWith, IsNoJournal, IsRightThroughout, entries_named, times_named}
 use Rattle.journal_audit.specs.Course.{IsNextLine, callers_of, entries_of, next_entry}
 use Rattle.journal_audit.specs.Lines.{caller_named, callers_named, journal_lines}
 use Rattle.journal_audit.proofs.NextEntries.{entry_with, journal-more, next-some, text-more, there}
@@ -111,15 +111,6 @@ module _ (session : Session) where
           ∙ ap (λ bytes. bytes ++ entry_line session.setup (length entries + 1) entry) (sym are.text) in
           (entry, record { named = e; next = next; text = append_cancel_left (concat lines) line (entry_line session.setup (length entries + 1) entry) whole })
 
--- the lines of a journal up to a rest were right, and these are their entries
-pub record IsAudited (session : Session) (journal rest : List ℕ) (entries : List Entry) : Type 0 where
-  pub lines : List (List ℕ)
-  pub whole : journal_lines journal ≡ lines ++ journal_lines rest
-  pub right : (place : ℕ) → place ≤ length lines → AreRight session (take place lines)
-  pub are : AreLines session entries lines
-  pub size : length lines ≡ length entries
-
-module _ (session : Session) (journal : List ℕ) where
   -- before the first line
   pub nothing-made : IsJournal session []
   unfolding run_after
@@ -128,22 +119,36 @@ module _ (session : Session) (journal : List ℕ) where
   nothing-named : AreLines session [] []
   nothing-named = record { named = All-nil (λ line. IsSome (caller_named session.setup line)); callers = refl; text = refl }
 
-  pub nothing-audited : IsAudited session journal journal []
+-- lines up to a rest were right, and these are their entries
+pub record AreAudited (session : Session) (all rest : List (List ℕ)) (entries : List Entry) : Type 0 where
+  pub lines : List (List ℕ)
+  pub whole : all ≡ lines ++ rest
+  pub right : (place : ℕ) → place ≤ length lines → AreRight session (take place lines)
+  pub are : AreLines session entries lines
+  pub size : length lines ≡ length entries
+
+-- so were those of a journal
+abbrev pub IsAudited : Session → (journal rest : List ℕ) → List Entry → Type 0
+IsAudited session journal rest entries = AreAudited session (journal_lines journal) (journal_lines rest) entries
+
+module _ (session : Session) (all : List (List ℕ)) where
+  -- before the first line
+  pub nothing-audited : AreAudited session all all []
   nothing-audited = record {
     lines = [];
     whole = refl;
-    right = λ place within. subst (AreRight session) (sym (take_all place [] (omega arith))) (are-right session [] [] nothing-made nothing-named);
-    are = nothing-named;
+    right = λ place within. subst (AreRight session) (sym (take_all place [] (omega arith))) (are-right session [] [] (nothing-made session) (nothing-named session));
+    are = nothing-named session;
     size = refl;
   }
 
   -- one more line, the next one
-  pub more-audited : (rest after : List ℕ) (entries : List Entry) (line : List ℕ) (entry : Entry) → IsAudited session journal rest entries
-      → journal_lines rest ≡ line ∷ journal_lines after → IsNextLine session entries line entry → IsJournal session (entries ++ entry ∷ [])
-      → IsAudited session journal after (entries ++ entry ∷ [])
+  pub more-audited : (rest after : List (List ℕ)) (entries : List Entry) (line : List ℕ) (entry : Entry) → AreAudited session all rest entries
+      → rest ≡ line ∷ after → IsNextLine session entries line entry → IsJournal session (entries ++ entry ∷ [])
+      → AreAudited session all after (entries ++ entry ∷ [])
   more-audited rest after entries line entry so_far first next made = record {
     lines = lines;
-    whole = so_far.whole ∙ ap (λ ls. so_far.lines ++ ls) first ∙ sym (append_assoc so_far.lines (line ∷ []) (journal_lines after));
+    whole = so_far.whole ∙ ap (λ ls. so_far.lines ++ ls) first ∙ sym (append_assoc so_far.lines (line ∷ []) after);
     right = right;
     are = are;
     size = length-append so_far.lines (line ∷ []) ∙ ap (λ n. n + 1) so_far.size ∙ sym (length-append entries (entry ∷ []));
@@ -163,36 +168,48 @@ module _ (session : Session) (journal : List ℕ) where
       ]
 
   -- a line that is not the next one is the first that is wrong
-  pub wrong-audited : (rest after : List ℕ) (entries : List Entry) (line : List ℕ) → IsAudited session journal rest entries → IsJournal session entries
-      → journal_lines rest ≡ line ∷ journal_lines after → ((entry : Entry) → ¬ IsNextLine session entries line entry)
-      → IsFirstWrong session journal (length entries + 1)
+  pub wrong-audited : (rest after : List (List ℕ)) (entries : List Entry) (line : List ℕ) → AreAudited session all rest entries → IsJournal session entries
+      → rest ≡ line ∷ after → ((entry : Entry) → ¬ IsNextLine session entries line entry)
+      → IsFirstWrongAmong session all (length entries + 1)
   wrong-audited rest after entries line so_far made first none = record {
     some = omega arith;
-    within = omega (arith, ap length whole, length-append so_far.lines (line ∷ journal_lines after), so_far.size);
+    within = omega (arith, ap length whole, length-append so_far.lines (line ∷ after), so_far.size);
     before = λ earlier below.
         let early : earlier ≤ length so_far.lines = omega (arith, below, so_far.size) in
-        subst (AreRight session) (sym (ap (take earlier) whole ∙ take-append-le earlier so_far.lines (line ∷ journal_lines after) early)) (so_far.right earlier early);
+        subst (AreRight session) (sym (ap (take earlier) whole ∙ take-append-le earlier so_far.lines (line ∷ after) early)) (so_far.right earlier early);
     wrong = λ right. let found = next-line session entries so_far.lines line made so_far.are (subst (AreRight session) upto right) in none found.0 found.1;
   }
     where
-      whole : journal_lines journal ≡ so_far.lines ++ (line ∷ journal_lines after)
+      whole : all ≡ so_far.lines ++ (line ∷ after)
       whole = so_far.whole ∙ ap (λ ls. so_far.lines ++ ls) first
 
-      upto : take (length entries + 1) (journal_lines journal) ≡ so_far.lines ++ line ∷ []
+      upto : take (length entries + 1) all ≡ so_far.lines ++ line ∷ []
       upto =
-          ap (take (length entries + 1)) (whole ∙ sym (append_assoc so_far.lines (line ∷ []) (journal_lines after)))
-          ∙ take_at (so_far.lines ++ line ∷ []) (journal_lines after) (length entries + 1) (omega (arith, length-append so_far.lines (line ∷ []), so_far.size))
+          ap (take (length entries + 1)) (whole ∙ sym (append_assoc so_far.lines (line ∷ []) after))
+          ∙ take_at (so_far.lines ++ line ∷ []) after (length entries + 1) (omega (arith, length-append so_far.lines (line ∷ []), so_far.size))
 
+  -- behind the last line all were right
+  module _ (entries : List Entry) (so_far : AreAudited session all [] entries) where
+    pub all-are : all ≡ so_far.lines
+    all-are = so_far.whole ∙ append-nil so_far.lines
+
+    pub right-throughout : AreRightThroughout session all
+    right-throughout place within =
+        subst (λ lines. AreRight session (take place lines)) (sym all-are) (so_far.right place (subst (λ lines. place ≤ length lines) all-are within))
+
+    pub callers-named : callers_named session.setup all ≡ callers_of entries
+    callers-named = ap (callers_named session.setup) all-are ∙ so_far.are.callers
+
+module _ (session : Session) (journal : List ℕ) where
   -- behind the last line
   module _ (entries : List Entry) (so_far : IsAudited session journal [] entries) (made : IsJournal session entries) where
     pub lines-are : journal_lines journal ≡ so_far.lines
     unfolding journal_lines
-    lines-are = so_far.whole ∙ append-nil so_far.lines
+    lines-are = all-are session (journal_lines journal) entries so_far
 
-    right-throughout : IsRightThroughout session journal
-    right-throughout place within =
-        subst (λ lines. AreRight session (take place lines)) (sym lines-are)
-        (so_far.right place (subst (λ lines. place ≤ length lines) lines-are within))
+    right : IsRightThroughout session journal
+    unfolding journal_lines
+    right = right-throughout session (journal_lines journal) entries so_far
 
     times : (caller : ℕ) → times_named session (journal_lines journal) caller ≡ entries_of entries caller
     times caller = ap (λ lines. times_named session lines caller) lines-are ∙ times-are session entries so_far.lines so_far.are.callers caller
@@ -200,14 +217,14 @@ module _ (session : Session) (journal : List ℕ) where
     -- where no caller has a command left the journal is complete
     pub complete-audited : ((caller : ℕ) → entries_of entries caller ≡ length (commands_of session.commands caller)) → IsJournalWith session journal entries
     complete-audited done = record {
-      complete = record { right = right-throughout; done = λ caller. times caller ∙ done caller };
+      complete = record { right = right; done = λ caller. times caller ∙ done caller };
       are = entries-are session entries so_far.lines made so_far.are.callers ∙ ap (entries_named session) (sym lines-are);
     }
 
     -- where one has, the next line is wanting
     pub wanting-audited : (caller : ℕ) → entries_of entries caller < length (commands_of session.commands caller) → IsFirstWanting session journal (length entries + 1)
     wanting-audited caller left = record {
-      right = right-throughout;
+      right = right;
       left = (caller, omega (arith, times caller, left));
       behind = omega (arith, ap length lines-are, so_far.size);
     }

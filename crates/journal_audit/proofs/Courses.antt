@@ -62,7 +62,7 @@ module _ (session : Session) (is_session : IsSession session) where
   room-is : (caller : ℕ) → room_of_caller session.setup caller ≡ length (commands_of session.commands caller)
   room-is caller = room-at session.setup.callers caller ∙ ap (λ ns. get_or ns caller 0) is_session.rooms ∙ get_or-map length session.commands caller []
 
-  commands-few : (caller : ℕ) → length (commands_of session.commands caller) ≤ 262144
+  pub commands-few : (caller : ℕ) → length (commands_of session.commands caller) ≤ 262144
   commands-few caller =
       let own = as-many session is_session caller in
       let most = count_by-le-length (λ turn. nat_eq turn caller) session.turns in

@@ -1,6 +1,7 @@
 -- The first line of a text, and how lines begin.
-use Rattle.std.proofs.Common.{◌≡◌, ◌≢◌, ◌∙◌, ℕ, ◌+◌, ◌<◌, ◌≤◌, ◌==◌, Bool, true, false, ◌&&◌, List, [], ◌∷◌, ◌++◌, append_assoc, drop, eq-eqb, eqb-true, get_or, length, nat_eq, take, Some, None, refl, sym, ap, arith}
+use Rattle.std.proofs.Common.{◌≡◌, ◌≢◌, ◌∙◌, ℕ, ◌+◌, ◌<◌, ◌≤◌, ◌==◌, Bool, true, false, ◌&&◌, List, [], ◌∷◌, ◌++◌, append_assoc, drop, eq-eqb, eqb-true, get_or, length, nat_eq, take, Some, None, refl, sym, ap, subst, arith}
 use Rattle.std.specs.Prelude.{codes, position}
+use Rattle.std.specs.Cmp.Lexicographic.{pointwise}
 use Rattle.std.specs.List.{starts_with}
 use Rattle.std.proofs.lemmas.Bool.Decides.{Decides-eqb}
 use Rattle.std.proofs.lemmas.List.{drop_all, take_all, take_more}
@@ -9,7 +10,9 @@ use Rattle.std.proofs.lemmas.List.Splits.{length-slice_split}
 use Rattle.std.proofs.lemmas.Slice.Eq.{starts_is}
 use Rattle.market_text.proofs.TextLemmas.{line_found, none_found}
 use Rattle.market_text.specs.Text.{lines_of}
-use Rattle.journal_audit.specs.Lines.{journal_lines, with_line_feeds}
+use Rattle.market_model.specs.declared.setup.Caller.{Caller}
+use Rattle.market_model.specs.declared.setup.Setup.{Setup}
+use Rattle.journal_audit.specs.Lines.{caller_named, journal_lines, line_start, with_line_feeds}
 
 -- ---- the first line
 
@@ -62,3 +65,36 @@ starts-none line front start none = by (starts_with nat_eq line (front ++ start)
         let is = (starts_is Decides-eqb line (front ++ start) (starts_with nat_eq line (front ++ start)) refl).0 e in
         absurd (none (start ++ drop (length (front ++ start)) line) (is ∙ append_assoc front start (drop (length (front ++ start)) line)))
     by false e = e
+
+-- ---- who is named by a line without its line feed
+
+-- behind the last byte of what a line begins with a line feed changes nothing
+starts-ended : (line start : List ℕ) → starts_with nat_eq (line ++ 10 ∷ []) (start ++ 44 ∷ []) ≡ starts_with nat_eq line (start ++ 44 ∷ [])
+starts-ended [] [] = refl
+starts-ended [] (byte ∷ start) = both-false (nat_eq byte 10) (pointwise nat_eq (start ++ 44 ∷ []) (take (length (start ++ 44 ∷ [])) [])) (none-left start)
+  where
+    both-false : (b c : Bool) → c ≡ false → (b && c) ≡ false
+    both-false true c is = is
+    both-false false c is = refl
+
+    none-left : (more : List ℕ) → pointwise nat_eq (more ++ 44 ∷ []) (take (length (more ++ 44 ∷ [])) []) ≡ false
+    none-left [] = refl
+    none-left (first ∷ more) = refl
+starts-ended (first ∷ line) [] = refl
+starts-ended (first ∷ line) (byte ∷ start) = ap (λ b. nat_eq byte first && b) (starts-ended line start)
+
+-- so a line names the caller that it names with the line feed
+pub named-ended : (setup : Setup) (line : List ℕ) → caller_named setup (line ++ codes "\n") ≡ caller_named setup line
+unfolding caller_named line_start
+named-ended setup line = λ i. position (λ (caller : Caller). same caller.name i) setup.callers
+  where
+    front : List ℕ → List ℕ
+    front name = codes "{\"caller\":\"" ++ (name ++ 34 ∷ [])
+
+    start : (name : List ℕ) → front name ++ 44 ∷ [] ≡ line_start name
+    start name =
+        append_assoc (codes "{\"caller\":\"") (name ++ 34 ∷ []) (44 ∷ [])
+        ∙ ap (λ bytes. codes "{\"caller\":\"" ++ bytes) (append_assoc name (34 ∷ []) (44 ∷ []))
+
+    same : (name : List ℕ) → starts_with nat_eq (line ++ codes "\n") (line_start name) ≡ starts_with nat_eq line (line_start name)
+    same name = subst (λ s. starts_with nat_eq (line ++ 10 ∷ []) s ≡ starts_with nat_eq line s) (start name) (starts-ended line (front name))

@@ -1,9 +1,9 @@
 -- The complete journals of a session are those of the orders of its commands.
-use Rattle.std.proofs.Common.{◌≡◌, ◌∙◌, inl, inr, ℕ, ◌+◌, ◌<◌, ◌≤◌, ◌==◌, Bool, true, false, not, cond, All, List, [], ◌∷◌, ◌++◌, append_assoc, codes, count_by, length, length-append, nat_eq, Some, eq-eqb, refl, sym, ap, subst, arith}
+use Rattle.std.proofs.Common.{◌≡◌, ◌∙◌, inl, inr, ℕ, ◌+◌, ◌<◌, ◌≤◌, ◌==◌, Bool, true, false, not, cond, All, List, [], ◌∷◌, ◌++◌, append_assoc, codes, count_by, get_or, length, length-append, nat_eq, Some, eq-eqb, refl, sym, ap, subst, arith}
 use Rattle.std.specs.List.{concat, filter_map, join_with_byte, slice_get}
-use Rattle.std.proofs.lemmas.Bool.{and_parts, cases_lt}
+use Rattle.std.proofs.lemmas.Bool.{and_parts, cases_lt, ne_eqb}
 use Rattle.std.proofs.lemmas.List.{append-nil, get_or_past, map-append, take_all}
-use Rattle.std.proofs.lemmas.List.Elements.{All-cons, All-nil}
+use Rattle.std.proofs.lemmas.List.Elements.{All-cons, All-head, All-nil, All-tail}
 use Rattle.std.proofs.lemmas.List.Splits.{join_with_byte-slice_split, length-slice_split, slice_split_at}
 use Rattle.std.proofs.lemmas.List.Sums.{sum_by-append, sum_by-cons}
 use Rattle.journal_print.specs.Json.{braces}
@@ -18,10 +18,11 @@ use Rattle.market_text.specs.Text.{lines_of}
 use Rattle.market_text.specs.declared.session.Session.{Session}
 use Rattle.session_io.specs.JournalText.{lines_from}
 use Rattle.session_journal.proofs.Journals.{count-callers}
-use Rattle.journal_audit.specs.Audit.{AreRight, IsComplete, IsJournalWith}
+use Rattle.laws_of_texts.specs.Lines.{IsLine}
+use Rattle.journal_audit.specs.Audit.{AreRight, AreRightThroughout, IsComplete, IsFirstWrongAmong, IsJournalWith}
 use Rattle.journal_audit.specs.Course.{IsNextLine, callers_of, entries_of}
-use Rattle.journal_audit.specs.Laws.{AreNamedApart, CompleteJournalsAreInOrder, FirstFaultIsOne, IsJournalInOrder, LinesMakeTheText}
-use Rattle.journal_audit.specs.Lines.{callers_named, journal_lines, with_line_feeds}
+use Rattle.journal_audit.specs.Laws.{AreNamedApart, CompleteJournalsAreInOrder, FirstFaultIsOne, IsJournalInOrder, LinesAreAudited, LinesMakeTheText}
+use Rattle.journal_audit.specs.Lines.{callers_named, ended_lines, journal_lines, with_line_feeds}
 use Rattle.journal_audit.proofs.Audits.{IsAudited, IsJournal, complete-audited, lines-are, more-audited, nothing-audited, nothing-made}
 use Rattle.journal_audit.proofs.LineTexts.{ended}
 use Rattle.journal_audit.proofs.NamedLines.{caller-is, line-begins}
@@ -56,12 +57,30 @@ none-feeds (byte ∷ bytes) one =
     other false is = refl
 
 -- a line and what follows it
-line-first : (body rest : List ℕ) → IsOneLine body → journal_lines ((body ++ codes "\n") ++ rest) ≡ (body ++ codes "\n") ∷ journal_lines rest
+line-first : (body rest : List ℕ) → All (λ byte. (byte == 10) ≡ false) body → journal_lines ((body ++ codes "\n") ++ rest) ≡ (body ++ codes "\n") ∷ journal_lines rest
 unfolding journal_lines
-line-first body rest one =
+line-first body rest none =
     let some : 1 ≤ length (lines_of rest) = omega (arith, length-slice_split (λ byte. byte == 10) rest) in
-    ap with_line_feeds (ap lines_of (append_assoc body (codes "\n") rest) ∙ slice_split_at (λ byte. byte == 10) body 10 rest (none-feeds body one) refl)
+    ap with_line_feeds (ap lines_of (append_assoc body (codes "\n") rest) ∙ slice_split_at (λ byte. byte == 10) body 10 rest none refl)
     ∙ ended body (lines_of rest) some
+
+-- lines without their line feeds
+lines-ended : (lines : List (List ℕ)) → All IsLine lines → journal_lines (concat (ended_lines lines)) ≡ ended_lines lines
+unfolding journal_lines
+lines-ended [] are = refl
+lines-ended (line ∷ lines) are =
+    line-first line (concat (ended_lines lines)) (λ k d within. ne_eqb (get_or line k d) 10 (All-head IsLine line lines are k d within))
+    ∙ ap (λ ls. (line ++ codes "\n") ∷ ls) (lines-ended lines (All-tail IsLine line lines are))
+
+pub lines-audited : LinesAreAudited
+lines-audited session lines are = (
+  (subst (AreRightThroughout session) (sym same), subst (AreRightThroughout session) same),
+  λ place.
+      (subst (λ ls. IsFirstWrongAmong session ls place) (sym same), subst (λ ls. IsFirstWrongAmong session ls place) same),
+)
+  where
+    same : journal_lines (concat (ended_lines lines)) ≡ ended_lines lines
+    same = lines-ended lines are
 
 -- ---- one first fault
 
@@ -128,8 +147,8 @@ module _ (session : Session) (is : IsSession session) (apart : AreNamedApart ses
   audit-on (caller ∷ future) past before same made enough audited =
       subst (IsEnded session journal) (append_assoc past (caller ∷ []) future)
       (audit-on future (past ++ caller ∷ []) (before ++ entry ∷ []) callers-more made-more enough-more
-      (more-audited session journal (line ++ after) after before line entry (subst (λ rest. IsAudited session journal rest before) text audited)
-      (line-first (braces (entry_members session.setup (length before + 1) entry)) after (one-entry session.setup is.named (length before + 1) entry))
+      (more-audited session (journal_lines journal) (journal_lines (line ++ after)) (journal_lines after) before line entry (subst (λ rest. IsAudited session journal rest before) text audited)
+      (line-first (braces (entry_members session.setup (length before + 1) entry)) after (none-feeds (braces (entry_members session.setup (length before + 1) entry)) (one-entry session.setup is.named (length before + 1) entry)))
       next made-more))
     where
       own-times : entries_of before caller ≡ times past caller
@@ -195,8 +214,8 @@ module _ (session : Session) (journal : List ℕ) (is : IsSession session) (apar
   pub ended-in-order : IsEnded session journal ordered.callers
   ended-in-order =
       let start : IsAudited session journal (lines_from session.setup 1 (run_of session.setup (in_turn session.commands ordered.callers))) [] =
-      subst (λ rest. IsAudited session journal rest []) ordered.text (nothing-audited session journal) in
-      audit-on session is apart journal ordered.callers [] [] refl (nothing-made session journal) (λ caller. omega (arith, ordered.order caller)) start
+      subst (λ rest. IsAudited session journal rest []) ordered.text (nothing-audited session (journal_lines journal)) in
+      audit-on session is apart journal ordered.callers [] [] refl (nothing-made session) (λ caller. omega (arith, ordered.order caller)) start
 
   -- is complete, with what the market makes of that order
   pub with-entries : IsJournalWith session journal (run_of session.setup (in_turn session.commands ordered.callers))

@@ -23,25 +23,33 @@ pub record AreRight (session : Session) (lines : List (List ℕ)) : Type 0 where
   pub given : (caller : ℕ) → times_named session lines caller ≤ length (commands_of session.commands caller)
   pub text : concat lines ≡ journal_text session.setup (entries_named session lines)
 
--- the line at a place of a journal, counted from 1, is right: the lines up to it are
-abbrev pub IsRight : Session → (journal : List ℕ) → (place : ℕ) → Type 0
-IsRight session journal place = AreRight session (take place (journal_lines journal))
+-- the line at a place among some, counted from 1, is right: the lines up to it are
+abbrev pub IsRightAt : Session → (lines : List (List ℕ)) → (place : ℕ) → Type 0
+IsRightAt session lines place = AreRight session (take place lines)
 
 -- so is every line
+abbrev pub AreRightThroughout : Session → (lines : List (List ℕ)) → Type 0
+AreRightThroughout session lines = (place : ℕ) → place ≤ length lines → IsRightAt session lines place
+
+-- so is every line of a journal
 abbrev pub IsRightThroughout : Session → (journal : List ℕ) → Type 0
-IsRightThroughout session journal = (place : ℕ) → place ≤ length (journal_lines journal) → IsRight session journal place
+IsRightThroughout session journal = AreRightThroughout session (journal_lines journal)
 
 -- a journal is complete: every line is right, and no caller has a command left
 pub record IsComplete (session : Session) (journal : List ℕ) : Type 0 where
   pub right : IsRightThroughout session journal
   pub done : (caller : ℕ) → times_named session (journal_lines journal) caller ≡ length (commands_of session.commands caller)
 
--- the first line that is not right
-pub record IsFirstWrong (session : Session) (journal : List ℕ) (place : ℕ) : Type 0 where
+-- the first of some lines that is not right
+pub record IsFirstWrongAmong (session : Session) (lines : List (List ℕ)) (place : ℕ) : Type 0 where
   pub some : 1 ≤ place
-  pub within : place ≤ length (journal_lines journal)
-  pub before : (earlier : ℕ) → earlier < place → IsRight session journal earlier
-  pub wrong : ¬ IsRight session journal place
+  pub within : place ≤ length lines
+  pub before : (earlier : ℕ) → earlier < place → IsRightAt session lines earlier
+  pub wrong : ¬ IsRightAt session lines place
+
+-- the first line of a journal that is not
+abbrev pub IsFirstWrong : Session → (journal : List ℕ) → (place : ℕ) → Type 0
+IsFirstWrong session journal place = IsFirstWrongAmong session (journal_lines journal) place
 
 -- every line is right, but a caller has a command left: the line that is wanting comes behind the last
 pub record IsFirstWanting (session : Session) (journal : List ℕ) (place : ℕ) : Type 0 where

@@ -1,6 +1,7 @@
 -- What holds of every audit.
-use Rattle.std.specs.Prelude.{◌≡◌, ◌≢◌, ℕ, ◌<◌, ◌==◌, ◌↔◌, List, Ok, count_by, length}
+use Rattle.std.specs.Prelude.{All, ◌≡◌, ◌≢◌, ℕ, ◌<◌, ◌==◌, ◌↔◌, List, Ok, count_by, length}
 use Rattle.std.specs.List.{concat}
+use Rattle.laws_of_texts.specs.Lines.{IsLine}
 use Rattle.journal_print.specs.Line.{caller_name}
 use Rattle.market_model.specs.declared.setup.Setup.{Setup}
 use Rattle.market_model.specs.Market.{in_turn, run_of}
@@ -11,9 +12,9 @@ use Rattle.market_text.specs.declared.session.Session.{Session}
 use Rattle.session_io.specs.JournalText.{journal_text}
 use Rattle.session_journal.specs.Journal.{journal_of_session}
 use Rattle.session_journal.specs.Turns.{taking_turns}
-use Rattle.journal_audit.specs.Audit.{IsComplete, IsFirstFault, IsJournalWith}
+use Rattle.journal_audit.specs.Audit.{AreRightThroughout, IsComplete, IsFirstFault, IsFirstWrong, IsFirstWrongAmong, IsJournalWith, IsRightThroughout}
 use Rattle.journal_audit.specs.Journal.{IsJournalOf, IsTradedJournalOf}
-use Rattle.journal_audit.specs.Lines.{callers_named, journal_lines}
+use Rattle.journal_audit.specs.Lines.{callers_named, ended_lines, journal_lines}
 
 -- the lines of a text, one behind the other, are the text
 abbrev pub LinesMakeTheText : Type 0
@@ -64,3 +65,10 @@ abbrev pub JournalsAreComplete : Type 0
 JournalsAreComplete = (bytes written : List ℕ)
     → ((is : IsJournalOf bytes written) → IsJournalWith is.session written (journal_of_session is.session))
     × ((is : IsTradedJournalOf bytes written) → IsJournalWith is.session written (journal_of_session (taking_turns is.session is.turns)))
+
+-- lines without a line feed are right, or one is the first that is not, exactly where so are those of the journal that they make
+-- with the line feed that ends each
+abbrev pub LinesAreAudited : Type 0
+LinesAreAudited = (session : Session) (lines : List (List ℕ)) → All IsLine lines
+    → (AreRightThroughout session (ended_lines lines) ↔ IsRightThroughout session (concat (ended_lines lines)))
+    × ((place : ℕ) → IsFirstWrongAmong session (ended_lines lines) place ↔ IsFirstWrong session (concat (ended_lines lines)) place)

@@ -1,5 +1,5 @@
 -- The lines of a text, and the callers that they name.
-use Rattle.std.specs.Prelude.{ℕ, List, [], ◌∷◌, ◌++◌, Option, codes, nat_eq, position}
+use Rattle.std.specs.Prelude.{ℕ, List, [], ◌∷◌, ◌++◌, Option, codes, map, nat_eq, position}
 use Rattle.std.specs.List.{filter_map, starts_with}
 use Rattle.market_model.specs.declared.setup.Setup.{Setup}
 use Rattle.market_text.specs.Text.{lines_of}
@@ -15,6 +15,10 @@ with_line_feeds (line ∷ next ∷ more) = (line ++ codes "\n") ∷ with_line_fe
 -- the lines of a text
 unfoldable pub journal_lines : List ℕ → List (List ℕ)
 journal_lines text = with_line_feeds (lines_of text)
+
+-- lines without their line feeds, each with the line feed that ends it
+abbrev pub ended_lines : List (List ℕ) → List (List ℕ)
+ended_lines lines = map (λ line. line ++ codes "\n") lines
 
 -- how the line of an entry of a caller with this name begins
 unfoldable pub line_start : (name : List ℕ) → List ℕ

@@ -1,6 +1,6 @@
 //! What holds of every audit, as the contracts of functions that do nothing.
 
-ghost use Rattle.journal_audit.specs.Laws.{CompleteJournalsAreInOrder, FirstFaultIsOne, LinesMakeTheText};
+ghost use Rattle.journal_audit.specs.Laws.{CompleteJournalsAreInOrder, FirstFaultIsOne, LinesAreAudited, LinesMakeTheText};
 ghost use Rattle.journal_audit.specs.Laws.{JournalsAreComplete, JournalsAreOne, LinesNameTheTurns, SessionsAreNamedApart};
 
 /// The lines of a text, one behind the other, are the text: no byte of a journal is passed over.
@@ -40,4 +40,10 @@ pub fn journals_are_one()
 /// market makes of the commands in that order.
 pub fn journals_are_complete()
     ensures { JournalsAreComplete }
+{}
+
+/// Lines that are kept without their line feeds are audited as the journal that they make: they are right, or one of them is
+/// the first that is not, exactly where so are its lines.
+pub fn lines_are_audited()
+    ensures { LinesAreAudited }
 {}

@@ -16,13 +16,15 @@ mod lines;
 mod reading;
 
 pub use auditing::{Verdict, audit};
+pub use dividing::divide;
 pub use dividing_laws::{
     bad_lines_are_by_grammar, divided_inputs_are_read, good_inputs_are_by_grammar,
     undivided_inputs_are_bad,
 };
 pub use laws::{
     complete_journals_are_in_order, first_fault_is_one, journals_are_complete, journals_are_one,
-    lines_make_the_text, lines_name_the_turns, sessions_are_named_apart,
+    lines_are_audited, lines_make_the_text, lines_name_the_turns, sessions_are_named_apart,
 };
+pub use lines::caller_named;
 pub use reading::{Divided, read_divided};
 pub use zone_graph::NoMemory;

@@ -34,7 +34,7 @@ fn line_feed(text: &[u8]) -> Option<usize>
 
 /// The number of the caller that a line names.
 #[tactic(auto, unfolding(crate::specs::Lines::caller_named))]
-pub(crate) fn caller_named(setup: &Setup, line: &[u8]) -> Option<usize>
+pub fn caller_named(setup: &Setup, line: &[u8]) -> Option<usize>
     ensures caller { result ≡ lines.caller_named setup.now line.now }
     ensures known { IfSome result (λ caller. caller < length setup.now.callers) }
 {

@@ -1,6 +1,7 @@
 use Rattle.std.proofs.Common.{◌≡◌, ◌∙◌, inl, ◌+◌, ◌∷◌, [], Ok, List, ℕ, eqb-true, length, arith, refl, sym, subst, ap}
 use Rattle.journal_audit.specs.Audit.{IsNoJournal}
 use Rattle.journal_audit.specs.Course.{IsCourse}
+use Rattle.journal_audit.specs.Lines.{journal_lines}
 use Rattle.journal_audit.proofs.Audits.{IsAudited, IsJournal, more-audited, no-journal, nothing-audited, wrong-audited}
 use Rattle.journal_audit.proofs.Courses.{course-new, entries-few, journal-of}
 use Rattle.journal_audit.proofs.Verdicts.{legal-behind, verdict-behind}
@@ -17,7 +18,7 @@ loop-rest-init c =
     let journal = c.args.journal.now in
     record {
       course = subst (IsCourse session) (sym c.in_ok-course.ensures) (course-new session c.len.result c.len.ensures);
-      audited = subst (λ entries. IsAudited session journal journal entries) (sym (ap (λ course. course.entries) c.in_ok-course.ensures)) (nothing-audited session journal);
+      audited = subst (λ entries. IsAudited session journal journal entries) (sym (ap (λ course. course.entries) c.in_ok-course.ensures)) (nothing-audited session (journal_lines journal));
     }
 
 pub next_place-requires : goal.next_place-requires
@@ -34,7 +35,7 @@ returns-then-not-branch-clause-verdict c =
     let before = c.loop-rest.invariant in
     let kept : c.take_line.new.self.entries ≡ course.entries = c.in_ok-take_line.ensures.kept (ap Ok c.if-not-branch.true) in
     subst (IsNoJournal session journal) (sym (c.next_place.ensures ∙ ap (λ entries. length entries + 1) kept))
-    (no-journal session journal (length course.entries + 1) (inl (wrong-audited session journal c.loop-rest.rest.now c.first_line.result.1.now course.entries c.first_line.result.0.now
+    (no-journal session journal (length course.entries + 1) (inl (wrong-audited session (journal_lines journal) (journal_lines c.loop-rest.rest.now) (journal_lines c.first_line.result.1.now) course.entries c.first_line.result.0.now
     before.audited (journal-of session course before.course) c.first_line.ensures.lines (c.in_ok-take_line.ensures.wrong (ap Ok c.if-not-branch.true)))))
 
 pub loop-rest-preserved : goal.loop-rest-preserved
@@ -47,7 +48,7 @@ loop-rest-preserved c =
     record {
       course = after;
       audited = subst (λ entries. IsAudited session journal c.first_line.result.1.now entries) (sym taken.2)
-          (more-audited session journal c.loop-rest.rest.now c.first_line.result.1.now course.entries c.first_line.result.0.now taken.0 c.loop-rest.invariant.audited
+          (more-audited session (journal_lines journal) (journal_lines c.loop-rest.rest.now) (journal_lines c.first_line.result.1.now) course.entries c.first_line.result.0.now taken.0 c.loop-rest.invariant.audited
           c.first_line.ensures.lines taken.1 (subst (IsJournal session) taken.2 (journal-of session c.take_line.new.self after)));
     }
 
