@@ -6,7 +6,7 @@
 # are completed.
 
 _sidc() {
-    local word=${COMP_WORDS[COMP_CWORD]} before=${COMP_WORDS[COMP_CWORD - 1]} words="replay trade generate audit ship store"
+    local word=${COMP_WORDS[COMP_CWORD]} before=${COMP_WORDS[COMP_CWORD - 1]} words="replay trade generate audit ship store recover"
     COMPREPLY=()
     case $before in
         '<' | '>' | '>>' | '2>')

@@ -1,4 +1,4 @@
 pub mod Dividing
-mod Markets
+pub mod Markets
 pub mod Recorded
 pub mod Written
