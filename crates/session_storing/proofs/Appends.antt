@@ -1,13 +1,12 @@
 -- What is stored while a session is played.
-use Rattle.std.proofs.Common.{◌≡◌, ◌∙◌, All, ℕ, ◌+◌, ◌<◌, ◌≤◌, List, [], ◌∷◌, ◌++◌, append_assoc, cond, drop, get_or, length, length-append, nat_eq, take, take-append-drop, Option, refl, sym, ap, subst, arith}
+use Rattle.std.proofs.Common.{◌≡◌, ◌∙◌, All, ℕ, ◌+◌, ◌<◌, List, [], ◌∷◌, ◌++◌, append_assoc, cond, drop, get_or, length, length-append, nat_eq, take, take-append-drop, Option, refl, sym, ap, subst, arith}
 use Rattle.std.proofs.lemmas.List.{get_or_at, map-append, take_more}
 use Rattle.std.proofs.lemmas.List.Sums.{sum_by-append}
 use Rattle.disk_model.specs.Contents.{Contents}
-use Rattle.disk_model.specs.Moments.{LeavesOnly, MayLeave}
-use Rattle.disk_model.proofs.Moments.{leaves_more, runs_on, started}
-use Rattle.durable_journal.specs.Appending.{StoresOldOrNew, most_stored, size_behind}
-use Rattle.durable_journal.specs.Resting.{HoldsLines, IsImageOf}
-use Rattle.durable_journal.specs.Stored.{AreLines, blocks, image_of}
+use Rattle.disk_model.specs.Moments.{MayLeave}
+use Rattle.durable_journal.specs.Appending.{size_behind}
+use Rattle.durable_journal.specs.Resting.{HoldsLines}
+use Rattle.durable_journal.specs.Stored.{image_of}
 use Rattle.durable_journal.proofs.Steps.{held_image}
 use Rattle.market_model.specs.declared.entry.Entry.{Entry}
 use Rattle.market_text.specs.Commands.{commands_of}
@@ -16,9 +15,9 @@ use Rattle.session_journal.proofs.Journals.{count-callers}
 use Rattle.session_journal.proofs.Turns.{turn_comes}
 use Rattle.journal_audit.specs.Course.{callers_of, entries_of}
 use Rattle.stored_journal.specs.Lines.{StoresFront, stored_line, stored_lines}
-use Rattle.stored_journal.proofs.Fronts.{IsFront, front-more, front-shorter, old-or-new, stores-front}
+use Rattle.stored_journal.proofs.Fronts.{IsFront, stores-front}
 use Rattle.stored_journal.proofs.Lines.{image-more, lines-more}
-use Rattle.session_storing.specs.Playing.{HasCommandsFor, IsPlaying, PlayState, journal_in_order, lines_in_order, lines_played, turns_of}
+use Rattle.session_storing.specs.Playing.{HasCommandsFor, IsPlaying, PlayState, lines_in_order, lines_played, turns_of}
 use Rattle.session_storing.proofs.Orders.{order-front}
 use Rattle.session_storing.proofs.Plays.{waiting-count}
 

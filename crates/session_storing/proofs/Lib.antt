@@ -1,3 +1,5 @@
 pub mod Appends
+pub mod LeftTurns
 pub mod Orders
 pub mod Plays
+pub mod Recovers

@@ -23,7 +23,7 @@ use Rattle.market_text.specs.declared.session.Session.{Session}
 use Rattle.trade_journal.specs.Journals.{made_by, room_of_caller}
 use Rattle.journal_audit.specs.Course.{callers_of, entries_of, next_entry}
 use Rattle.journal_audit.proofs.NextEntries.{command_at, journal-more, next-some}
-use Rattle.session_storing.specs.Playing.{IsAfterNext, IsPlaying, PlayState}
+use Rattle.session_storing.specs.Playing.{IsAfterNext, IsPlayedOn, IsPlaying, PlayState}
 
 -- before any command
 pub begins-playing : (session : Session) (state : PlayState) → IsSession session → IsMarketSetup session.setup → state ≡ record { setup = session.setup; waiting = session.commands; entries = [] } → IsPlaying session state
@@ -69,7 +69,7 @@ room-at [] k = refl
 room-at (own ∷ callers) zero = refl
 room-at (own ∷ callers) (suc k) = room-at callers k
 
-room-is : (session : Session) → IsSession session → (caller : ℕ) → room_of_caller session.setup caller ≡ length (commands_of session.commands caller)
+pub room-is : (session : Session) → IsSession session → (caller : ℕ) → room_of_caller session.setup caller ≡ length (commands_of session.commands caller)
 room-is session is_session caller = room-at session.setup.callers caller ∙ ap (λ ns. get_or ns caller 0) is_session.rooms ∙ get_or-map length session.commands caller []
 
 module _ (session : Session) (state : PlayState) (is : IsPlaying session state) where
@@ -87,14 +87,6 @@ module _ (session : Session) (state : PlayState) (is : IsPlaying session state) 
       ap (λ s. room_of_caller s caller) is.setup ∙ room-is session is.is_session caller in
       let count = waiting-count caller in
       omega (arith, room, count, some)
-
--- the entry of a caller's next command, and the player after it
-pub record IsPlayedOn (session : Session) (old : PlayState) (caller : ℕ) (new : PlayState) : Type 0 where
-  pub entry : Entry
-  pub whose : entry.caller ≡ caller
-  pub next : next_entry session old.entries caller ≡ Some entry
-  pub grew : new.entries ≡ old.entries ++ entry ∷ []
-  pub playing : IsPlaying session new
 
 module _ (session : Session) (old : PlayState) (is : IsPlaying session old) (caller : ℕ) (known : caller < length session.setup.callers)
     (waits : caller < length old.waiting) (new : PlayState) (after : IsAfterNext old caller new) where

@@ -1,5 +1,5 @@
 -- A session that is being played: its callers give their commands, each in its order.
-use Rattle.std.specs.Prelude.{◌≡◌, ℕ, ◌<◌, ◌≤◌, ◌==◌, All, List, [], ◌∷◌, ◌++◌, count_by, drop, length, slice_set}
+use Rattle.std.specs.Prelude.{◌≡◌, ℕ, ◌<◌, ◌≤◌, ◌==◌, All, List, [], ◌∷◌, ◌++◌, count_by, drop, length, slice_set, Some}
 use Rattle.market_model.specs.declared.command.Command.{Command}
 use Rattle.market_model.specs.declared.entry.Entry.{Entry}
 use Rattle.market_model.specs.declared.setup.Setup.{Setup}
@@ -10,7 +10,7 @@ use Rattle.market_model.specs.WellFormed.{IsMarketSetup}
 use Rattle.market_text.specs.Commands.{commands_of}
 use Rattle.market_text.specs.Session.{IsSession}
 use Rattle.market_text.specs.declared.session.Session.{Session}
-use Rattle.journal_audit.specs.Course.{callers_of, entries_of}
+use Rattle.journal_audit.specs.Course.{callers_of, entries_of, next_entry}
 use Rattle.stored_journal.specs.Lines.{stored_lines}
 
 -- what a player keeps: what is fixed, the commands that each caller has still to give, and the entries so far
@@ -41,6 +41,14 @@ pub record IsPlaying (session : Session) (state : PlayState) : Type 0 where
   pub matched : length state.waiting ≡ length session.commands
   pub waiting : (caller : ℕ) → commands_of state.waiting caller ≡ drop (entries_of state.entries caller) (commands_of session.commands caller)
   pub named : All (IsEntryIn session.setup) state.entries
+
+-- the entry of a caller's next command, and the player after it
+pub record IsPlayedOn (session : Session) (old : PlayState) (caller : ℕ) (new : PlayState) : Type 0 where
+  pub entry : Entry
+  pub whose : entry.caller ≡ caller
+  pub next : next_entry session old.entries caller ≡ Some entry
+  pub grew : new.entries ≡ old.entries ++ entry ∷ []
+  pub playing : IsPlaying session new
 
 -- a player plays some session
 abbrev pub PlaysSession : PlayState → Type 0

@@ -1,6 +1,6 @@
 //! The trait of a market that plays a session.
 
-ghost use Rattle.std.specs.Prelude.{◌≡◌, ◌<◌, length, OnOk};
+ghost use Rattle.std.specs.Prelude.{◌≡◌, ◌<◌, length, nat_lt, OnOk};
 ghost use Rattle.market_text.specs.Commands.{commands_of};
 ghost use Rattle.trade_journal.specs.Journals.{made_by, room_of_caller};
 ghost use Rattle.session_storing.specs.Playing.{IsAfterNext, PlayState};
@@ -21,6 +21,11 @@ pub trait Player {
     /// Lends the entries so far.
     fn entries(&self) -> &[Entry]
         ensures { result.now ≡ (state self.now).entries };
+
+    /// Whether a caller has a command still to give.
+    fn has_next(&self, caller: u32) -> bool
+        requires { caller < length (state self.now).setup.callers }
+        ensures { result ≡ nat_lt (made_by (state self.now).entries caller) (room_of_caller (state self.now).setup caller) };
 
     /// Gives the market a caller's next command: its entry, with the market's reply, goes behind the others.
     ///

@@ -14,7 +14,7 @@ ghost use Rattle.journal_audit.specs.Course.{callers_of};
 ghost use Rattle.stored_journal.specs.Lines.{StoresFront};
 ghost use Rattle.stored_journal.specs.Outcomes.{EndsAppend};
 ghost use Rattle.session_storing.specs.Outcomes.{EndsStoring};
-ghost use Rattle.session_storing.specs.Playing.{HasCommandsFor, IsPlaying, PlaysSession, lines_in_order, lines_played};
+ghost use Rattle.session_storing.specs.Playing.{HasCommandsFor, IsPlayedOn, IsPlaying, PlaysSession, lines_in_order, lines_played};
 
 use crate::player::Player;
 use disk_model::Disk;
@@ -68,7 +68,7 @@ pub fn store_turns<P: Player, D: Disk>(
 
 // Plays the next command of the caller of each turn, and appends the line of its entry to those that a disk stores, before
 // the next is taken. It answers where the lines end then.
-fn append_turns<P: Player, D: Disk>(
+pub(crate) fn append_turns<P: Player, D: Disk>(
     alloc: Global,
     player: &mut P,
     turns: &[u32],
@@ -158,14 +158,14 @@ fn append_turn<P: Player, D: Disk>(
 }
 
 // Plays the next command of a caller.
-fn play_next<P: Player>(alloc: Global, player: &mut P, caller: u32) -> Result<(), Status>
+pub(crate) fn play_next<P: Player>(alloc: Global, player: &mut P, caller: u32) -> Result<(), Status>
     requires plays { PlaysSession (P.state player.old) }
     requires known { caller < length (P.state player.old).setup.callers }
     requires some { 0 < length (commands_of (P.state player.old).waiting caller) }
     ensures setup { OnOk result ((P.state player.new).setup ≡ (P.state player.old).setup) }
     ensures grew { OnOk result ((entry : EntryValue) × ((P.state player.new).entries ≡ (P.state player.old).entries ++ entry ∷ []) × (entry.caller ≡ caller)) }
     ensures played { (session : Session) → IsPlaying session (P.state player.old)
-        → OnOk result (IsPlaying session (P.state player.new)) }
+        → OnOk result (IsPlayedOn session (P.state player.old) caller (P.state player.new)) }
     ensures ends { IfErr result EndsAppend }
     ensures memory { IfErr result (λ status. status ≡ Status.NoMemory) }
 {
@@ -176,7 +176,7 @@ fn play_next<P: Player>(alloc: Global, player: &mut P, caller: u32) -> Result<()
 }
 
 // The last of some entries.
-fn last_of(entries: &[Entry]) -> &Entry
+pub(crate) fn last_of(entries: &[Entry]) -> &Entry
     requires { 0 < length entries.now }
     ensures { (before : List EntryValue) (entry : EntryValue) → entries.now ≡ before ++ entry ∷ [] → result.now ≡ entry }
 {

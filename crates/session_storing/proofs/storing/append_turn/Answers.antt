@@ -26,7 +26,7 @@ append_entry-requires-clause-within g c =
     let old = g.P.Player.state c.args.player.now in
     let new = g.P.Player.state c.play_next.new.player in
     let session = c.requires.plays.0 in
-    let is = c.in_ok-play_next.ensures.played session c.requires.plays.1 in
+    let is = (c.in_ok-play_next.ensures.played session c.requires.plays.1).playing in
     let grew = c.in_ok-play_next.ensures.grew in
     let last : c.last_of.result.now ≡ grew.0 = c.last_of.ensures old.entries grew.0 (c.entries-entries.ensures ∙ grew.1) in
     let named : IsEntryIn session.setup grew.0 = last-named (IsEntryIn session.setup) old.entries grew.0 (subst (All (IsEntryIn session.setup)) grew.1 is.named) in
@@ -86,7 +86,7 @@ returns-clause-any_moment g c = λ session is holds.
     let lines : lines_played old ++ line ∷ [] ≡ lines_played new =
     (λ i. lines_played old ++ stored_line (c.setup.ensures i) (length (c.entries-entries.ensures i)) c.last_of.result.now ∷ []) ∙ lines-grew old c.args.turn new more c.last_of.result.now last in
     let whole : lines_played old ++ line ∷ [] ≡ lines_in_order session (callers_of old.entries ++ c.args.turn ∷ []) =
-    lines ∙ lines-then old c.args.turn new more session (c.in_ok-play_next.ensures.played session is) in
+    lines ∙ lines-then old c.args.turn new more session (c.in_ok-play_next.ensures.played session is).playing in
     leaves_more g.D.Disk.moment g.D.Disk.left_since c.args.disk.now c.append_entry.new.disk (StoresOldOrNew (lines_played old) line)
     (StoresFront (lines_in_order session (callers_of old.entries ++ c.args.turn ∷ [])))
     (λ image stores. subst (λ (ls : List (List ℕ)). StoresFront ls image) whole (old-or-new (lines_played old) line image stores))
@@ -103,6 +103,6 @@ returns-clause-too_long g c = λ session is holds long.
     let lines : lines_played old ++ line ∷ [] ≡ lines_played new =
     (λ i. lines_played old ++ stored_line (c.setup.ensures i) (length (c.entries-entries.ensures i)) c.last_of.result.now ∷ []) ∙ lines-grew old c.args.turn new more c.last_of.result.now last in
     let whole : lines_played old ++ line ∷ [] ≡ lines_in_order session (callers_of old.entries ++ c.args.turn ∷ []) =
-    lines ∙ lines-then old c.args.turn new more session (c.in_ok-play_next.ensures.played session is) in
+    lines ∙ lines-then old c.args.turn new more session (c.in_ok-play_next.ensures.played session is).playing in
     subst (λ (ls : List (List ℕ)). most_stored < length (image_of ls)) whole
     (subst (λ n. most_stored < n) (behind-size (lines_played old) line (g.D.Disk.contents c.args.disk.now) c.args.at holds) (c.append_entry.ensures.too_long long))

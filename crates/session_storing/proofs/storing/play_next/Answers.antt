@@ -10,5 +10,5 @@ give_next-requires-clause-room g c = room-left c.requires.plays.0 (g.P.Player.st
 pub returns-in-Ok-clause-played : goal.returns-in-Ok-clause-played
 returns-in-Ok-clause-played g c = λ session is.
     let known : c.args.caller < length session.setup.callers = subst (λ (setup : Setup). c.args.caller < length setup.callers) is.setup c.requires.known in
-    (plays-on session (g.P.Player.state c.args.player.now) is c.args.caller known (omega (arith, known, is.matched, is.is_session.matched))
-    (g.P.Player.state c.give_next.new.self) c.in-Ok.ensures).playing
+    plays-on session (g.P.Player.state c.args.player.now) is c.args.caller known (omega (arith, known, is.matched, is.is_session.matched))
+    (g.P.Player.state c.give_next.new.self) c.in-Ok.ensures
