@@ -5,8 +5,8 @@
     bench/refused_memory.py --tests CRATE   the proved tests of a crate, which `rt ci` left in its out/
 
 Of a session each run has to end with status 0 and the whole output, or with status 6, its message and a first part of the
-output; of `trade`, whose callers come in any order, all lines that it wrote have to be right by the audit. A test has to pass, or
-to stop at one of its own assertions. Printed is how many calls each made, and how many of the runs ended early. The calls are
+output; of `trade`, whose callers come in any order, all lines that it wrote have to be right by the audit. A test has to pass, to
+end with an error that it got, or to stop at one of its own assertions. Printed is how many calls each made, and how many of the runs ended early. The calls are
 those to malloc and realloc (bench/refuse.c, made with cc). The status is 1 where a run is at fault.
 """
 import argparse
@@ -113,9 +113,11 @@ def look_at_sessions(refuser):
 
 
 def fault_of_test(_, ended):
-    """A test that wants memory stops at an assertion of its own; a fault of the memory itself would end it by another signal."""
+    """A test that wants memory ends with the error, or stops at an assertion of its own; a fault of the memory itself would end it
+    by another signal."""
+    is_ended = ended.status == 101 and b"\nthe test failed: its result gives status 1\n" in ended.output + ended.said
     is_stopped = ended.status == -signal.SIGABRT and b"\ntest stopped at src/" in ended.output
-    return None if ended.status == 0 or is_stopped else f"status {ended.status} and {(ended.output + ended.said)[-200:]!r}"
+    return None if ended.status == 0 or is_ended or is_stopped else f"status {ended.status} and {(ended.output + ended.said)[-200:]!r}"
 
 
 def look_at_tests(refuser, crate):

@@ -8,6 +8,8 @@ mod answers;
 #[cfg(test)]
 mod commands;
 #[cfg(test)]
+mod desk_tests;
+#[cfg(test)]
 mod party;
 mod setups;
 #[cfg(test)]

@@ -59,10 +59,22 @@ fn check_table<R: Wait + Abort>(
     alloc: Global,
     table: &[(usize, Ask, Want)],
 ) -> Result<(), Fail> {
-    let mut party = Party::open(alloc, market(alloc, b"FR", 2, 100)?)?;
+    let mut party = open_again(alloc)?;
     check_answers(rt, alloc, &mut party, table)?;
     assert_eq!(rt; party.close(rt).entries().len(), table.len());
     Ok(())
+}
+
+// Opens a venue for two traders and an operator, once more where memory ran out.
+fn open_again(alloc: Global) -> Result<Party, OpenFault> {
+    match open(alloc) {
+        Err(OpenFault::NoMemory) => open(alloc),
+        opened => opened,
+    }
+}
+
+fn open(alloc: Global) -> Result<Party, OpenFault> {
+    Party::open(alloc, market(alloc, b"FR", 2, 100)?)
 }
 
 fn check_answers<R: Wait + Abort>(
@@ -72,10 +84,29 @@ fn check_answers<R: Wait + Abort>(
     table: &[(usize, Ask, Want)],
 ) -> Result<(), SubmitFault> {
     for (place, &(caller, ask, want)) in (1..=u64::MAX).zip(table.iter()) {
-        let receipt = party.ask(rt, alloc, caller, ask)?;
+        let receipt = ask_again(rt, alloc, party, caller, ask)?;
         check_answer(rt, &receipt, place, ask, want);
     }
     Ok(())
+}
+
+// Submits a command of a caller that is asked for. Where memory runs out the caller is told of as many entries as
+// before, and submits it once more.
+fn ask_again<R: Wait + Abort>(
+    rt: &R,
+    alloc: Global,
+    party: &mut Party,
+    caller: usize,
+    ask: Ask,
+) -> Result<Receipt, SubmitFault> {
+    let told = (party.front(rt, caller), party.made(rt, caller));
+    match party.ask(rt, alloc, caller, ask) {
+        Err(SubmitFault::NoMemory) => {
+            assert_eq!(rt; (party.front(rt, caller), party.made(rt, caller)), told);
+            party.ask(rt, alloc, caller, ask)
+        }
+        answered => answered,
+    }
 }
 
 fn check_answer<R: Abort>(rt: &R, receipt: &Receipt, place: u64, ask: Ask, want: Want) {
