@@ -1,3 +1,4 @@
 pub mod Completion
 pub mod Generated
+pub mod Recovered
 pub mod Stored

@@ -1,14 +1,13 @@
 -- A session that is played over a disk, and what `store` answers of it.
-use Rattle.std.proofs.Common.{◌≡◌, ◌≢◌, ◌∙◌, ◌⊎◌, inl, inr, ℕ, ◌<◌, ◌≤◌, ◌++◌, true≢false, List, [], Option, Some, None, Result, Ok, Err, IfOk, OnOk, length, refl, sym, ap, subst, arith}
+use Rattle.std.proofs.Common.{◌≡◌, ◌≢◌, ◌∙◌, inl, inr, ℕ, ◌<◌, ◌≤◌, true≢false, List, [], Option, Some, None, Result, Ok, Err, IfOk, OnOk, length, refl, sym, ap, subst, arith}
 use Rattle.std.proofs.KnownBytes.{Appends-nil}
 use Rattle.disk_model.specs.Contents.{Contents, settled}
 use Rattle.disk_model.specs.Moments.{MayLeave}
 use Rattle.disk_model.proofs.Images.{settled_image}
 use Rattle.disk_model.proofs.Moments.{told_image}
 use Rattle.durable_journal.specs.Appending.{most_stored}
-use Rattle.durable_journal.specs.Resting.{HoldsLines, IsImageOf}
 use Rattle.durable_journal.specs.Stored.{StoresLines, image_of}
-use Rattle.durable_journal.proofs.Steps.{held_image, short_stores}
+use Rattle.durable_journal.proofs.Steps.{short_stores}
 use Rattle.market_text.specs.declared.session.Session.{Session}
 use Rattle.market_text.specs.Session.{IsSession}
 use Rattle.market_text.specs.Text.{session_of_text}
@@ -27,16 +26,15 @@ use Rattle.run_status.specs.Outcomes.{EndsWell}
 use Rattle.run_status.specs.Reading.{Stops, WasRead}
 use Rattle.run_status.specs.Status.{stops_reading}
 use Rattle.run_status.proofs.Answering.{answers-nothing, answers-on-disk, has-read, is-known}
-use Rattle.run_status.proofs.Completion.{completes, completes-on-disk}
+use Rattle.run_status.proofs.Completion.{completes}
 use Rattle.record_run.specs.Writing.{Writes}
 use Rattle.record_run.proofs.Written.{writes-answer}
-use Rattle.stored_journal.specs.Lines.{StoresFront, TellsContents, stored_lines}
-use Rattle.stored_journal.proofs.Fronts.{front-same, stores-front}
-use Rattle.journal_audit.specs.Course.{callers_of}
-use Rattle.session_storing.specs.Playing.{HasCommandsFor, IsPlaying, PlayState, journal_in_order, lines_played}
+use Rattle.stored_journal.specs.Lines.{StoresFront, TellsContents}
+use Rattle.stored_journal.proofs.Fronts.{stores-front}
+use Rattle.session_storing.specs.Playing.{HasCommandsFor, IsPlaying, PlayState}
 use Rattle.session_run.specs.Reading.{HasNoEntry, IsBadText, IsTextOf}
 use Rattle.session_storing.specs.Outcomes.{EndsStoring}
-use Rattle.session_run.specs.Storing.{IsEmptyDisk, IsStoredJournalOf, IsTooLargeToStore, ReadsToStore, Stored, StoresPart, StoresPartOf, lines_of_session}
+use Rattle.session_run.specs.Storing.{IsEmptyDisk, IsStoredJournalOf, ReadsToStore, Stored, StoresPart, StoresPartOf, lines_of_session}
 
 -- ---- playing
 

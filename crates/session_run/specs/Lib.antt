@@ -1,4 +1,5 @@
 pub mod Journal
 pub mod Outcomes
 pub mod Reading
+pub mod Recovering
 pub mod Storing

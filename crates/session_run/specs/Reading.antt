@@ -8,10 +8,12 @@ use Rattle.session_io.specs.Reading.{longest_record, longest_session}
 use Rattle.run_status.specs.declared.status.Status.{Status}
 use Rattle.run_status.specs.Reading.{ReadsUpTo, Stops, WasRead}
 
--- the most bytes that the input of a run may have, by what its words ask for: a record's, or a session's
+-- the most bytes that the input of a run may have, by what its words ask for: a record's or that of a session with an image,
+-- or a session's
 abbrev pub longest_input : Option Task → ℕ
 longest_input (Some task.Audit) = longest_record
 longest_input (Some task.Ship) = longest_record
+longest_input (Some task.Recover) = longest_record
 longest_input _ = longest_session
 
 -- these bytes came from the source; they are too many exactly where the run says so, and the

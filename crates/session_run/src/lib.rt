@@ -5,6 +5,7 @@
 
 mod generating;
 mod players;
+mod recovering;
 mod running;
 mod sessions;
 mod storing;

@@ -11,6 +11,7 @@ use market_model::{Entry, Setup};
 use market_text::{Session, Turns};
 use session_storing::Player;
 use std::alloc::Global;
+use trade_journal::Journal;
 use zone_graph::NoMemory;
 
 /// A market on desks, and the commands that the callers of its session have still to give.
@@ -44,6 +45,13 @@ impl DeskPlayer {
         let waiting = Waiting::new(alloc, commands)?;
         Ok((DeskPlayer { market, waiting }, turns))
     }
+
+    /// The journal of all that was played.
+    pub(crate) fn into_journal(self) -> Journal
+        ensures { result ≡ self.market }
+    {
+        self.market.into_journal()
+    }
 }
 
 impl Player for DeskPlayer {
@@ -59,6 +67,10 @@ impl Player for DeskPlayer {
 
     fn entries(&self) -> &[Entry] {
         self.market.entries()
+    }
+
+    fn has_next(&self, caller: u32) -> bool {
+        self.market.has_room(caller)
     }
 
     fn give_next(&mut self, alloc: Global, caller: u32) -> Result<(), NoMemory> {

@@ -1,6 +1,6 @@
 //! A run, from the words of the command line to the written journal.
 
-ghost use Rattle.std.specs.Prelude.{◌≡◌, ◌≢◌, ◌≤◌, ◌↔◌, ℕ, List, IsTrue, Some, None, Ok, false, true};
+ghost use Rattle.std.specs.Prelude.{◌≡◌, ◌≢◌, ◌≤◌, ◌↔◌, ◌⊎◌, ℕ, List, IsTrue, Some, None, Ok, false, true};
 ghost use Rattle.outside.specs.Faults.{Rose};
 ghost use Rattle.record_run.specs.Outcomes.{Audited, CompletesRecords, Shipped};
 ghost use Rattle.run_status.specs.Reading.{ReadsUpTo};
@@ -14,11 +14,13 @@ ghost use Rattle.durable_journal.specs.Resting.{IsImageOf};
 ghost use Rattle.market_text.specs.Text.{session_of_text};
 ghost use Rattle.market_text.specs.declared.session.Session.{Session as SessionValue};
 ghost use Rattle.stored_journal.specs.Lines.{TellsContents};
+ghost use Rattle.session_run.specs.Recovering.{CompletesRecovering, IsRecoveredOn, ReadsToRecover, Recovered};
 ghost use Rattle.session_run.specs.Storing.{CompletesStoring, IsEmptyDisk, ReadsToStore, Stored, StoresPartOf, lines_of_session};
 ghost use Rattle.command_words.specs.Words.{ReadsRecord, WorksOnDisk, task_of as task_named, is_trade as trades};
 ghost use Rattle.command_words.specs.declared.words.Task.TheVariants as task;
 
 use crate::generating::generate;
+use crate::recovering::recover;
 use crate::sessions::{session_from, write_to};
 use crate::storing::store;
 use command_words::{Task, is_trade, task_of};
@@ -44,7 +46,10 @@ use zone_graph::Word;
 /// that is exactly `journal`, and a journal up to the end of the source, and writes how many entries
 /// it has where it is a complete journal of the session; `ship` reads the same, and writes the
 /// schedule that follows from it. `store` plays a session as `replay` does, appends the line of each entry, without its
-/// line feed, to a durable journal on the disk before the next command is taken, and writes all bytes of the disk.
+/// line feed, to a durable journal on the disk before the next command is taken, and writes all bytes of the disk. `recover`
+/// reads a session, a line that is exactly `image`, and the image of a disk up to the end of the source: it writes the image
+/// on the disk, plays the commands of the lines that it stores, each of which must be the market's, then those that are left,
+/// whose lines it appends, and writes the whole journal.
 /// Every other list of words is [`Status::Usage`].
 pub fn run<R: Threads + Wait + Sync, S: Source, K: Sink, G: Gate, D: Disk>(
     rt: &R,
@@ -70,6 +75,11 @@ pub fn run<R: Threads + Wait + Sync, S: Source, K: Sink, G: Gate, D: Disk>(
         → LeavesOnly D.moment D.left_since disk.old disk.new (StoresPartOf bytes) }
     ensures complete_stored { task_named words.now ≡ Some task.Store → CompletesStoring (S.left source.old) (TellsContents (D.contents disk.old)) (Rose (S.faults source.old) (S.faults source.new)) (Rose (K.faults sink.old) (K.faults sink.new)) (Rose (D.faults disk.old) (D.faults disk.new)) result }
     ensures reads_stored { task_named words.now ≡ Some task.Store → result ≢ Status.NoMemory → ReadsToStore (TellsContents (D.contents disk.old)) (S.left source.old) (S.left source.new) result }
+    ensures recovered { (bytes : List ℕ) → task_named words.now ≡ Some task.Recover → S.left source.old ≡ Some bytes → Recovered (TellsContents (D.contents disk.old)) bytes result (K.written sink.old) (K.written sink.new) }
+    ensures recovered_on_disk { (bytes : List ℕ) → task_named words.now ≡ Some task.Recover → S.left source.old ≡ Some bytes → TellsContents (D.contents disk.old)
+        → result ≡ Status.Done → IsRecoveredOn (D.contents disk.new) bytes }
+    ensures complete_recovered { task_named words.now ≡ Some task.Recover → CompletesRecovering (S.left source.old) (TellsContents (D.contents disk.old)) (Rose (S.faults source.old) (S.faults source.new)) (Rose (K.faults sink.old) (K.faults sink.new)) (Rose (D.faults disk.old) (D.faults disk.new)) result }
+    ensures reads_recovered { task_named words.now ≡ Some task.Recover → result ≢ Status.NoMemory → ReadsToRecover (TellsContents (D.contents disk.old)) (S.left source.old) (S.left source.new) result }
     ensures generated { (commands : ℕ) → task_named words.now ≡ Some (task.Generate commands) → Generated commands result (K.written sink.old) (K.written sink.new) }
     ensures complete { task_named words.now ≡ Some task.Replay → CompletesSessions (S.left source.old) (Rose (S.faults source.old) (S.faults source.new)) (Rose (K.faults sink.old) (K.faults sink.new)) result }
     ensures complete_traded { trades words.now ≡ true → CompletesSessions (S.left source.old) (Rose (S.faults source.old) (S.faults source.new)) (Rose (K.faults sink.old) (K.faults sink.new)) result }
@@ -78,7 +88,7 @@ pub fn run<R: Threads + Wait + Sync, S: Source, K: Sink, G: Gate, D: Disk>(
     ensures reads { task_named words.now ≡ Some task.Replay → result ≢ Status.NoMemory → Reads (S.left source.old) (S.left source.new) result }
     ensures reads_traded { trades words.now ≡ true → result ≢ Status.NoMemory → Reads (S.left source.old) (S.left source.new) result }
     ensures reads_record { ReadsRecord (task_named words.now) → result ≢ Status.NoMemory → ReadsUpTo longest_record (S.left source.old) (S.left source.new) result }
-    ensures illegal { (entry : ℕ) → result ≡ Status.Illegal entry → ReadsRecord (task_named words.now) × (trades words.now ≡ false) }
+    ensures illegal { (entry : ℕ) → result ≡ Status.Illegal entry → (ReadsRecord (task_named words.now) ⊎ (task_named words.now ≡ Some task.Recover)) × (trades words.now ≡ false) }
     ensures read_count { S.faults source.old ≤ S.faults source.new }
     ensures read_fault { result ≡ Status.ReadFault → Rose (S.faults source.old) (S.faults source.new) }
     ensures read_bound { ReadsWithin (longest_input (task_named words.now)) (S.reads source.old) (S.reads source.new) }
@@ -118,13 +128,18 @@ pub fn run_alone<S: Source, K: Sink, D: Disk>(
         → LeavesOnly D.moment D.left_since disk.old disk.new (StoresPartOf bytes) }
     ensures complete_stored { task_named words.now ≡ Some task.Store → CompletesStoring (S.left source.old) (TellsContents (D.contents disk.old)) (Rose (S.faults source.old) (S.faults source.new)) (Rose (K.faults sink.old) (K.faults sink.new)) (Rose (D.faults disk.old) (D.faults disk.new)) result }
     ensures reads_stored { task_named words.now ≡ Some task.Store → result ≢ Status.NoMemory → ReadsToStore (TellsContents (D.contents disk.old)) (S.left source.old) (S.left source.new) result }
+    ensures recovered { (bytes : List ℕ) → task_named words.now ≡ Some task.Recover → S.left source.old ≡ Some bytes → Recovered (TellsContents (D.contents disk.old)) bytes result (K.written sink.old) (K.written sink.new) }
+    ensures recovered_on_disk { (bytes : List ℕ) → task_named words.now ≡ Some task.Recover → S.left source.old ≡ Some bytes → TellsContents (D.contents disk.old)
+        → result ≡ Status.Done → IsRecoveredOn (D.contents disk.new) bytes }
+    ensures complete_recovered { task_named words.now ≡ Some task.Recover → CompletesRecovering (S.left source.old) (TellsContents (D.contents disk.old)) (Rose (S.faults source.old) (S.faults source.new)) (Rose (K.faults sink.old) (K.faults sink.new)) (Rose (D.faults disk.old) (D.faults disk.new)) result }
+    ensures reads_recovered { task_named words.now ≡ Some task.Recover → result ≢ Status.NoMemory → ReadsToRecover (TellsContents (D.contents disk.old)) (S.left source.old) (S.left source.new) result }
     ensures generated { (commands : ℕ) → task_named words.now ≡ Some (task.Generate commands) → Generated commands result (K.written sink.old) (K.written sink.new) }
     ensures complete { task_named words.now ≡ Some task.Replay → CompletesSessions (S.left source.old) (Rose (S.faults source.old) (S.faults source.new)) (Rose (K.faults sink.old) (K.faults sink.new)) result }
     ensures complete_record { ReadsRecord (task_named words.now) → CompletesRecords (S.left source.old) (Rose (S.faults source.old) (S.faults source.new)) (Rose (K.faults sink.old) (K.faults sink.new)) result }
     ensures complete_generated { (commands : ℕ) → task_named words.now ≡ Some (task.Generate commands) → ¬ Rose (K.faults sink.old) (K.faults sink.new) → EndsWell result }
     ensures reads { task_named words.now ≡ Some task.Replay → result ≢ Status.NoMemory → Reads (S.left source.old) (S.left source.new) result }
     ensures reads_record { ReadsRecord (task_named words.now) → result ≢ Status.NoMemory → ReadsUpTo longest_record (S.left source.old) (S.left source.new) result }
-    ensures illegal { (entry : ℕ) → result ≡ Status.Illegal entry → ReadsRecord (task_named words.now) }
+    ensures illegal { (entry : ℕ) → result ≡ Status.Illegal entry → ReadsRecord (task_named words.now) ⊎ (task_named words.now ≡ Some task.Recover) }
     ensures read_count { S.faults source.old ≤ S.faults source.new }
     ensures read_fault { result ≡ Status.ReadFault → Rose (S.faults source.old) (S.faults source.new) }
     ensures read_bound { ReadsWithin (longest_input (task_named words.now)) (S.reads source.old) (S.reads source.new) }
@@ -140,6 +155,7 @@ pub fn run_alone<S: Source, K: Sink, D: Disk>(
         Ok(Some(Task::Audit)) => audit_record(alloc, source, sink),
         Ok(Some(Task::Ship)) => ship_record(alloc, source, sink),
         Ok(Some(Task::Store)) => store(alloc, source, sink, disk),
+        Ok(Some(Task::Recover)) => recover(alloc, source, sink, disk),
         Ok(Some(Task::Generate { commands })) => generate(alloc, commands, sink),
         Ok(None) => Status::Usage,
         Err(_) => Status::NoMemory,

@@ -41,3 +41,8 @@ returns-in-Err-clause-stored_any_moment g c bytes asked is tells =
     started g.D.Disk.moment g.D.Disk.left_since c.args.disk.now (StoresPartOf bytes)
     (λ image left. nothing-yet bytes (g.D.Disk.contents c.args.disk.now) (told-empty (g.D.Disk.contents c.args.disk.now) c.requires.empty tells) image
     (g.met.D.Disk.only_now c.args.disk.now image left))
+
+-- a session is recovered from an image whose lines are right, where nothing fails
+pub returns-in-Ok-Some-Recover-clause-complete_recovered : goal.returns-in-Ok-Some-Recover-clause-complete_recovered
+returns-in-Ok-Some-Recover-clause-complete_recovered g c asked bytes session image front is tells has short fits no_read_fault no_write_fault no_disk_fault =
+    c.recover.ensures.complete bytes session image front is tells has short fits no_read_fault no_write_fault no_disk_fault
