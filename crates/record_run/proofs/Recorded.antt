@@ -7,12 +7,12 @@ use Rattle.market_model.specs.declared.setup.Setup.{Setup}
 use Rattle.market_text.specs.declared.session.Session.{Session}
 use Rattle.journal_audit.specs.Audit.{IsComplete}
 use Rattle.session_io.specs.Reading.{longest_record}
-use Rattle.run_status.specs.declared.status.Status.{Status}
-use Rattle.run_status.specs.declared.status.Status.TheVariants as status
-use Rattle.run_status.specs.Reading.{ReadsUpTo, Stops, WasRead}
-use Rattle.run_status.specs.Status.{stops_reading}
-use Rattle.run_status.proofs.Answering.{answers-nothing, is-known}
-use Rattle.run_status.proofs.Completion.{completes}
+use Rattle.session_io.specs.declared.status.Status.{Status}
+use Rattle.session_io.specs.declared.status.Status.TheVariants as status
+use Rattle.session_io.specs.Sources.{ReadsUpTo, Stops, WasRead}
+use Rattle.session_io.specs.Status.{stops_reading}
+use Rattle.session_io.proofs.Answering.{answers-nothing, is-known}
+use Rattle.session_io.proofs.Completion.{completes}
 use Rattle.record_run.specs.declared.auditing.Audited.{Audited}
 use Rattle.record_run.specs.Auditing.{IsOf}
 use Rattle.record_run.specs.Outcomes.{Recorded}

@@ -1,8 +1,8 @@
 -- A text that was written is what was asked for.
 use Rattle.std.proofs.Common.{inr, ℕ, List, Option, subst}
-use Rattle.run_status.specs.declared.status.Status.{Status}
-use Rattle.run_status.specs.declared.status.Status.TheVariants as status
-use Rattle.run_status.specs.Outcomes.{Answers}
+use Rattle.session_io.specs.declared.status.Status.{Status}
+use Rattle.session_io.specs.declared.status.Status.TheVariants as status
+use Rattle.session_io.specs.Outcomes.{Answers}
 use Rattle.record_run.specs.Writing.{Writes}
 
 pub writes-answer : (IsAsked : List ℕ → Type 0) (IsBad IsIllegal : ℕ → Type 0) (text : List ℕ) (end : Status) (old new : Option (List ℕ))

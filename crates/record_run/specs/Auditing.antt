@@ -1,8 +1,8 @@
 -- What comes of the audit of a record.
 use Rattle.std.specs.Prelude.{◌≡◌, ℕ, List}
 use Rattle.market_text.specs.declared.session.Session.{Session}
-use Rattle.run_status.specs.declared.status.Status.{Status}
-use Rattle.run_status.specs.declared.status.Status.TheVariants as status
+use Rattle.session_io.specs.declared.status.Status.{Status}
+use Rattle.session_io.specs.declared.status.Status.TheVariants as status
 use Rattle.record_run.specs.declared.auditing.Audited.{Audited}
 use Rattle.record_run.specs.Records.{IsBadRecord, IsIllegalRecord, IsRecord}
 

@@ -1,8 +1,8 @@
 -- An input that is read to its end.
 use Rattle.std.specs.Prelude.{◌≡◌, ℕ, List, Option}
-use Rattle.run_status.specs.declared.status.Status.{Status}
-use Rattle.run_status.specs.declared.status.Status.TheVariants as status
-use Rattle.run_status.specs.Reading.{ReadsUpTo}
+use Rattle.session_io.specs.declared.status.Status.{Status}
+use Rattle.session_io.specs.declared.status.Status.TheVariants as status
+use Rattle.session_io.specs.Sources.{ReadsUpTo}
 
 -- bytes are these
 abbrev pub Is : (these bytes : List ℕ) → Type 0

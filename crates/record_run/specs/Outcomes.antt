@@ -4,8 +4,8 @@ use Rattle.market_model.specs.declared.entry.Entry.{Entry}
 use Rattle.market_model.specs.declared.setup.Setup.{Setup}
 use Rattle.market_text.specs.declared.session.Session.{Session}
 use Rattle.session_io.specs.Reading.{longest_record}
-use Rattle.run_status.specs.declared.status.Status.{Status}
-use Rattle.run_status.specs.Outcomes.{Answers, EndsWell}
+use Rattle.session_io.specs.declared.status.Status.{Status}
+use Rattle.session_io.specs.Outcomes.{Answers, EndsWell}
 use Rattle.record_run.specs.Records.{IsBadRecord, IsIllegalRecord, IsMadeOf, IsRecord, schedule_of, verdict_of}
 
 -- a run that writes a text of the journal of a record, where that is complete

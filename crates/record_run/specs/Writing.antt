@@ -2,8 +2,8 @@
 use Rattle.std.specs.Prelude.{ℕ, List, Option}
 use Rattle.std.specs.Io.KnownBytes.{Appends}
 use Rattle.session_io.specs.Writing.{Wrote}
-use Rattle.run_status.specs.declared.status.Status.{Status}
-use Rattle.run_status.specs.declared.status.Status.TheVariants as status
+use Rattle.session_io.specs.declared.status.Status.{Status}
+use Rattle.session_io.specs.declared.status.Status.TheVariants as status
 
 -- a text was to be written: the whole of it was, or a first part; the run ends in no other way
 abbrev pub Writes : (text : List ℕ) → Status → (old new : Option (List ℕ)) → Type 0

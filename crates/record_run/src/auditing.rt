@@ -5,7 +5,7 @@ ghost use Rattle.outside.specs.Faults.{Rose};
 ghost use Rattle.market_model.specs.Market as market;
 ghost use Rattle.market_model.specs.WellFormed.{IsMarketSetup};
 ghost use Rattle.session_io.specs.Reading.{ReadsWithin, longest_record};
-ghost use Rattle.run_status.specs.Reading.{Stops, WasRead};
+ghost use Rattle.session_io.specs.Sources.{Stops, WasRead};
 ghost use Rattle.record_run.specs.Auditing.{EndsAudit, IsOf};
 ghost use Rattle.record_run.specs.Records.{IsBadRecord, IsIllegalRecord};
 
@@ -14,8 +14,7 @@ use journal_audit::{Divided, Verdict, audit, read_divided};
 use market_model::{Entries, Setup};
 use market_text::{Session, TextFault};
 use outside::Source;
-use run_status::Status;
-use session_io::LONGEST_RECORD;
+use session_io::{LONGEST_RECORD, Status};
 use session_journal::grid_of;
 use std::alloc::Global;
 

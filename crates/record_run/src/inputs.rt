@@ -3,12 +3,11 @@
 ghost use Rattle.std.specs.Prelude.{◌≡◌, ◌≤◌, IfErr, IfOk};
 ghost use Rattle.outside.specs.Faults.{Rose};
 ghost use Rattle.record_run.specs.Inputs.{Is, ReadsNone};
-ghost use Rattle.run_status.specs.Reading.{WasRead};
+ghost use Rattle.session_io.specs.Sources.{WasRead};
 ghost use Rattle.session_io.specs.Reading.{ReadsWithin};
 
 use outside::Source;
-use run_status::Status;
-use session_io::{ReadError, read_all};
+use session_io::{ReadError, Status, read_all};
 use std::alloc::Global;
 
 /// Reads a source to its end, where that comes after at most so many bytes.

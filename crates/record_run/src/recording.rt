@@ -3,15 +3,15 @@
 ghost use Rattle.std.specs.Prelude.{◌≡◌, ◌≢◌, ◌≤◌, ℕ, List, IsTrue, Some, false, IfOk};
 ghost use Rattle.outside.specs.Faults.{Rose};
 ghost use Rattle.session_io.specs.Reading.{ReadsWithin, longest_record};
-ghost use Rattle.run_status.specs.Reading.{ReadsUpTo};
-ghost use Rattle.run_status.specs.Status.{is_of_disk, writes_nothing};
+ghost use Rattle.session_io.specs.Sources.{ReadsUpTo};
+ghost use Rattle.session_io.specs.Status.{is_of_disk, writes_nothing};
 ghost use Rattle.record_run.specs.Outcomes.{Audited as AuditedSo, CompletesRecords, Shipped as ShippedSo};
 ghost use Rattle.record_run.specs.Records.{legal_line};
 
 use crate::auditing::audited_from;
 use crate::writing::write_made;
 use outside::{Sink, Source};
-use run_status::Status;
+use session_io::Status;
 use ship_schedule::schedule;
 use std::alloc::Global;
 use zone_graph::{NoMemory, Text};

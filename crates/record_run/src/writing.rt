@@ -5,8 +5,7 @@ ghost use Rattle.outside.specs.Faults.{Rose};
 ghost use Rattle.record_run.specs.Writing.{Writes};
 
 use outside::Sink;
-use run_status::Status;
-use session_io::write_lines;
+use session_io::{Status, write_lines};
 use zone_graph::{NoMemory, Text};
 
 /// Writes a text, line by line.

@@ -1,2 +1,4 @@
+pub mod Answering
+pub mod Completion
 pub mod JournalTexts
 pub mod WritingLemmas

@@ -2,3 +2,6 @@
 pub mod JournalText
 pub mod Reading
 pub mod Writing
+pub mod Outcomes
+pub mod Sources
+pub mod Status

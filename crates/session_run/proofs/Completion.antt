@@ -3,9 +3,9 @@ use Rattle.std.proofs.Common.{◌≡◌, ◌≢◌, ◌∙◌, ◌⊎◌, ℕ, �
 use Rattle.market_text.specs.declared.session.Session.{Session}
 use Rattle.market_text.specs.Text.{session_of_text}
 use Rattle.session_io.specs.Reading.{longest_session}
-use Rattle.run_status.specs.declared.status.Status.{Status}
-use Rattle.run_status.specs.declared.status.Status.TheVariants as status
-use Rattle.run_status.proofs.Completion.{completes}
+use Rattle.session_io.specs.declared.status.Status.{Status}
+use Rattle.session_io.specs.declared.status.Status.TheVariants as status
+use Rattle.session_io.proofs.Completion.{completes}
 use Rattle.session_run.specs.Outcomes.{Played}
 use Rattle.session_run.specs.Reading.{HasNoEntry, IsBadText, Reads}
 

@@ -6,7 +6,7 @@ use Rattle.market_text.specs.Text.{session_of_text}
 use Rattle.laws_of_texts.proofs.GeneratedSessions.{generated_texts}
 use Rattle.session_journal.specs.Journal.{journal_of_session}
 use Rattle.session_run.specs.Journal.{IsSummaryOf}
-use Rattle.run_status.specs.Outcomes.{IsWrittenInPart}
+use Rattle.session_io.specs.Outcomes.{IsWrittenInPart}
 use Rattle.session_io.proofs.JournalTexts.{appends-nothing}
 
 pub no-bad-line : (commands line : ℕ) → commands ≤ 100000 → session_of_text (session_text commands) ≡ Err line → ⊥

@@ -14,12 +14,12 @@ use Rattle.journal_audit.specs.Dividing.{Parts}
 use Rattle.journal_audit.specs.Reading.{session_of_divided}
 use Rattle.session_io.specs.JournalText.{journal_text}
 use Rattle.session_io.specs.Reading.{longest_record}
-use Rattle.run_status.specs.declared.status.Status.{Status}
-use Rattle.run_status.specs.declared.status.Status.TheVariants as status
-use Rattle.run_status.specs.Outcomes.{Answers, EndsWell}
-use Rattle.run_status.specs.Reading.{ReadsUpTo, WasRead}
-use Rattle.run_status.proofs.Answering.{has-read}
-use Rattle.run_status.proofs.Completion.{completes}
+use Rattle.session_io.specs.declared.status.Status.{Status}
+use Rattle.session_io.specs.declared.status.Status.TheVariants as status
+use Rattle.session_io.specs.Outcomes.{Answers, EndsWell}
+use Rattle.session_io.specs.Sources.{ReadsUpTo, WasRead}
+use Rattle.session_io.proofs.Answering.{has-read}
+use Rattle.session_io.proofs.Completion.{completes}
 use Rattle.record_run.specs.Inputs.{Is, ReadsNone}
 use Rattle.record_run.specs.Writing.{Writes}
 use Rattle.record_run.proofs.Markets.{read-parts}

@@ -20,13 +20,13 @@ use Rattle.zone_graph.specs.GridFault.{grid_fault}
 use Rattle.market_model.specs.Grid.{graph_of}
 use Rattle.market_model.specs.declared.command.Command.{Command}
 use Rattle.session_storing.proofs.Plays.{begins-playing}
-use Rattle.run_status.specs.declared.status.Status.{Status}
-use Rattle.run_status.specs.declared.status.Status.TheVariants as status
-use Rattle.run_status.specs.Outcomes.{EndsWell}
-use Rattle.run_status.specs.Reading.{Stops, WasRead}
-use Rattle.run_status.specs.Status.{stops_reading}
-use Rattle.run_status.proofs.Answering.{answers-nothing, answers-on-disk, has-read, is-known}
-use Rattle.run_status.proofs.Completion.{completes}
+use Rattle.session_io.specs.declared.status.Status.{Status}
+use Rattle.session_io.specs.declared.status.Status.TheVariants as status
+use Rattle.session_io.specs.Outcomes.{EndsWell}
+use Rattle.session_io.specs.Sources.{Stops, WasRead}
+use Rattle.session_io.specs.Status.{stops_reading}
+use Rattle.session_io.proofs.Answering.{answers-nothing, answers-on-disk, has-read, is-known}
+use Rattle.session_io.proofs.Completion.{completes}
 use Rattle.record_run.specs.Writing.{Writes}
 use Rattle.record_run.proofs.Written.{writes-answer}
 use Rattle.stored_journal.specs.Lines.{StoresFront, TellsContents}

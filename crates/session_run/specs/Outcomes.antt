@@ -3,12 +3,12 @@ use Rattle.std.specs.Prelude.{◌≡◌, ◌≤◌, ℕ, List, Option, Ok, Some,
 use Rattle.market_text.specs.declared.session.Session.{Session}
 use Rattle.market_text.specs.Text.{session_of_text}
 use Rattle.session_io.specs.Reading.{longest_session}
-use Rattle.run_status.specs.Outcomes.{Answers, EndsWell, IsWritten, IsWrittenInPart}
+use Rattle.session_io.specs.Outcomes.{Answers, EndsWell, IsWritten, IsWrittenInPart}
 use Rattle.journal_audit.specs.Journal.{IsJournalOf, IsTradedJournalOf}
 use Rattle.session_run.specs.Journal.{IsSummaryOf}
 use Rattle.session_run.specs.Reading.{HasNoEntry, IsBadText}
-use Rattle.run_status.specs.declared.status.Status.{Status}
-use Rattle.run_status.specs.declared.status.Status.TheVariants as status
+use Rattle.session_io.specs.declared.status.Status.{Status}
+use Rattle.session_io.specs.declared.status.Status.TheVariants as status
 
 -- a run that reads these bytes to their end, and is asked to write such a text: it wrote the whole of one, or a first
 -- part; where memory was wanting it wrote a first part or nothing; where the bytes are no session their first bad line

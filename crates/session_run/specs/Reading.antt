@@ -5,8 +5,8 @@ use Rattle.market_text.specs.Text.{session_of_text}
 use Rattle.command_words.specs.declared.words.Task.{Task}
 use Rattle.command_words.specs.declared.words.Task.TheVariants as task
 use Rattle.session_io.specs.Reading.{longest_record, longest_session}
-use Rattle.run_status.specs.declared.status.Status.{Status}
-use Rattle.run_status.specs.Reading.{ReadsUpTo, Stops, WasRead}
+use Rattle.session_io.specs.declared.status.Status.{Status}
+use Rattle.session_io.specs.Sources.{ReadsUpTo, Stops, WasRead}
 
 -- the most bytes that the input of a run may have, by what its words ask for: a record's or that of a session with an image,
 -- or a session's

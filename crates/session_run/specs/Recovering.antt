@@ -9,10 +9,10 @@ use Rattle.journal_audit.specs.Dividing.{Parts, division_of}
 use Rattle.journal_audit.specs.Reading.{session_of_divided}
 use Rattle.session_io.specs.JournalText.{journal_text}
 use Rattle.session_io.specs.Reading.{longest_record}
-use Rattle.run_status.specs.Outcomes.{DiskAnswers, EndsWell}
-use Rattle.run_status.specs.Reading.{ReadsUpTo, WasRead}
-use Rattle.run_status.specs.declared.status.Status.{Status}
-use Rattle.run_status.specs.declared.status.Status.TheVariants as status
+use Rattle.session_io.specs.Outcomes.{DiskAnswers, EndsWell}
+use Rattle.session_io.specs.Sources.{ReadsUpTo, WasRead}
+use Rattle.session_io.specs.declared.status.Status.{Status}
+use Rattle.session_io.specs.declared.status.Status.TheVariants as status
 use Rattle.session_storing.specs.Playing.{journal_in_order, lines_in_order}
 use Rattle.session_storing.specs.Recovering.{IsTooLargeBehind, StoresRightLines, StoresWrongLine, order_behind}
 

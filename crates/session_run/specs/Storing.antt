@@ -7,10 +7,10 @@ use Rattle.market_text.specs.declared.session.Session.{Session}
 use Rattle.market_text.specs.Text.{session_of_text}
 use Rattle.session_io.specs.Reading.{longest_session}
 use Rattle.session_journal.specs.Journal.{journal_of_session}
-use Rattle.run_status.specs.Outcomes.{DiskAnswers, EndsWell}
-use Rattle.run_status.specs.Reading.{ReadsUpTo, WasRead}
-use Rattle.run_status.specs.declared.status.Status.{Status}
-use Rattle.run_status.specs.declared.status.Status.TheVariants as status
+use Rattle.session_io.specs.Outcomes.{DiskAnswers, EndsWell}
+use Rattle.session_io.specs.Sources.{ReadsUpTo, WasRead}
+use Rattle.session_io.specs.declared.status.Status.{Status}
+use Rattle.session_io.specs.declared.status.Status.TheVariants as status
 use Rattle.stored_journal.specs.Lines.{StoresFront, stored_lines}
 use Rattle.session_run.specs.Reading.{HasNoEntry, IsBadText}
 

@@ -2,7 +2,7 @@
 
 ghost use Rattle.std.specs.Prelude.{◌≡◌, ◌≤◌, IfOk, false};
 ghost use Rattle.outside.specs.Faults.{Rose};
-ghost use Rattle.run_status.specs.Status.{is_of_disk};
+ghost use Rattle.session_io.specs.Status.{is_of_disk};
 ghost use Rattle.session_run.specs.Journal.{IsSummaryOf};
 ghost use Rattle.session_run.specs.Outcomes.{Generated};
 
@@ -10,8 +10,7 @@ use desk_market::journal_of;
 use load_maker::{session_text, summary};
 use market_text::{TextFault, read_session};
 use outside::Sink;
-use run_status::Status;
-use session_io::write_lines;
+use session_io::{Status, write_lines};
 use std::alloc::Global;
 use zone_graph::{NoMemory, Text};
 

@@ -10,5 +10,5 @@ mod running;
 mod sessions;
 mod storing;
 
-pub use run_status::{Status, message};
 pub use running::{run, run_alone};
+pub use session_io::{Status, message};

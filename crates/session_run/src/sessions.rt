@@ -15,8 +15,7 @@ ghost use Rattle.session_run.specs.Reading.{ReadsNoSession, ReadsSession};
 use market_text::{Session, TextFault, read_session};
 use outside::{Sink, Source};
 use record_run::input_from;
-use run_status::Status;
-use session_io::{LONGEST_SESSION, WriteError, write_journal};
+use session_io::{LONGEST_SESSION, Status, WriteError, write_journal};
 use std::alloc::Global;
 use trade_journal::Journal;
 

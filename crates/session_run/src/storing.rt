@@ -13,7 +13,7 @@ ghost use Rattle.durable_journal.specs.Appending.{most_stored};
 ghost use Rattle.durable_journal.specs.Resting.{IsImageOf};
 ghost use Rattle.durable_journal.specs.Stored.{image_of};
 ghost use Rattle.session_io.specs.Reading.{ReadsWithin, longest_session};
-ghost use Rattle.run_status.specs.Status.{writes_nothing};
+ghost use Rattle.session_io.specs.Status.{writes_nothing};
 ghost use Rattle.stored_journal.specs.Lines.{StoresFront, TellsContents};
 ghost use Rattle.session_storing.specs.Outcomes.{EndsStoring};
 ghost use Rattle.session_run.specs.Storing.{CompletesStoring, IsEmptyDisk, ReadsToStore, Stored, StoresPartOf, lines_of_session};
@@ -24,7 +24,7 @@ use disk_model::Disk;
 use market_text::Session;
 use outside::{Sink, Source};
 use record_run::write_text;
-use run_status::Status;
+use session_io::Status;
 use session_storing::store_turns;
 use std::alloc::Global;
 

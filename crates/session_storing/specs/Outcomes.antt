@@ -1,7 +1,7 @@
 -- How a session that is not stored, or not recovered, ends a run.
 use Rattle.std.specs.Prelude.{ℕ}
-use Rattle.run_status.specs.declared.status.Status.{Status}
-use Rattle.run_status.specs.declared.status.Status.TheVariants as status
+use Rattle.session_io.specs.declared.status.Status.{Status}
+use Rattle.session_io.specs.declared.status.Status.TheVariants as status
 
 -- a session was not stored, and the run ends so
 abbrev pub EndsStoring : Status → Type 0

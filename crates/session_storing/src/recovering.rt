@@ -25,7 +25,7 @@ use crate::storing::{append_turns, last_of, play_next};
 use disk_model::Disk;
 use durable_journal::At;
 use journal_audit::caller_named;
-use run_status::Status;
+use session_io::Status;
 use std::alloc::Global;
 use stored_journal::{is_line_of, open_written};
 use zone_graph::Text;

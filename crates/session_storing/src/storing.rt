@@ -20,7 +20,7 @@ use crate::player::Player;
 use disk_model::Disk;
 use durable_journal::At;
 use market_model::Entry;
-use run_status::Status;
+use session_io::Status;
 use std::alloc::Global;
 use stored_journal::{append_entry, open_empty, read_image};
 

@@ -1,6 +1,6 @@
 -- How a call on the disk of a journal ends a run.
-use Rattle.run_status.specs.declared.status.Status.{Status}
-use Rattle.run_status.specs.declared.status.Status.TheVariants as status
+use Rattle.session_io.specs.declared.status.Status.{Status}
+use Rattle.session_io.specs.declared.status.Status.TheVariants as status
 
 -- a line was not appended
 abbrev pub EndsAppend : Status → Type 0

@@ -15,7 +15,7 @@ use disk_model::Disk;
 use durable_journal::{AppendFault, At, append};
 use journal_print::print_entry;
 use market_model::{Entry, Setup};
-use run_status::Status;
+use session_io::Status;
 use std::alloc::Global;
 use zone_graph::NoMemory;
 

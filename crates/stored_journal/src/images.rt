@@ -10,7 +10,7 @@ ghost use Rattle.stored_journal.specs.Outcomes.{EndsCall, EndsOpening};
 
 use disk_model::{Disk, Failed};
 use durable_journal::{At, ImageFault, Lines, open_image};
-use run_status::Status;
+use session_io::Status;
 use std::alloc::Global;
 
 /// Opens an empty disk, and answers where the lines on it end, of which there is none.

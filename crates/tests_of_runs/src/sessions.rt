@@ -6,7 +6,7 @@ ghost use Rattle.command_words.specs.declared.words.Task.TheVariants as task;
 ghost use Rattle.market_text.specs.Text.{session_of_text};
 ghost use Rattle.market_text.specs.declared.session.Session.{Session};
 ghost use Rattle.session_io.specs.Reading.{longest_session};
-ghost use Rattle.run_status.specs.declared.status.Status.TheVariants as ended;
+ghost use Rattle.session_io.specs.declared.status.Status.TheVariants as ended;
 
 use disk_model::RamDisk;
 use outside::{NullSink, SteadySource};

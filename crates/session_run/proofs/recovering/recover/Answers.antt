@@ -3,7 +3,7 @@ use Rattle.std.proofs.Common.{◌≡◌, ◌∙◌, inl, sym, subst}
 use Rattle.session_io.specs.JournalText.{journal_text}
 use Rattle.session_io.specs.Reading.{longest_record}
 use Rattle.record_run.specs.Inputs.{Is}
-use Rattle.run_status.proofs.Answering.{has-read, is-known}
+use Rattle.session_io.proofs.Answering.{has-read, is-known}
 use Rattle.stored_journal.specs.Lines.{TellsContents}
 use Rattle.session_run.specs.Recovering.{EndsInput, IsRecoveredOn, IsRecoveredTextOf}
 use Rattle.session_run.proofs.Recovered.{ends-completes, ends-not-done, ends-reads, ends-recovered, unread-completes, unread-early, unread-reads, unread-recovered, written-recovered}

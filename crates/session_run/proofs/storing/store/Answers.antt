@@ -6,7 +6,7 @@ use Rattle.durable_journal.specs.Resting.{IsImageOf}
 use Rattle.durable_journal.specs.Stored.{image_of}
 use Rattle.market_text.specs.declared.session.Session.{Session}
 use Rattle.session_io.specs.Reading.{longest_session}
-use Rattle.run_status.proofs.Answering.{has-read}
+use Rattle.session_io.proofs.Answering.{has-read}
 use Rattle.stored_journal.specs.Lines.{StoresFront, TellsContents}
 use Rattle.session_run.specs.Reading.{IsTextOf}
 use Rattle.session_run.specs.Storing.{StoresPartOf, lines_of_session}

@@ -1,7 +1,7 @@
 //! How a run ends.
 
 ghost use Rattle.std.specs.Prelude.{◌≡◌, IfOk};
-ghost use Rattle.run_status.specs.Status.{message_of, status_number};
+ghost use Rattle.session_io.specs.Status.{message_of, status_number};
 
 use std::alloc::Global;
 use zone_graph::{NoMemory, Text};

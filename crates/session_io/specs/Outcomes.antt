@@ -1,8 +1,8 @@
 -- What a run has written, by how it ends.
 use Rattle.std.specs.Prelude.{◌≡◌, ℕ, List, [], ◌++◌, ◌⊎◌, Option}
 use Rattle.std.specs.Io.KnownBytes.{Appends}
-use Rattle.run_status.specs.declared.status.Status.{Status}
-use Rattle.run_status.specs.declared.status.Status.TheVariants as status
+use Rattle.session_io.specs.declared.status.Status.{Status}
+use Rattle.session_io.specs.declared.status.Status.TheVariants as status
 
 -- a text that is the one asked for was written
 pub record IsWritten (IsAsked : List ℕ → Type 0) (old new : Option (List ℕ)) : Type 0 where

@@ -1,9 +1,9 @@
 -- What a run does to its source, by how it ends.
 use Rattle.std.specs.Prelude.{◌≡◌, ◌≢◌, ℕ, ◌<◌, ◌≤◌, List, length, Option, Some, IsTrue, true}
 use Rattle.std.specs.Io.KnownBytes.{Consumes, IsAtEnd}
-use Rattle.run_status.specs.declared.status.Status.{Status}
-use Rattle.run_status.specs.declared.status.Status.TheVariants as status
-use Rattle.run_status.specs.Status.{reads_to_end, stops_reading}
+use Rattle.session_io.specs.declared.status.Status.{Status}
+use Rattle.session_io.specs.declared.status.Status.TheVariants as status
+use Rattle.session_io.specs.Status.{reads_to_end, stops_reading}
 
 -- these bytes came from the source; they are more than are allowed exactly where the run says so, and
 -- the source is at its end unless a fault or too many bytes stopped the reading

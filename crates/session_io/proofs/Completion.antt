@@ -2,10 +2,10 @@
 use Rattle.std.proofs.Common.{◌≡◌, ◌≢◌, ◌∙◌, ◌⊎◌, inl, inr, ℕ, ◌<◌, ◌≤◌, ◌++◌, List, Option, Some, None, length, refl, sym, ap, arith}
 use Rattle.std.proofs.lemmas.List.{length-append}
 use Rattle.std.specs.Io.KnownBytes.{Consumes}
-use Rattle.run_status.specs.declared.status.Status.{Status}
-use Rattle.run_status.specs.declared.status.Status.TheVariants as status
-use Rattle.run_status.specs.Outcomes.{Answers, DiskAnswers, EndsWell}
-use Rattle.run_status.specs.Reading.{ReadsUpTo}
+use Rattle.session_io.specs.declared.status.Status.{Status}
+use Rattle.session_io.specs.declared.status.Status.TheVariants as status
+use Rattle.session_io.specs.Outcomes.{Answers, DiskAnswers, EndsWell}
+use Rattle.session_io.specs.Sources.{ReadsUpTo}
 
 -- what came of known bytes is no more than they are
 no-more : (left new : Option (List ℕ)) (input bytes : List ℕ) → Consumes left new input → left ≡ Some bytes → length input ≤ length bytes

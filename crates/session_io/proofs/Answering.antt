@@ -2,10 +2,10 @@
 use Rattle.std.proofs.Common.{◌≡◌, ◌≢◌, inl, ℕ, true≢false, List, Option, Some, IfSome, refl, sym, subst}
 use Rattle.std.specs.Io.KnownBytes.{Consumes, IsAtEnd}
 use Rattle.std.proofs.KnownBytes.{Appends-nil, Consumes-whole}
-use Rattle.run_status.specs.declared.status.Status.{Status}
-use Rattle.run_status.specs.declared.status.Status.TheVariants as status
-use Rattle.run_status.specs.Outcomes.{Answers, DiskAnswers}
-use Rattle.run_status.specs.Reading.{ReadsUpTo, Stops, WasRead}
+use Rattle.session_io.specs.declared.status.Status.{Status}
+use Rattle.session_io.specs.declared.status.Status.TheVariants as status
+use Rattle.session_io.specs.Outcomes.{Answers, DiskAnswers}
+use Rattle.session_io.specs.Sources.{ReadsUpTo, Stops, WasRead}
 
 -- what came of known bytes up to their end is these bytes
 pub came-whole : (left new : Option (List ℕ)) (input bytes : List ℕ) → Consumes left new input → IsAtEnd new → left ≡ Some bytes → input ≡ bytes

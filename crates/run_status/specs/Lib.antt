@@ -1,4 +1,0 @@
--- What the contracts of this crate and of those above it cite.
-pub mod Outcomes
-pub mod Reading
-pub mod Status
