@@ -30,6 +30,7 @@ use Rattle.laws_of_rows.specs.Filled.{rows_with}
 use Rattle.laws_of_rows.proofs.Views.{view-is}
 use Rattle.local_view.proofs.LineMakers.{makers-cross, makers-once}
 use Rattle.laws_of_views.proofs.FirstMakers.{AllCross, AreOnce}
+use Rattle.local_view.specs.Poured.{rows_taken}
 use Rattle.local_view.proofs.Walking.{walked, walked-trades}
 
 -- a room of each arc, as a row of rooms
@@ -111,7 +112,7 @@ module _ (graph : Graph) (hour : ℕ) (events : List Event) (of : IsHourOf graph
 
     -- a line without orders shows nothing
     pub view-empty : (zone : ℕ) → line events (contract_at hour part) side ≡ [] → view graph events (contract_at hour part) side zone ≡ []
-    unfolding walked
+    unfolding rows_taken
     view-empty zone none =
         let rooms = rooms_like (border_count graph) (room events (contract_quarters (contract_at hour part))) in
         sym (view-walked zone rooms (λ arc known. room-like (border_count graph) (room events (contract_quarters (contract_at hour part))) arc known))

@@ -1,10 +1,11 @@
--- A list of rows in its course: the rows so far, and those of the rest of the line.
-use Rattle.std.proofs.Common.{◌≡◌, ◌∙◌, ℕ, zero, suc, ◌-◌, ◌<◌, List, [], ◌∷◌, ◌++◌, length, map, min, Option, Some, None, append_assoc, refl, sym, ap, subst, arith}
-use Rattle.std.proofs.lemmas.List.{append-nil}
+-- Where a walk along a line of a board stands, and a list of rows in its course.
+use Rattle.std.proofs.Common.{◌≡◌, ◌∙◌, ℕ, zero, suc, ◌+◌, ◌-◌, ◌<◌, ◌≤◌, List, [], ◌∷◌, ◌++◌, drop, get_or, length, min, Option, Some, None, append_assoc, refl, sym, ap, subst, arith}
+use Rattle.std.proofs.lemmas.List.{append-nil, drop_all, drop_more}
 use Rattle.order_kinds.specs.declared.price.Price.{Price}
 use Rattle.order_kinds.specs.declared.side.Side.{Side}
 use Rattle.zone_graph.specs.declared.route.RouteLeg.{RouteLeg}
-use Rattle.zone_graph.specs.Graph.{HasZone}
+use Rattle.zone_graph.specs.declared.route.Arc.{Arc}
+use Rattle.zone_graph.specs.Graph.{Graph, HasZone}
 use Rattle.zone_graph.specs.Pour.{opposite_arc}
 use Rattle.zone_graph.specs.Rooms.{room_of}
 use Rattle.zone_graph.specs.Route.{IsIn}
@@ -14,12 +15,11 @@ use Rattle.market_model.specs.Board.{BoardState, IsBoard, Rests, RestsIn, first_
 use Rattle.market_model.specs.Orders.{Standing}
 use Rattle.cut_proof.specs.Carrying.{FitTogether}
 use Rattle.route_choice.specs.Poured.{AreRoomsAfter, lots_of, rooms_after as all_after}
-use Rattle.laws_of_rows.specs.Depth.{maker_of}
+use Rattle.local_view.specs.declared.whole.LineOrder.{LineOrder}
 use Rattle.local_view.specs.Boards.{AreRoomsOf, view_of}
-use Rattle.local_view.specs.Poured.{legs_with, row_if}
-use Rattle.local_view.proofs.Hours.{line-zones, view-empty, view-walked}
-use Rattle.local_view.proofs.Lines.{StandsAt, from_shown, resting-differ, rests-all, stands-at, walk-begins}
-use Rattle.local_view.proofs.Walking.{walked}
+use Rattle.local_view.specs.Poured.{legs_with, row_if, rows_taken}
+use Rattle.local_view.proofs.Hours.{line-zones, view-empty}
+use Rattle.local_view.proofs.Lines.{StandsAt, from_shown, resting-differ, rests-all, stands-at}
 
 pub row-first : (price : Price) (lots : ℕ) (rows : List ViewRow) → row_if price lots rows ≡ row_if price lots [] ++ rows
 row-first price zero rows = refl
@@ -31,12 +31,6 @@ rooms-fit board part rooms of arc known =
     let own = of.most arc known in
     let back = of.most (opposite_arc arc) known in omega (arith, own, back)
 
--- the rows so far, and those of the orders from the next one on, are all rows
-pub record IsListed (board : BoardState) (part : ℕ) (side : Side) (zone : ℕ) (start rooms : List (ℕ × ℕ)) (left : ℕ) (next : Option Shown) (rows : List ViewRow) : Type 0 where
-  pub stands : next ≡ first_shown (from_shown (resting_line board part side) next)
-  pub onward : rows ++ walked board.grid side zone (room_of rooms) left (map maker_of (from_shown (resting_line board part side) next))
-      ≡ walked board.grid side zone (room_of start) 4294967295 (map maker_of (resting_line board part side))
-
 none-first : (orders : List Standing) → first_shown orders ≡ None → orders ≡ []
 none-first [] none = refl
 none-first (order ∷ orders) none = absurd (cc)
@@ -44,17 +38,6 @@ none-first (order ∷ orders) none = absurd (cc)
 module _ (board : BoardState) (is : IsBoard board) (none : board.hand ≡ None) (part : ℕ) (known : part < board.parts) (side : Side) (zone : ℕ) where
   abbrev orders : List Standing
   orders = resting_line board part side
-
-  pub begins : (start : List (ℕ × ℕ)) (next : Option Shown) (rows : List ViewRow) → next ≡ first_shown (resting_line board part side) → rows ≡ []
-      → IsListed board part side zone start start 4294967295 next rows
-  begins start next rows first empty =
-      let all : from_shown orders next ≡ orders = ap (from_shown orders) first ∙ walk-begins orders in
-      record {
-        stands = first ∙ ap first_shown (sym all);
-        onward =
-            ap (λ rs. rs ++ walked board.grid side zone (room_of start) 4294967295 (map maker_of (from_shown orders next))) empty
-            ∙ ap (λ os. walked board.grid side zone (room_of start) 4294967295 (map maker_of os)) all;
-      }
 
   -- where no order rests there are no rows
   pub nothing-shown : first_shown (resting_line board part side) ≡ None → view_of board part side zone ≡ []
@@ -86,54 +69,54 @@ module _ (board : BoardState) (is : IsBoard board) (none : board.hand ≡ None) 
         let more : length (from_shown orders next) ≡ suc (length at.back) = ap (λ o. length (from_shown orders o)) found ∙ ap length at.here in
         omega (arith, less, more)
 
-    -- one order more
-    pub one-order : (start rooms rooms_after : List (ℕ × ℕ)) (left lots : ℕ) (next after : Option Shown) (rows rows_after : List ViewRow) (side_now : Side) (zone_now : ℕ)
-        → IsListed board part side zone start rooms left next rows → next ≡ Some shown → side_now ≡ side → zone_now ≡ zone
-        → lots ≡ lots_of (legs_with board.grid (room_of rooms) side_now zone_now shown.zone (min left shown.lots))
-        → AreRoomsAfter (room_of rooms) (room_of rooms_after) (legs_with board.grid (room_of rooms) side_now zone_now shown.zone (min left shown.lots))
-        → rows_after ≡ rows ++ row_if shown.price lots [] → after ≡ shown_behind shown.number (resting_line board part side)
-        → IsListed board part side zone start rooms_after (left - lots) after rows_after
-    unfolding walked
-    one-order start rooms rooms_after left lots next after rows rows_after side_now zone_now listed found same_side same_zone lots_are over rows_are behind =
-        let after_is : after ≡ first_shown at.back = behind ∙ at.next in
-        let rest : from_shown orders after ≡ at.back = ap (from_shown orders) after_is ∙ at.onward in
-        record {
-          stands = after_is ∙ ap first_shown (sym rest);
-          onward =
-              ap (λ rs. rs ++ walked board.grid side zone (room_of rooms_after) (left - lots) (map maker_of (from_shown orders after))) rows_are
-              ∙ append_assoc rows (row_if shown.price lots []) (walked board.grid side zone (room_of rooms_after) (left - lots) (map maker_of (from_shown orders after)))
-              ∙ ap (λ rs. rows ++ rs) (
-              sym (row-first shown.price lots (walked board.grid side zone (room_of rooms_after) (left - lots) (map maker_of (from_shown orders after))))
-              ∙ ap (λ os. row_if shown.price lots (walked board.grid side zone (room_of rooms_after) (left - lots) (map maker_of os))) rest
-              ∙ step
-              ∙ sym (ap (λ os. walked board.grid side zone (room_of rooms) left (map maker_of os)) (ap (from_shown orders) found ∙ at.here)))
-              ∙ listed.onward;
-        }
-      where
-        legs : Side → ℕ → Shown → List RouteLeg
-        legs s z order = legs_with board.grid (room_of rooms) s z order.zone (min left order.lots)
+-- ---- a list in its course
 
-        step : row_if shown.price lots (walked board.grid side zone (room_of rooms_after) (left - lots) (map maker_of at.back))
-            ≡ walked board.grid side zone (room_of rooms) left (map maker_of (at.order ∷ at.back))
-        step = at_legs (legs side_now zone_now shown) lots_are over
-            ∙ ap (λ ls. row_if shown.price (lots_of ls) (walked board.grid side zone (all_after (room_of rooms) ls) (left - lots_of ls) (map maker_of at.back)))
-            (ap (λ s. legs s zone_now shown) same_side ∙ ap (λ z. legs side z shown) same_zone)
-            ∙ ap (λ (s : Shown). row_if s.price (lots_of (legs side zone s)) (walked board.grid side zone (all_after (room_of rooms) (legs side zone s)) (left - lots_of (legs side zone s)) (map maker_of at.back))) at.is
-          where
-            at_legs : (ls : List RouteLeg) → lots ≡ lots_of ls → AreRoomsAfter (room_of rooms) (room_of rooms_after) ls
-                → row_if shown.price lots (walked board.grid side zone (room_of rooms_after) (left - lots) (map maker_of at.back))
-                ≡ row_if shown.price (lots_of ls) (walked board.grid side zone (all_after (room_of rooms) ls) (left - lots_of ls) (map maker_of at.back))
-            at_legs ls are rooms_are =
-                ap (λ r. row_if shown.price lots (walked board.grid side zone r (left - lots) (map maker_of at.back))) (λ i. λ arc. rooms_are arc i)
-                ∙ ap (λ n. row_if shown.price n (walked board.grid side zone (all_after (room_of rooms) ls) (left - n) (map maker_of at.back))) are
+module _ (graph : Graph) (side : Side) (zone : ℕ) (start : List (ℕ × ℕ)) (orders : List LineOrder) where
+  -- the rows so far, and those of the orders from a place on, are all rows
+  abbrev pub AreListed : (rooms : List (ℕ × ℕ)) (left place : ℕ) (rows : List ViewRow) → Type 0
+  AreListed rooms left place rows = rows ++ rows_taken graph side zone (room_of rooms) left (drop place orders) ≡ rows_taken graph side zone (room_of start) 4294967295 orders
 
-  -- at the end of the line they are the view
-  pub all-listed : (start rooms : List (ℕ × ℕ)) (left : ℕ) (next : Option Shown) (rows : List ViewRow) → AreRoomsOf board part start
-      → IsListed board part side zone start rooms left next rows → next ≡ None → rows ≡ view_of board part side zone
-  unfolding walked
-  all-listed start rooms left next rows of listed end =
-      sym (append-nil rows)
-      ∙ sym (ap (λ o. rows ++ walked board.grid side zone (room_of rooms) left (map maker_of (from_shown orders o))) end)
-      ∙ listed.onward
-      ∙ ap (λ os. walked board.grid side zone (room_of start) 4294967295 (map maker_of os)) (rests-all board part side none)
-      ∙ view-walked board.grid board.hour board.events is.stands part side zone start of.are
+  -- one order more
+  pub one-order : (rooms rooms_after : List (ℕ × ℕ)) (left lots place : ℕ) (rows rows_after : List ViewRow) (side_now : Side) (zone_now : ℕ) (else : LineOrder)
+      → AreListed rooms left place rows → place < length orders → side_now ≡ side → zone_now ≡ zone
+      → lots ≡ lots_of (legs_with graph (room_of rooms) side_now zone_now (get_or orders place else).zone (min left (get_or orders place else).lots))
+      → AreRoomsAfter (room_of rooms) (room_of rooms_after) (legs_with graph (room_of rooms) side_now zone_now (get_or orders place else).zone (min left (get_or orders place else).lots))
+      → rows_after ≡ rows ++ row_if (get_or orders place else).price lots [] → AreListed rooms_after (left - lots) (place + 1) rows_after
+  unfolding rows_taken
+  one-order rooms rooms_after left lots place rows rows_after side_now zone_now else listed there same_side same_zone lots_are over rows_are =
+      ap (λ rs. rs ++ onward) rows_are
+      ∙ append_assoc rows (row_if order.price lots []) onward
+      ∙ ap (λ rs. rows ++ rs)
+      (sym (row-first order.price lots onward)
+      ∙ at_legs (legs side_now zone_now) lots_are over
+      ∙ ap (λ ls. row_if order.price (lots_of ls) (rows_taken graph side zone (rooms_after_legs ls) (left - lots_of ls) back)) (ap (λ s. legs s zone_now) same_side ∙ ap (λ z. legs side z) same_zone)
+      ∙ ap (rows_taken graph side zone (room_of rooms) left) (sym (drop_more orders place else there)))
+      ∙ listed
+    where
+      order : LineOrder
+      order = get_or orders place else
+
+      back : List LineOrder
+      back = drop (place + 1) orders
+
+      onward : List ViewRow
+      onward = rows_taken graph side zone (room_of rooms_after) (left - lots) back
+
+      legs : Side → ℕ → List RouteLeg
+      legs s z = legs_with graph (room_of rooms) s z order.zone (min left order.lots)
+
+      rooms_after_legs : List RouteLeg → Arc → ℕ
+      rooms_after_legs ls = all_after (room_of rooms) ls
+
+      at_legs : (ls : List RouteLeg) → lots ≡ lots_of ls → AreRoomsAfter (room_of rooms) (room_of rooms_after) ls
+          → row_if order.price lots onward ≡ row_if order.price (lots_of ls) (rows_taken graph side zone (rooms_after_legs ls) (left - lots_of ls) back)
+      at_legs ls are rooms_are =
+          ap (λ r. row_if order.price lots (rows_taken graph side zone r (left - lots) back)) (λ i. λ arc. rooms_are arc i)
+          ∙ ap (λ n. row_if order.price n (rows_taken graph side zone (rooms_after_legs ls) (left - n) back)) are
+
+  -- behind the last order they are all
+  pub all-listed : (rooms : List (ℕ × ℕ)) (left place : ℕ) (rows : List ViewRow) → AreListed rooms left place rows → length orders ≤ place
+      → rows ≡ rows_taken graph side zone (room_of start) 4294967295 orders
+  unfolding rows_taken
+  all-listed rooms left place rows listed end =
+      sym (append-nil rows) ∙ sym (ap (λ os. rows ++ rows_taken graph side zone (room_of rooms) left os) (drop_all place orders end)) ∙ listed

@@ -30,17 +30,18 @@ use Rattle.laws_of_rows.specs.Depth.{Depth, after_fill, can_fill, crosses_any, f
 use Rattle.laws_of_rows.specs.Filled.{is_row_of, row_in, rows_with, with_fill, with_lots}
 use Rattle.laws_of_rows.proofs.RowLemmas.{rows-same, same_name-sym}
 use Rattle.laws_of_views.proofs.FirstMakers.{AllCross, AreApart, AreOnce, taken, taken-append}
-use Rattle.local_view.specs.Poured.{legs_with, row_if, sent_from, sent_to}
+use Rattle.local_view.specs.declared.whole.LineOrder.{LineOrder}
+use Rattle.local_view.specs.Poured.{legs_with, row_if, rows_taken, sent_from, sent_to}
 
 -- ---- what a walk shows
 
+-- a maker as an order of a line
+abbrev pub as_order : Maker → LineOrder
+as_order maker = record { zone = maker.zone; price = maker.price; lots = maker.left }
+
 -- the rows of a taker that pours from one maker after the other
-unfoldable pub walked : Graph → Side → (zone : ℕ) → (Arc → ℕ) → (left : ℕ) → List Maker → List ViewRow
-walked graph side zone room left [] = []
-walked graph side zone room left (maker ∷ makers) =
-    row_if maker.price (lots_of (legs_with graph room side zone maker.zone (min left maker.left)))
-    (walked graph side zone (rooms_after room (legs_with graph room side zone maker.zone (min left maker.left)))
-    (left - lots_of (legs_with graph room side zone maker.zone (min left maker.left))) makers)
+abbrev pub walked : Graph → Side → (zone : ℕ) → (Arc → ℕ) → (left : ℕ) → List Maker → List ViewRow
+walked graph side zone room left makers = rows_taken graph side zone room left (map as_order makers)
 
 -- ---- rows
 
@@ -260,7 +261,7 @@ module _ (graph : Graph) (is : IsGraph graph) (side : Side) (zone : ℕ) where
 
   -- of nothing that is left nothing is poured
   nothing-left : (room : Arc → ℕ) (makers : List Maker) (left : ℕ) → left ≡ 0 → walked graph side zone room left makers ≡ []
-  unfolding walked
+  unfolding rows_taken
   nothing-left room [] left none = refl
   nothing-left room (maker ∷ makers) left none =
       let legs : legs_with graph room side zone maker.zone (min left maker.left) ≡ [] =
@@ -341,7 +342,7 @@ module _ (graph : Graph) (is : IsGraph graph) (side : Side) (zone : ℕ) where
 
   pub walk-is : (done makers : List Maker) (room : Arc → ℕ) (left : ℕ) → AreOnce makers → AreApart done makers → AllCross side makers
       → (left ≡ 0) ⊎ Passed room done → IsWalked (depth (done ++ makers) room left) makers (walked graph side zone room left makers)
-  unfolding walked
+  unfolding rows_taken
   walk-is done [] room left once apart cross passed = record {
     fills = [];
     run = no-fill (done ++ []) room left (elim passed [ inl none ↦ inl none | inr p ↦ inr (subst (Passed room) (sym (append-nil done)) p) ]);

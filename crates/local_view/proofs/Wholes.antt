@@ -2,6 +2,7 @@
 -- zone takes all of each.
 use Rattle.std.proofs.Common.{◌≡◌, ◌∙◌, inl, inr, ℕ, zero, suc, ◌+◌, ◌-◌, ◌≤◌, true, List, [], ◌∷◌, filter, fold, get_or, map, min, sum_by, None, refl, sym, ap, subst, arith}
 use Rattle.std.proofs.lemmas.List.Sums.{sum_by-cons}
+use Rattle.std.proofs.lemmas.Simd.{map-map}
 use Rattle.order_kinds.specs.declared.order.OrderName.{OrderName}
 use Rattle.order_kinds.specs.declared.price.Price.{Price}
 use Rattle.order_kinds.specs.declared.side.Side.{Side}
@@ -15,6 +16,7 @@ use Rattle.zone_graph.specs.Grid.{IsGrid}
 use Rattle.zone_graph.specs.Pour.{lots_if, opposite_arc}
 use Rattle.zone_graph.specs.Rooms.{room_of}
 use Rattle.zone_graph.specs.Route.{IsIn, has}
+use Rattle.zone_graph.proofs.Membership.{from_map}
 use Rattle.cut_proof.proofs.ArcSums.{sum_passing}
 use Rattle.market_model.specs.declared.reply.ViewRow.{ViewRow}
 use Rattle.market_model.specs.Board.{BoardState, resting_line}
@@ -32,14 +34,15 @@ use Rattle.laws_of_rows.specs.Depth.{Depth, after_fill, maker_of}
 use Rattle.laws_of_rows.proofs.RowLemmas.{rows-are}
 use Rattle.laws_of_views.proofs.FirstMakers.{AllCross, AreOnce, all-bound, lots_filled, own_reached, shown_in as makers_shown}
 use Rattle.laws_of_views.proofs.RowSums.{rows-lots}
+use Rattle.local_view.specs.declared.whole.LineOrder.{LineOrder}
 use Rattle.local_view.specs.declared.whole.WholeLine.{WholeLine}
 use Rattle.local_view.specs.Boards.{AreRoomsOf, view_of}
-use Rattle.local_view.specs.Poured.{legs_with, row_if, sent_from, sent_to}
+use Rattle.local_view.specs.Poured.{legs_with, row_if, rows_taken, sent_from, sent_to}
 use Rattle.local_view.specs.Ways.{ComeTogether, PassesOn}
-use Rattle.local_view.specs.Whole.{IsRead, WholeLinesAreViews, all_shown, rows_shown, shown_in}
+use Rattle.local_view.specs.Whole.{IsRead, WholeLinesAreViews, all_shown, in_line, rows_shown, shown_in}
 use Rattle.local_view.proofs.Hours.{hour-graph, line-cross, line-once, line-zones, room-like, rooms_like, view-walked}
 use Rattle.local_view.proofs.Lines.{rests-all}
-use Rattle.local_view.proofs.Walking.{walked, walked-trades}
+use Rattle.local_view.proofs.Walking.{as_order, walked, walked-trades}
 
 -- ---- rows
 
@@ -76,7 +79,7 @@ module _ (graph : Graph) (is : IsGraph graph) (side : Side) (zone : ℕ) where
 
   -- a walk takes no more than is there
   walked-most : (makers : List Maker) (room : Arc → ℕ) (left : ℕ) → lots_in (walked graph side zone room left makers) ≤ all_left makers
-  unfolding walked
+  unfolding rows_taken
   walked-most [] room left = omega arith
   walked-most (maker ∷ makers) room left =
       omega (
@@ -90,7 +93,7 @@ module _ (graph : Graph) (is : IsGraph graph) (side : Side) (zone : ℕ) where
 
   -- and where it takes as much, it takes all of each
   walked-whole : (makers : List Maker) (room : Arc → ℕ) (left : ℕ) → all_left makers ≤ lots_in (walked graph side zone room left makers) → walked graph side zone room left makers ≡ rows_left makers
-  unfolding walked
+  unfolding rows_taken
   walked-whole [] room left all = refl
   walked-whole (maker ∷ makers) room left all =
       let after : Arc → ℕ = rooms_after room (legs_with graph room side zone maker.zone (min left maker.left)) in
@@ -146,6 +149,26 @@ whole_views graph hour events part side zone plan of known planned all few =
       balanced = planned.balanced;
     }) all
 
+-- ---- boards
+
+module _ (board : BoardState) (none : board.hand ≡ None) (part : ℕ) (side : Side) (whole : WholeLine) (read : IsRead board part side whole) where
+  rests : resting_line board part side ≡ line board.events (contract_at board.hour part) side
+  rests = rests-all board part side none
+
+  -- the orders that were read are in zones that there are
+  pub zones-read : (order : LineOrder) → IsIn order whole.orders.items → HasZone board.grid order.zone
+  zones-read order i =
+      let from = from_map in_line order (resting_line board part side) (subst (IsIn order) read.orders i) in
+      subst (λ (o : LineOrder). HasZone board.grid o.zone) (sym from.2)
+      (line-zones board.grid board.hour board.events read.is_board.stands part side from.0 (subst (IsIn from.0) rests from.1))
+
+  -- what is taken of them is the view
+  pub taken-view : (zone : ℕ) (rooms : List (ℕ × ℕ)) → AreRoomsOf board part rooms
+      → rows_taken board.grid side zone (room_of rooms) 4294967295 whole.orders.items ≡ view_of board part side zone
+  taken-view zone rooms of =
+      ap (rows_taken board.grid side zone (room_of rooms) 4294967295) (read.orders ∙ ap (map in_line) rests ∙ sym (map-map as_order maker_of (line board.events (contract_at board.hour part) side)))
+      ∙ view-walked board.grid board.hour board.events read.is_board.stands part side zone rooms of.are
+
 -- the view of a board is the line that was read, where all of it comes together
 module _ (board : BoardState) (none : board.hand ≡ None) (part : ℕ) (side : Side) (zone : ℕ) (known : HasZone board.grid zone) (few_zones : IsGrid board.grid) (rooms : List (ℕ × ℕ)) (of : AreRoomsOf board part rooms)
     (whole : WholeLine) (read : IsRead board part side whole) (fits : whole.fits ≡ true) (comes : ComeTogether board.grid (room_of rooms) side zone whole.shown) where
@@ -155,9 +178,6 @@ module _ (board : BoardState) (none : board.hand ≡ None) (part : ℕ) (side : 
   abbrev plan : FlowPlan
   plan = record { gives = λ order. order.shown; flow = comes.flow }
 
-  rests : resting_line board part side ≡ line board.events (contract_at board.hour part) side
-  rests = rests-all board part side none
-
   passes : (s : Side) (other : ℕ) → PassesOn board.grid s comes.flow other (get_or whole.shown other 0) → get_or whole.shown other 0 ≡ shown_in orders other → IsBalanced board.grid (opposite s) orders plan other
   passes Buy other on shows = omega (arith, on, shows)
   passes Sell other on shows = omega (arith, on, shows)
@@ -165,14 +185,14 @@ module _ (board : BoardState) (none : board.hand ≡ None) (part : ℕ) (side : 
   pub whole_view : whole.rows.items ≡ view_of board part side zone
   whole_view =
       read.rows fits
-      ∙ ap rows_shown rests
+      ∙ ap rows_shown (rests board none part side whole read)
       ∙ sym (all-taken board.grid few_zones.is_graph side zone known (room_of rooms) orders
       (line-once board.grid board.hour board.events read.is_board.stands part side) (line-cross board.grid board.hour board.events read.is_board.stands part side)
-      (line-zones board.grid board.hour board.events read.is_board.stands part side) (subst (λ os. all_shown os ≤ 4294967295) rests (read.few fits)) plan (record {
+      (line-zones board.grid board.hour board.events read.is_board.stands part side) (subst (λ os. all_shown os ≤ 4294967295) (rests board none part side whole read) (read.few fits)) plan (record {
         gives_most = λ order i. omega arith;
         within = λ arc there. let flows = comes.within arc there in omega (arith, flows);
         balanced = λ other there apart.
             passes side other (comes.balanced other there apart)
-            (read.zones fits other (let few = few_zones.few_zones in omega (arith, there, few)) ∙ ap (λ os. shown_in os other) rests);
+            (read.zones fits other (let few = few_zones.few_zones in omega (arith, there, few)) ∙ ap (λ os. shown_in os other) (rests board none part side whole read));
       }) (λ order i. refl))
       ∙ view-walked board.grid board.hour board.events read.is_board.stands part side zone rooms of.are

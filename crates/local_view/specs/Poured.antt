@@ -1,5 +1,5 @@
 -- What a taker in a zone pours of one order after the other, where what it has taken stays taken.
-use Rattle.std.specs.Prelude.{◌≡◌, ℕ, zero, suc, List, ◌∷◌, Option, Some, None}
+use Rattle.std.specs.Prelude.{◌≡◌, ℕ, zero, suc, ◌-◌, List, [], ◌∷◌, min, Option, Some, None}
 use Rattle.std.specs.Option.{option_map}
 use Rattle.order_kinds.specs.declared.price.Price.{Price}
 use Rattle.order_kinds.specs.declared.side.Side.{Side}
@@ -9,6 +9,8 @@ use Rattle.zone_graph.specs.declared.route.RouteLeg.{RouteLeg}
 use Rattle.zone_graph.specs.Graph.{Graph}
 use Rattle.zone_graph.specs.Pour.{pour, pour_leg, room_after}
 use Rattle.market_model.specs.declared.reply.ViewRow.{ViewRow}
+use Rattle.route_choice.specs.Poured.{lots_of, rooms_after}
+use Rattle.local_view.specs.declared.whole.LineOrder.{LineOrder}
 
 -- where energy starts and ends, where a taker in a zone trades with an order of a side in another zone
 abbrev pub sent_from : Side → (zone other : ℕ) → ℕ
@@ -41,3 +43,11 @@ pub record CarriesNext (before after : Arc → ℕ) (next : Option RouteLeg) (lo
 abbrev pub row_if : Price → (lots : ℕ) → List ViewRow → List ViewRow
 row_if price zero rows = rows
 row_if price (suc more) rows = record { price = price; lots = suc more } ∷ rows
+
+-- the rows of a taker that pours what it can, and no more than so many lots in all, from one order after the other
+unfoldable pub rows_taken : Graph → Side → (zone : ℕ) → (Arc → ℕ) → (left : ℕ) → List LineOrder → List ViewRow
+rows_taken graph side zone room left [] = []
+rows_taken graph side zone room left (order ∷ orders) =
+    row_if order.price (lots_of (legs_with graph room side zone order.zone (min left order.lots)))
+    (rows_taken graph side zone (rooms_after room (legs_with graph room side zone order.zone (min left order.lots)))
+    (left - lots_of (legs_with graph room side zone order.zone (min left order.lots))) orders)

@@ -1,5 +1,5 @@
 -- Lines of which a view is the whole: each order has all that it shows.
-use Rattle.std.specs.Prelude.{◌≡◌, ℕ, ◌<◌, ◌≤◌, ◌==◌, true, List, [], ◌∷◌, filter, slice_index_or, sum_by}
+use Rattle.std.specs.Prelude.{◌≡◌, ℕ, ◌<◌, ◌≤◌, ◌==◌, true, List, [], ◌∷◌, filter, map, slice_index_or, sum_by}
 use Rattle.order_kinds.specs.declared.side.Side.{Side}
 use Rattle.order_kinds.specs.Contract.{contract_at}
 use Rattle.zone_graph.specs.Graph.{Graph, HasZone}
@@ -12,6 +12,7 @@ use Rattle.market_model.specs.Orders.{Standing}
 use Rattle.market_model.specs.View.{view}
 use Rattle.laws_of_maximum.specs.FlowPlan.{FlowPlan}
 use Rattle.laws_of_views.specs.Views.{IsPlanOver}
+use Rattle.local_view.specs.declared.whole.LineOrder.{LineOrder}
 use Rattle.local_view.specs.declared.whole.WholeLine.{WholeLine}
 use Rattle.local_view.specs.Poured.{row_if}
 
@@ -36,9 +37,14 @@ WholeLinesAreViews = (graph : Graph) (hour : ℕ) (events : List Event) (part : 
     IsPlanOver graph events (contract_at hour part) side zone orders plan → ((order : Standing) → IsIn order orders → plan.gives order ≡ order.shown)
     → all_shown orders ≤ 4294967295 → view graph events (contract_at hour part) side zone ≡ rows_shown orders
 
--- a line of a board is read: of what fits in what a view asks for all is told
+-- an order as views see it
+abbrev pub in_line : Standing → LineOrder
+in_line order = record { zone = order.order.zone; price = order.price; lots = order.shown }
+
+-- a line of a board is read: its orders, and where it fits in what a view asks for all else too
 pub record IsRead (board : BoardState) (part : ℕ) (side : Side) (whole : WholeLine) : Type 0 where
   pub is_board : IsBoard board
+  pub orders : whole.orders.items ≡ map in_line (resting_line board part side)
   pub rows : whole.fits ≡ true → whole.rows.items ≡ rows_shown (resting_line board part side)
   pub zones : whole.fits ≡ true → (zone : ℕ) → zone < 64 → slice_index_or whole.shown zone 0 ≡ shown_in (resting_line board part side) zone
   pub few : whole.fits ≡ true → all_shown (resting_line board part side) ≤ 4294967295

@@ -4,11 +4,14 @@ use Rattle.order_kinds.specs.declared.side.Side.{Side}
 use Rattle.cut_proof.specs.ZoneSet.{holds}
 use Rattle.market_model.specs.declared.reply.ViewRow.{ViewRow}
 use Rattle.market_model.specs.Board.{BoardState}
-use Rattle.local_view.specs.Boards.{view_of}
+use Rattle.zone_graph.specs.Rooms.{room_of}
+use Rattle.local_view.specs.Boards.{AreRoomsOf, view_of}
 use Rattle.local_view.specs.Rows.{LineRows}
 use Rattle.zone_graph.specs.Graph.{Graph, HasZone, border_count, zone_count}
 use Rattle.local_view.specs.declared.walk.Walk.{Walk}
 use Rattle.local_view.specs.declared.work.Work.{Work}
+use Rattle.local_view.specs.Takers.{IsReady}
+use Rattle.local_view.specs.Whole.{IsRead}
 
 -- lists work with rooms of so many borders, and trees of so many zones
 pub record IsWalk (borders zones : ℕ) (walk : Walk) : Type 0 where
@@ -32,11 +35,13 @@ abbrev pub IsThere : Graph → Option Work → Type 0
 IsThere graph None = ⊥
 IsThere graph (Some work) = IsWork graph work
 
--- a step leaves all but what lists work with, and that as large
-pub record KeepsWork (graph : Graph) (old new : Work) : Type 0 where
-  pub work : IsWork graph new
-  pub of_part : new.of_part ≡ old.of_part
-  pub whole : new.whole ≡ old.whole
+-- they are ready for the lists of a line of a board: the rooms are those of the part, and the line is read
+pub record IsLineWork (board : BoardState) (part : ℕ) (side : Side) (work : Work) : Type 0 where
+  pub hand : board.hand ≡ None
+  pub sized : IsWork board.grid work
+  pub rooms : AreRoomsOf board part work.of_part
+  pub walk : IsReady board.grid (room_of work.of_part) side work.walk
+  pub read : IsRead board part side work.whole
 
 -- the rows of a zone, where they are computed or kept
 abbrev pub row_made : (computed : ℕ) → BoardState → (part : ℕ) → Side → (kept : List (List ViewRow)) → (zone : ℕ) → List ViewRow

@@ -2,12 +2,10 @@
 
 ghost use Rattle.std.specs.Prelude.{◌≡◌, ◌<◌, ℕ, [], IfSome, None, OnOk, get_or, length};
 ghost use Rattle.cut_proof.specs.ZoneSet.{holds};
+ghost use Rattle.market_model.specs.Board.{BoardState};
 ghost use Rattle.zone_graph.specs.Graph.{HasZone, zone_count};
-ghost use Rattle.zone_graph.specs.Rooms.{room_of};
-ghost use Rattle.local_view.specs.Boards.{AreRoomsOf, view_of};
-ghost use Rattle.local_view.specs.Takers.{IsReady};
-ghost use Rattle.local_view.specs.Whole.{IsRead};
-ghost use Rattle.local_view.specs.Works.{AreComputed, IsSound, IsWork, KeepsWork};
+ghost use Rattle.local_view.specs.Boards.{view_of};
+ghost use Rattle.local_view.specs.Works.{AreComputed, IsLineWork, IsSound, IsWork};
 
 use crate::listing::{Line, list_rows};
 use crate::work::{Work, make_work};
@@ -46,7 +44,7 @@ pub(crate) fn fill_lists<B: Board>(
     }
 }
 
-// Makes them over the rooms of the part, which are asked for once.
+// Makes them over the rooms and the orders of the line, which are read once.
 fn fill_over<B: Board>(
     alloc: Global,
     board: &B,
@@ -56,19 +54,21 @@ fn fill_over<B: Board>(
     computed: u64,
     lists: &mut [Rows],
 ) -> Result<(), NoMemory>
-    requires grid { grid.now ≡ (B.state board.now).grid }
-    requires hand { (B.state board.now).hand ≡ None }
-    requires part { line.part < (B.state board.now).parts }
+    ghost of_board: { BoardState }
+    requires board { of_board ≡ B.state board.now }
+    requires grid { grid.now ≡ of_board.grid }
+    requires hand { of_board.hand ≡ None }
+    requires part { line.part < of_board.parts }
     requires work { IsWork grid.now work.old }
     requires zones { length lists.old ≡ zone_count grid.now }
-    ensures lists { OnOk result (AreComputed computed (B.state board.now) line.part line.side lists.new) }
+    ensures lists { OnOk result (AreComputed computed of_board line.part line.side lists.new) }
     ensures size { length lists.new ≡ length lists.old }
     ensures work { IsWork grid.now work.new }
 {
     board.rooms(line.part, &mut work.of_part);
     work.walk.trees.forget();
     work.whole.read(board, grid, line)?;
-    list_zones(alloc, board, grid, work, line, computed, lists)
+    list_zones(alloc, grid, work, line, computed, lists)
 }
 
 /// Clears all lists. The memory that they have stays.
@@ -93,33 +93,27 @@ fn clear(alloc: Global, list: &mut Rows)
 }
 
 // Makes the list of rows of each zone of a set, over the rooms of the part.
-fn list_zones<B: Board>(
+fn list_zones(
     alloc: Global,
-    board: &B,
     grid: &Grid,
     work: &mut Work,
     line: Line,
     computed: u64,
     lists: &mut [Rows],
 ) -> Result<(), NoMemory>
-    requires grid { grid.now ≡ (B.state board.now).grid }
-    requires hand { (B.state board.now).hand ≡ None }
-    requires part { line.part < (B.state board.now).parts }
-    requires work { IsWork grid.now work.old }
-    requires rooms { AreRoomsOf (B.state board.now) line.part work.old.of_part }
-    requires walk { IsReady grid.now (room_of work.old.of_part) line.side work.old.walk }
-    requires read { IsRead (B.state board.now) line.part line.side work.old.whole }
+    ghost board: { BoardState }
+    requires grid { grid.now ≡ board.grid }
+    requires work { IsLineWork board line.part line.side work.old }
     requires zones { length lists.old ≡ zone_count grid.now }
-    ensures lists { OnOk result (AreComputed computed (B.state board.now) line.part line.side lists.new) }
+    ensures lists { OnOk result (AreComputed computed board line.part line.side lists.new) }
     ensures size { length lists.new ≡ length lists.old }
-    ensures work { KeepsWork grid.now work.old work.new }
-    ensures walk { IsReady grid.now (room_of work.new.of_part) line.side work.new.walk }
+    ensures work { IsLineWork board line.part line.side work.new }
 {
     let zones = grid.zones();
     for (zone, list) in lists.iter_mut().enumerate() {
         prove!(zone < zones as usize);
         if is_set(computed, zone) {
-            fill_list(alloc, board, grid, work, line, zone as u32, list)?;
+            fill_list(alloc, grid, work, line, zone as u32, list)?;
         }
     }
     Ok(())
@@ -137,54 +131,42 @@ pub(crate) fn is_set(bits: u64, place: usize) -> bool
 }
 
 // Computes the rows of a zone.
-fn fill_list<B: Board>(
+fn fill_list(
     alloc: Global,
-    board: &B,
     grid: &Grid,
     work: &mut Work,
     line: Line,
     zone: u32,
     list: &mut Rows,
 ) -> Result<(), NoMemory>
-    requires grid { grid.now ≡ (B.state board.now).grid }
-    requires hand { (B.state board.now).hand ≡ None }
-    requires part { line.part < (B.state board.now).parts }
+    ghost board: { BoardState }
+    requires grid { grid.now ≡ board.grid }
     requires zone { HasZone grid.now zone }
-    requires work { IsWork grid.now work.old }
-    requires rooms { AreRoomsOf (B.state board.now) line.part work.old.of_part }
-    requires walk { IsReady grid.now (room_of work.old.of_part) line.side work.old.walk }
-    requires read { IsRead (B.state board.now) line.part line.side work.old.whole }
-    ensures list { OnOk result (list.new ≡ view_of (B.state board.now) line.part line.side zone) }
-    ensures work { KeepsWork grid.now work.old work.new }
-    ensures walk { IsReady grid.now (room_of work.new.of_part) line.side work.new.walk }
+    requires work { IsLineWork board line.part line.side work.old }
+    ensures list { OnOk result (list.new ≡ view_of board line.part line.side zone) }
+    ensures work { IsLineWork board line.part line.side work.new }
 {
     let mut rows = mem::replace(list, Rows::new(alloc)).into_vec();
-    write_rows(board, grid, work, line, zone, &mut rows)?;
+    write_rows(grid, work, line, zone, &mut rows)?;
     *list = Rows::from(rows);
     Ok(())
 }
 
 // Writes the rows of a zone, in place of those that were there: those of the whole line, where all of it
 // can come to the zone, and else those that a walk along the line finds.
-fn write_rows<B: Board>(
-    board: &B,
+fn write_rows(
     grid: &Grid,
     work: &mut Work,
     line: Line,
     zone: u32,
     rows: &mut Vec<ViewRow>,
 ) -> Result<(), NoMemory>
-    requires grid { grid.now ≡ (B.state board.now).grid }
-    requires hand { (B.state board.now).hand ≡ None }
-    requires part { line.part < (B.state board.now).parts }
+    ghost board: { BoardState }
+    requires grid { grid.now ≡ board.grid }
     requires zone { HasZone grid.now zone }
-    requires work { IsWork grid.now work.old }
-    requires rooms { AreRoomsOf (B.state board.now) line.part work.old.of_part }
-    requires walk { IsReady grid.now (room_of work.old.of_part) line.side work.old.walk }
-    requires read { IsRead (B.state board.now) line.part line.side work.old.whole }
-    ensures rows { OnOk result (rows.new.items ≡ view_of (B.state board.now) line.part line.side zone) }
-    ensures work { KeepsWork grid.now work.old work.new }
-    ensures walk { IsReady grid.now (room_of work.new.of_part) line.side work.new.walk }
+    requires work { IsLineWork board line.part line.side work.old }
+    ensures rows { OnOk result (rows.new.items ≡ view_of board line.part line.side zone) }
+    ensures work { IsLineWork board line.part line.side work.new }
 {
     let zones = grid.zones();
     prove!(zone < zones);
@@ -193,5 +175,14 @@ fn write_rows<B: Board>(
         rows.extend_from_slice(work.whole.rows.as_slice())?;
         return Ok(());
     }
-    list_rows(board, grid, &work.of_part, &mut work.walk, line, zone, rows)
+    let orders = work.whole.orders.as_slice();
+    list_rows(
+        orders,
+        grid,
+        &work.of_part,
+        &mut work.walk,
+        line.side,
+        zone,
+        rows,
+    )
 }

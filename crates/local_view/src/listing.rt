@@ -1,15 +1,18 @@
 //! The rows of one view, in one walk along its line.
 
-ghost use Rattle.std.specs.Prelude.{◌≡◌, ◌∷◌, ◌++◌, [], None, OnOk, ◌<◌};
-ghost use Rattle.zone_graph.specs.Graph.{HasZone};
+ghost use Rattle.std.specs.Prelude.{◌≡◌, ◌∷◌, ◌++◌, [], OnOk, length};
+ghost use Rattle.zone_graph.specs.Graph.{HasZone, border_count};
 ghost use Rattle.zone_graph.specs.Rooms.{room_of};
-ghost use Rattle.local_view.specs.Boards.{AreRoomsOf, view_of};
-ghost use Rattle.local_view.specs.Poured.{row_if};
+ghost use Rattle.zone_graph.specs.Route.{IsIn};
+ghost use Rattle.cut_proof.specs.Carrying.{FitTogether};
+ghost use Rattle.local_view.specs.declared.whole.LineOrder.{LineOrder as ALineOrder};
+ghost use Rattle.local_view.specs.Poured.{row_if, rows_taken};
 ghost use Rattle.local_view.specs.Takers.{IsReady};
 
 use crate::taker::Taker;
 use crate::walk::Walk;
-use market_model::{Board, NoMemory, Price, Side, ViewRow};
+use crate::whole::LineOrder;
+use market_model::{NoMemory, Price, Side, ViewRow};
 use zone_graph::{Grid, Rooms};
 
 /// The line of a part and a side.
@@ -21,44 +24,41 @@ pub(crate) struct Line {
     pub(crate) side: Side,
 }
 
-/// Writes the rows of the view of a line and a zone, in place of those that were there. The rooms of the
-/// part stay; those that the list works with are then what is left of them.
+/// Writes the rows of what a taker in a zone takes of the orders of a line, in place of those that were
+/// there. The rooms of the part stay; those that the list works with are then what is left of them.
 ///
 /// # Errors
 ///
 /// [`NoMemory`], where there is no memory for a row.
-pub(crate) fn list_rows<B: Board>(
-    board: &B,
+pub(crate) fn list_rows(
+    orders: &[LineOrder],
     grid: &Grid,
     of_part: &Rooms,
     walk: &mut Walk,
-    line: Line,
+    side: Side,
     zone: u32,
     rows: &mut Vec<ViewRow>,
 ) -> Result<(), NoMemory>
-    requires grid { grid.now ≡ (B.state board.now).grid }
-    requires hand { (B.state board.now).hand ≡ None }
-    requires part { line.part < (B.state board.now).parts }
+    requires orders { (order : ALineOrder) → IsIn order orders.now → HasZone grid.now order.zone }
+    requires size { length of_part.now ≡ border_count grid.now }
+    requires fit { FitTogether grid.now (room_of of_part.now) }
     requires zone { HasZone grid.now zone }
-    requires of_part { AreRoomsOf (B.state board.now) line.part of_part.now }
-    requires walk { IsReady grid.now (room_of of_part.now) line.side walk.old }
-    ensures rows { OnOk result (rows.new.items ≡ view_of (B.state board.now) line.part line.side zone) }
-    ensures walk { IsReady grid.now (room_of of_part.now) line.side walk.new }
+    requires walk { IsReady grid.now (room_of of_part.now) side walk.old }
+    ensures rows { OnOk result (rows.new.items ≡ rows_taken grid.now side zone (room_of of_part.now) 4294967295 orders.now) }
+    ensures walk { IsReady grid.now (room_of of_part.now) side walk.new }
 {
     rows.clear();
     walk.rooms.copy_from(of_part);
     let mut taker = Taker {
-        side: line.side,
+        side,
         zone,
         own: None,
     };
     let mut left = u32::MAX;
-    let mut next = board.first(line.part, line.side);
-    while let Some(order) = next {
+    for order in orders {
         let lots = taker.take(grid, of_part, walk, order.zone, left.min(order.lots));
         add_row(rows, order.price, lots)?;
         left -= lots;
-        next = board.after(order.number);
     }
     Ok(())
 }

@@ -1,4 +1,4 @@
-//! A line as the views show it to which all of it can come.
+//! A line as its views see it: its orders, read once, and whether all of them can come to a zone.
 
 ghost use Rattle.std.specs.Prelude.{◌≡◌, ◌<◌, None, IsTrue, OnOk, length, true};
 ghost use Rattle.zone_graph.specs.Graph.{HasZone, border_count};
@@ -8,26 +8,36 @@ ghost use Rattle.local_view.specs.Whole.{IsRead};
 
 use crate::listing::{Line, add_row};
 use crate::ways::{Ways, room_for};
-use market_model::{Board, NoMemory, Side, ViewRow};
+use market_model::{Board, NoMemory, Price, Side, ViewRow};
 use std::alloc::Global;
 use zone_graph::{Grid, MOST_ZONES, Rooms};
 
 // How many rows make the test worth its while: a walk along fewer costs less than the test.
 const WORTH_TESTING: usize = 16;
 
-// How many rows are read at most: all of a longer line seldom comes to a zone.
-const WORTH_READING: usize = 64;
+/// An order of a line, as its views see it.
+#[derive(Clone, Copy)]
+pub(crate) struct LineOrder {
+    /// Its zone.
+    pub(crate) zone: u32,
+    /// Its price, in cents per MWh.
+    pub(crate) price: Price,
+    /// What it shows, in lots.
+    pub(crate) lots: u32,
+}
 
-/// The rows in which each order of a line has all that it shows, and what the orders of each zone show.
+/// The orders of a line, the rows in which each has all that it shows, and what those of each zone show.
 #[derive(Drop)]
 pub(crate) struct WholeLine {
+    /// The orders, in priority.
+    pub(crate) orders: Vec<LineOrder>,
     /// The rows.
     pub(crate) rows: Vec<ViewRow>,
     /// The lots that the orders of each zone show together.
     pub(crate) shown: [u32; MOST_ZONES],
     /// The lots that all orders show together.
     pub(crate) all: u32,
-    /// Whether the line is short and all these lots are no more than a view asks for. Where it is so, the others are told.
+    /// Whether all these lots are less than a view asks for. Where it is so, all but the orders are told too.
     pub(crate) fits: bool,
 }
 
@@ -35,6 +45,7 @@ impl WholeLine {
     /// A line that is not read yet.
     pub(crate) fn new(alloc: Global) -> WholeLine {
         WholeLine {
+            orders: Vec::new(alloc),
             rows: Vec::new(alloc),
             shown: [0; MOST_ZONES],
             all: 0,
@@ -46,7 +57,7 @@ impl WholeLine {
     ///
     /// # Errors
     ///
-    /// [`NoMemory`], where there is no memory for a row.
+    /// [`NoMemory`], where there is no memory for an order or a row.
     pub(crate) fn read<B: Board>(
         &mut self,
         board: &B,
@@ -58,6 +69,7 @@ impl WholeLine {
         requires part { line.part < (B.state board.now).parts }
         ensures { OnOk result (IsRead (B.state board.now) line.part line.side self.new) }
     {
+        self.orders.clear();
         self.rows.clear();
         self.shown = [0; MOST_ZONES];
         let zones = grid.zones();
@@ -65,21 +77,19 @@ impl WholeLine {
         let mut next = board.first(line.part, line.side);
         while let Some(order) = next {
             prove!(order.zone < zones);
-            if self.rows.len() >= WORTH_READING {
-                self.fits = false;
-                return Ok(());
-            }
-            let Some(more) = all.checked_add(order.lots) else {
-                self.fits = false;
-                return Ok(());
-            };
-            all = more;
-            self.shown[order.zone as usize] += order.lots;
+            self.orders.push(LineOrder {
+                zone: order.zone,
+                price: order.price,
+                lots: order.lots,
+            })?;
+            all = all.saturating_add(order.lots);
+            let zone = order.zone as usize;
+            self.shown[zone] = self.shown[zone].saturating_add(order.lots);
             add_row(&mut self.rows, order.price, order.lots)?;
             next = board.after(order.number);
         }
         self.all = all;
-        self.fits = true;
+        self.fits = all < u32::MAX;
         Ok(())
     }
 

@@ -1,60 +1,46 @@
-use Rattle.std.proofs.Common.{◌≡◌, ◌∙◌, ℕ, List, length, min, refl, sym, ap, subst}
-use Rattle.zone_graph.specs.Graph.{Graph, HasZone, border_count}
+use Rattle.std.proofs.Common.{◌≡◌, ◌∙◌, ◌++◌, ℕ, List, ap, get_or, length, pos, refl, subst, sym}
 use Rattle.zone_graph.specs.Rooms.{room_of}
+use Rattle.zone_graph.proofs.Places.{at_place}
 use Rattle.cut_proof.specs.Carrying.{FitTogether}
 use Rattle.route_choice.specs.Poured.{AreRoomsAfter, lots_of}
-use Rattle.local_view.specs.Poured.{legs_with}
-use Rattle.local_view.proofs.Listed.{IsListed, all-listed, at-order, begins, fewer, one-order, rests, rests-in, rooms-fit, zone-known}
+use Rattle.local_view.specs.Poured.{legs_with, rows_taken}
+use Rattle.local_view.specs.declared.whole.LineOrder.{LineOrder}
+use Rattle.local_view.proofs.Listed.{all-listed, one-order}
 use Rattle.local_view.proofs.Takers.{taker-first}
 use Rattle.local_view.proofs.listing.list_rows.Goals as goal
 
-pub loop-next-init : goal.loop-next-init
-loop-next-init g c = record {
+abbrev no_order : LineOrder
+no_order = record { zone = 0; price = record { 0 = pos 0 }; lots = 0 }
+
+pub loop-order-init : goal.loop-order-init
+loop-order-init c = record {
   walking = record {
-    size = ap length c.copy_from.ensures ∙ c.requires.of_part.size ∙ sym (ap border_count c.requires.grid);
-    fit = subst (λ (rooms : List (ℕ × ℕ)). FitTogether c.args.grid.now (room_of rooms)) (sym c.copy_from.ensures)
-        (subst (λ (graph : Graph). FitTogether graph (room_of c.args.of_part.now)) (sym c.requires.grid) (rooms-fit (g.B.Board.state c.args.board.now) c.args.line.part c.args.of_part.now c.requires.of_part));
+    size = ap length c.copy_from.ensures ∙ c.requires.size;
+    fit = subst (λ (rooms : List (ℕ × ℕ)). FitTogether c.args.grid.now (room_of rooms)) (sym c.copy_from.ensures) c.requires.fit;
     trees = c.requires.walk.trees;
     places = c.requires.walk.places;
-    knows = taker-first c.args.grid.now (room_of c.args.of_part.now) (room_of c.copy_from.new.self) c.args.line.side c.args.zone c.requires.zone (ap room_of c.copy_from.ensures);
+    knows = taker-first c.args.grid.now (room_of c.args.of_part.now) (room_of c.copy_from.new.self) c.args.side c.args.zone c.requires.zone (ap room_of c.copy_from.ensures);
   };
   side = refl;
   zone = refl;
-  listed = subst (λ (rooms : List (ℕ × ℕ)). IsListed (g.B.Board.state c.args.board.now) c.args.line.part c.args.line.side c.args.zone c.args.of_part.now rooms 4294967295 c.first-next.result c.clear.new.self.items) (sym c.copy_from.ensures)
-      (begins (g.B.Board.state c.args.board.now) c.first-next.ensures.board c.requires.hand c.args.line.part c.requires.part c.args.line.side c.args.zone c.args.of_part.now c.first-next.result c.clear.new.self.items c.first-next.ensures.first c.clear.ensures.items);
+  listed = ap (λ rows. rows ++ rows_taken c.args.grid.now c.args.side c.args.zone (room_of c.copy_from.new.self) 4294967295 c.args.orders.now) c.clear.ensures.items
+      ∙ ap (λ rooms. rows_taken c.args.grid.now c.args.side c.args.zone (room_of rooms) 4294967295 c.args.orders.now) c.copy_from.ensures;
 }
 
 pub take-lots-requires-clause-other : goal.take-lots-requires-clause-other
-take-lots-requires-clause-other g c =
-    subst (λ (graph : Graph). HasZone graph c.in-Some.order.zone) (sym c.requires.grid)
-    (zone-known (g.B.Board.state c.args.board.now) c.first-next.ensures.board c.requires.hand c.args.line.part c.requires.part c.args.line.side c.args.zone c.in-Some.order (at-order (g.B.Board.state c.args.board.now) c.first-next.ensures.board c.requires.hand c.args.line.part c.requires.part c.args.line.side c.args.zone c.loop-next.next c.in-Some.order c.loop-next.invariant.listed.stands c.in-Some.is))
+take-lots-requires-clause-other c = c.requires.orders (get_or c.args.orders.now c.loop-order.order-index no_order) (at_place c.args.orders.now c.loop-order.order-index no_order c.loop-order-test.true)
 
-pub after-next-requires : goal.after-next-requires
-after-next-requires g c = record {
-  rests = rests (g.B.Board.state c.args.board.now) c.first-next.ensures.board c.requires.hand c.args.line.part c.requires.part c.args.line.side c.args.zone c.in-Some.order (at-order (g.B.Board.state c.args.board.now) c.first-next.ensures.board c.requires.hand c.args.line.part c.requires.part c.args.line.side c.args.zone c.loop-next.next c.in-Some.order c.loop-next.invariant.listed.stands c.in-Some.is);
-}
-
-pub loop-next-smaller : goal.loop-next-smaller
-loop-next-smaller g c =
-    fewer (g.B.Board.state c.args.board.now) c.first-next.ensures.board c.requires.hand c.args.line.part c.requires.part c.args.line.side c.args.zone c.in-Some.order (at-order (g.B.Board.state c.args.board.now) c.first-next.ensures.board c.requires.hand c.args.line.part c.requires.part c.args.line.side c.args.zone c.loop-next.next c.in-Some.order c.loop-next.invariant.listed.stands c.in-Some.is) c.loop-next.next c.after-next.result c.in-Some.is
-    (c.after-next.ensures.next c.args.line.part c.args.line.side (rests-in (g.B.Board.state c.args.board.now) c.first-next.ensures.board c.requires.hand c.args.line.part c.requires.part c.args.line.side c.args.zone c.in-Some.order (at-order (g.B.Board.state c.args.board.now) c.first-next.ensures.board c.requires.hand c.args.line.part c.requires.part c.args.line.side c.args.zone c.loop-next.next c.in-Some.order c.loop-next.invariant.listed.stands c.in-Some.is)))
-
-pub loop-next-preserved : goal.loop-next-preserved
-loop-next-preserved g c = record {
+pub loop-order-preserved : goal.loop-order-preserved
+loop-order-preserved c = record {
   walking = c.take-lots.ensures.walking;
-  side = c.take-lots.ensures.side ∙ c.loop-next.invariant.side;
-  zone = c.take-lots.ensures.zone ∙ c.loop-next.invariant.zone;
-  listed = one-order (g.B.Board.state c.args.board.now) c.first-next.ensures.board c.requires.hand c.args.line.part c.requires.part c.args.line.side c.args.zone c.in-Some.order (at-order (g.B.Board.state c.args.board.now) c.first-next.ensures.board c.requires.hand c.args.line.part c.requires.part c.args.line.side c.args.zone c.loop-next.next c.in-Some.order c.loop-next.invariant.listed.stands c.in-Some.is)
-      c.args.of_part.now c.loop-next.walk.rooms c.take-lots.new.walk.rooms c.loop-next.left c.take-lots.result c.loop-next.next c.after-next.result c.loop-next.rows.items c.add_row.new.rows.items
-      c.loop-next.taker.side c.loop-next.taker.zone c.loop-next.invariant.listed c.in-Some.is c.loop-next.invariant.side c.loop-next.invariant.zone
-      (subst (λ (graph : Graph). c.take-lots.result ≡ lots_of (legs_with graph (room_of c.loop-next.walk.rooms) c.loop-next.taker.side c.loop-next.taker.zone c.in-Some.order.zone (min c.loop-next.left c.in-Some.order.lots))) c.requires.grid
-      (subst (λ n. c.take-lots.result ≡ lots_of (legs_with c.args.grid.now (room_of c.loop-next.walk.rooms) c.loop-next.taker.side c.loop-next.taker.zone c.in-Some.order.zone n)) c.min.ensures c.take-lots.ensures.lots))
-      (subst (λ (graph : Graph). AreRoomsAfter (room_of c.loop-next.walk.rooms) (room_of c.take-lots.new.walk.rooms) (legs_with graph (room_of c.loop-next.walk.rooms) c.loop-next.taker.side c.loop-next.taker.zone c.in-Some.order.zone (min c.loop-next.left c.in-Some.order.lots))) c.requires.grid
-      (subst (λ n. AreRoomsAfter (room_of c.loop-next.walk.rooms) (room_of c.take-lots.new.walk.rooms) (legs_with c.args.grid.now (room_of c.loop-next.walk.rooms) c.loop-next.taker.side c.loop-next.taker.zone c.in-Some.order.zone n)) c.min.ensures c.take-lots.ensures.rooms))
-      c.in_ok-add_row.ensures
-      (c.after-next.ensures.next c.args.line.part c.args.line.side (rests-in (g.B.Board.state c.args.board.now) c.first-next.ensures.board c.requires.hand c.args.line.part c.requires.part c.args.line.side c.args.zone c.in-Some.order (at-order (g.B.Board.state c.args.board.now) c.first-next.ensures.board c.requires.hand c.args.line.part c.requires.part c.args.line.side c.args.zone c.loop-next.next c.in-Some.order c.loop-next.invariant.listed.stands c.in-Some.is)));
+  side = c.take-lots.ensures.side ∙ c.loop-order.invariant.side;
+  zone = c.take-lots.ensures.zone ∙ c.loop-order.invariant.zone;
+  listed = one-order c.args.grid.now c.args.side c.args.zone c.args.of_part.now c.args.orders.now c.loop-order.walk.rooms c.take-lots.new.walk.rooms c.loop-order.left c.take-lots.result c.loop-order.order-index
+      c.loop-order.rows.items c.add_row.new.rows.items c.loop-order.taker.side c.loop-order.taker.zone no_order c.loop-order.invariant.listed c.loop-order-test.true c.loop-order.invariant.side c.loop-order.invariant.zone
+      (subst (λ n. c.take-lots.result ≡ lots_of (legs_with c.args.grid.now (room_of c.loop-order.walk.rooms) c.loop-order.taker.side c.loop-order.taker.zone (get_or c.args.orders.now c.loop-order.order-index no_order).zone n)) c.min.ensures c.take-lots.ensures.lots)
+      (subst (λ n. AreRoomsAfter (room_of c.loop-order.walk.rooms) (room_of c.take-lots.new.walk.rooms) (legs_with c.args.grid.now (room_of c.loop-order.walk.rooms) c.loop-order.taker.side c.loop-order.taker.zone (get_or c.args.orders.now c.loop-order.order-index no_order).zone n)) c.min.ensures c.take-lots.ensures.rooms)
+      c.in_ok-add_row.ensures;
 }
 
 pub returns-clause-rows : goal.returns-clause-rows
-returns-clause-rows g c =
-    all-listed (g.B.Board.state c.args.board.now) c.first-next.ensures.board c.requires.hand c.args.line.part c.requires.part c.args.line.side c.args.zone c.args.of_part.now c.loop-next.walk.rooms c.loop-next.left c.loop-next.next c.loop-next.rows.items c.requires.of_part c.loop-next.invariant.listed c.in_default.is
+returns-clause-rows c = all-listed c.args.grid.now c.args.side c.args.zone c.args.of_part.now c.args.orders.now c.loop-order.walk.rooms c.loop-order.left c.loop-order.order-index c.loop-order.rows.items c.loop-order.invariant.listed c.loop-order-test.false

@@ -6,7 +6,7 @@ use Rattle.local_view.proofs.whole.WholeLine.read.Given as goal
 
 -- the orders in front of the next one are read
 abbrev pub invariant-loop-next : goal.invariant-loop-next
-invariant-loop-next g l = IsReading (g.B.Board.state l.board) l.fn.line.part l.fn.line.side l.next l.self.rows.items l.self.shown l.all
+invariant-loop-next g l = IsReading (g.B.Board.state l.board) l.fn.line.part l.fn.line.side l.next l.self.orders.items l.self.rows.items l.self.shown l.all
 
 -- fewer orders are left with each
 abbrev pub decreases-loop-next : goal.decreases-loop-next
