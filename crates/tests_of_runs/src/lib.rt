@@ -10,6 +10,8 @@ mod record_tests;
 #[cfg(test)]
 mod records;
 #[cfg(test)]
+mod recover_tests;
+#[cfg(test)]
 mod run_tests;
 #[cfg(test)]
 mod sessions;
