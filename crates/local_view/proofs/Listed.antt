@@ -1,10 +1,9 @@
 -- Where a walk along a line of a board stands, and a list of rows in its course.
-use Rattle.std.proofs.Common.{◌≡◌, ◌∙◌, ℕ, zero, suc, ◌+◌, ◌-◌, ◌<◌, ◌≤◌, List, [], ◌∷◌, ◌++◌, drop, get_or, length, min, Option, Some, None, append_assoc, refl, sym, ap, subst, arith}
-use Rattle.std.proofs.lemmas.List.{append-nil, drop_all, drop_more}
+use Rattle.std.proofs.Common.{◌≡◌, ◌∙◌, ℕ, zero, suc, ◌+◌, ◌-◌, ◌<◌, ◌≤◌, List, [], ◌∷◌, ◌++◌, drop, length, min, Option, Some, None, append_assoc, refl, sym, ap, subst, arith}
+use Rattle.std.proofs.lemmas.List.{append-nil, drop_all}
 use Rattle.order_kinds.specs.declared.price.Price.{Price}
 use Rattle.order_kinds.specs.declared.side.Side.{Side}
 use Rattle.zone_graph.specs.declared.route.RouteLeg.{RouteLeg}
-use Rattle.zone_graph.specs.declared.route.Arc.{Arc}
 use Rattle.zone_graph.specs.Graph.{Graph, HasZone}
 use Rattle.zone_graph.specs.Pour.{opposite_arc}
 use Rattle.zone_graph.specs.Rooms.{room_of}
@@ -77,42 +76,23 @@ module _ (graph : Graph) (side : Side) (zone : ℕ) (start : List (ℕ × ℕ)) 
   AreListed rooms left place rows = rows ++ rows_taken graph side zone (room_of rooms) left (drop place orders) ≡ rows_taken graph side zone (room_of start) 4294967295 orders
 
   -- one order more
-  pub one-order : (rooms rooms_after : List (ℕ × ℕ)) (left lots place : ℕ) (rows rows_after : List ViewRow) (side_now : Side) (zone_now : ℕ) (else : LineOrder)
-      → AreListed rooms left place rows → place < length orders → side_now ≡ side → zone_now ≡ zone
-      → lots ≡ lots_of (legs_with graph (room_of rooms) side_now zone_now (get_or orders place else).zone (min left (get_or orders place else).lots))
-      → AreRoomsAfter (room_of rooms) (room_of rooms_after) (legs_with graph (room_of rooms) side_now zone_now (get_or orders place else).zone (min left (get_or orders place else).lots))
-      → rows_after ≡ rows ++ row_if (get_or orders place else).price lots [] → AreListed rooms_after (left - lots) (place + 1) rows_after
+  pub one-order : (rooms rooms_after : List (ℕ × ℕ)) (left lots place : ℕ) (rows rows_after : List ViewRow) (legs : List RouteLeg) (order : LineOrder)
+      → AreListed rooms left place rows → drop place orders ≡ order ∷ drop (place + 1) orders → legs ≡ legs_with graph (room_of rooms) side zone order.zone (min left order.lots)
+      → lots ≡ lots_of legs → AreRoomsAfter (room_of rooms) (room_of rooms_after) legs → rows_after ≡ rows ++ row_if order.price lots []
+      → AreListed rooms_after (left - lots) (place + 1) rows_after
   unfolding rows_taken
-  one-order rooms rooms_after left lots place rows rows_after side_now zone_now else listed there same_side same_zone lots_are over rows_are =
+  one-order rooms rooms_after left lots place rows rows_after legs order listed here legs_are lots_are over rows_are =
+      let back = drop (place + 1) orders in
+      let onward = rows_taken graph side zone (room_of rooms_after) (left - lots) (drop (place + 1) orders) in
       ap (λ rs. rs ++ onward) rows_are
       ∙ append_assoc rows (row_if order.price lots []) onward
       ∙ ap (λ rs. rows ++ rs)
       (sym (row-first order.price lots onward)
-      ∙ at_legs (legs side_now zone_now) lots_are over
-      ∙ ap (λ ls. row_if order.price (lots_of ls) (rows_taken graph side zone (rooms_after_legs ls) (left - lots_of ls) back)) (ap (λ s. legs s zone_now) same_side ∙ ap (λ z. legs side z) same_zone)
-      ∙ ap (rows_taken graph side zone (room_of rooms) left) (sym (drop_more orders place else there)))
+      ∙ ap (λ room. row_if order.price lots (rows_taken graph side zone room (left - lots) back)) (λ i. λ arc. over arc i)
+      ∙ ap (λ n. row_if order.price n (rows_taken graph side zone (all_after (room_of rooms) legs) (left - n) back)) lots_are
+      ∙ ap (λ ls. row_if order.price (lots_of ls) (rows_taken graph side zone (all_after (room_of rooms) ls) (left - lots_of ls) back)) legs_are
+      ∙ ap (rows_taken graph side zone (room_of rooms) left) (sym here))
       ∙ listed
-    where
-      order : LineOrder
-      order = get_or orders place else
-
-      back : List LineOrder
-      back = drop (place + 1) orders
-
-      onward : List ViewRow
-      onward = rows_taken graph side zone (room_of rooms_after) (left - lots) back
-
-      legs : Side → ℕ → List RouteLeg
-      legs s z = legs_with graph (room_of rooms) s z order.zone (min left order.lots)
-
-      rooms_after_legs : List RouteLeg → Arc → ℕ
-      rooms_after_legs ls = all_after (room_of rooms) ls
-
-      at_legs : (ls : List RouteLeg) → lots ≡ lots_of ls → AreRoomsAfter (room_of rooms) (room_of rooms_after) ls
-          → row_if order.price lots onward ≡ row_if order.price (lots_of ls) (rows_taken graph side zone (rooms_after_legs ls) (left - lots_of ls) back)
-      at_legs ls are rooms_are =
-          ap (λ r. row_if order.price lots (rows_taken graph side zone r (left - lots) back)) (λ i. λ arc. rooms_are arc i)
-          ∙ ap (λ n. row_if order.price n (rows_taken graph side zone (rooms_after_legs ls) (left - n) back)) are
 
   -- behind the last order they are all
   pub all-listed : (rooms : List (ℕ × ℕ)) (left place : ℕ) (rows : List ViewRow) → AreListed rooms left place rows → length orders ≤ place

@@ -152,6 +152,9 @@ whole_views graph hour events part side zone plan of known planned all few =
 -- ---- boards
 
 module _ (board : BoardState) (none : board.hand ≡ None) (part : ℕ) (side : Side) (whole : WholeLine) (read : IsRead board part side whole) where
+  abbrev orders : List Standing
+  orders = line board.events (contract_at board.hour part) side
+
   rests : resting_line board part side ≡ line board.events (contract_at board.hour part) side
   rests = rests-all board part side none
 
@@ -166,33 +169,30 @@ module _ (board : BoardState) (none : board.hand ≡ None) (part : ℕ) (side : 
   pub taken-view : (zone : ℕ) (rooms : List (ℕ × ℕ)) → AreRoomsOf board part rooms
       → rows_taken board.grid side zone (room_of rooms) 4294967295 whole.orders.items ≡ view_of board part side zone
   taken-view zone rooms of =
-      ap (rows_taken board.grid side zone (room_of rooms) 4294967295) (read.orders ∙ ap (map in_line) rests ∙ sym (map-map as_order maker_of (line board.events (contract_at board.hour part) side)))
+      ap (rows_taken board.grid side zone (room_of rooms) 4294967295) (read.orders ∙ ap (map in_line) rests ∙ sym (map-map as_order maker_of orders))
       ∙ view-walked board.grid board.hour board.events read.is_board.stands part side zone rooms of.are
 
--- the view of a board is the line that was read, where all of it comes together
-module _ (board : BoardState) (none : board.hand ≡ None) (part : ℕ) (side : Side) (zone : ℕ) (known : HasZone board.grid zone) (few_zones : IsGrid board.grid) (rooms : List (ℕ × ℕ)) (of : AreRoomsOf board part rooms)
-    (whole : WholeLine) (read : IsRead board part side whole) (fits : whole.fits ≡ true) (comes : ComeTogether board.grid (room_of rooms) side zone whole.shown) where
-  abbrev orders : List Standing
-  orders = line board.events (contract_at board.hour part) side
+  -- the view is the line itself, where all of it comes together
+  module _ (zone : ℕ) (known : HasZone board.grid zone) (few_zones : IsGrid board.grid) (rooms : List (ℕ × ℕ)) (of : AreRoomsOf board part rooms) (fits : whole.fits ≡ true)
+      (comes : ComeTogether board.grid (room_of rooms) side zone whole.shown) where
+    abbrev plan : FlowPlan
+    plan = record { gives = λ order. order.shown; flow = comes.flow }
 
-  abbrev plan : FlowPlan
-  plan = record { gives = λ order. order.shown; flow = comes.flow }
+    passes : (s : Side) (other : ℕ) → PassesOn board.grid s comes.flow other (get_or whole.shown other 0) → get_or whole.shown other 0 ≡ shown_in orders other → IsBalanced board.grid (opposite s) orders plan other
+    passes Buy other on shows = omega (arith, on, shows)
+    passes Sell other on shows = omega (arith, on, shows)
 
-  passes : (s : Side) (other : ℕ) → PassesOn board.grid s comes.flow other (get_or whole.shown other 0) → get_or whole.shown other 0 ≡ shown_in orders other → IsBalanced board.grid (opposite s) orders plan other
-  passes Buy other on shows = omega (arith, on, shows)
-  passes Sell other on shows = omega (arith, on, shows)
-
-  pub whole_view : whole.rows.items ≡ view_of board part side zone
-  whole_view =
-      read.rows fits
-      ∙ ap rows_shown (rests board none part side whole read)
-      ∙ sym (all-taken board.grid few_zones.is_graph side zone known (room_of rooms) orders
-      (line-once board.grid board.hour board.events read.is_board.stands part side) (line-cross board.grid board.hour board.events read.is_board.stands part side)
-      (line-zones board.grid board.hour board.events read.is_board.stands part side) (subst (λ os. all_shown os ≤ 4294967295) (rests board none part side whole read) (read.few fits)) plan (record {
-        gives_most = λ order i. omega arith;
-        within = λ arc there. let flows = comes.within arc there in omega (arith, flows);
-        balanced = λ other there apart.
-            passes side other (comes.balanced other there apart)
-            (read.zones fits other (let few = few_zones.few_zones in omega (arith, there, few)) ∙ ap (λ os. shown_in os other) (rests board none part side whole read));
-      }) (λ order i. refl))
-      ∙ view-walked board.grid board.hour board.events read.is_board.stands part side zone rooms of.are
+    pub whole_view : whole.rows.items ≡ view_of board part side zone
+    whole_view =
+        read.rows fits
+        ∙ ap rows_shown rests
+        ∙ sym (all-taken board.grid few_zones.is_graph side zone known (room_of rooms) orders
+        (line-once board.grid board.hour board.events read.is_board.stands part side) (line-cross board.grid board.hour board.events read.is_board.stands part side)
+        (line-zones board.grid board.hour board.events read.is_board.stands part side) (subst (λ os. all_shown os ≤ 4294967295) rests (read.few fits)) plan (record {
+          gives_most = λ order i. omega arith;
+          within = λ arc there. let flows = comes.within arc there in omega (arith, flows);
+          balanced = λ other there apart.
+              passes side other (comes.balanced other there apart)
+              (read.zones fits other (let few = few_zones.few_zones in omega (arith, there, few)) ∙ ap (λ os. shown_in os other) rests);
+        }) (λ order i. refl))
+        ∙ view-walked board.grid board.hour board.events read.is_board.stands part side zone rooms of.are

@@ -48,6 +48,5 @@ row_if price (suc more) rows = record { price = price; lots = suc more } ∷ row
 unfoldable pub rows_taken : Graph → Side → (zone : ℕ) → (Arc → ℕ) → (left : ℕ) → List LineOrder → List ViewRow
 rows_taken graph side zone room left [] = []
 rows_taken graph side zone room left (order ∷ orders) =
-    row_if order.price (lots_of (legs_with graph room side zone order.zone (min left order.lots)))
-    (rows_taken graph side zone (rooms_after room (legs_with graph room side zone order.zone (min left order.lots)))
-    (left - lots_of (legs_with graph room side zone order.zone (min left order.lots))) orders)
+    let legs = legs_with graph room side zone order.zone (min left order.lots) in
+    row_if order.price (lots_of legs) (rows_taken graph side zone (rooms_after room legs) (left - lots_of legs) orders)

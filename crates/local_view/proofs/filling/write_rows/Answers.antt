@@ -16,8 +16,8 @@ returns-then-comes_to-clause-rows g c =
     c.in_ok-extend_from_slice.ensures.items
     ∙ ap (λ rows. rows ++ c.as_slice.result.now) c.clear.ensures.items
     ∙ c.as_slice.ensures.value
-    ∙ whole_view g.board c.requires.1.1.hand c.args.line.part c.args.line.side c.args.zone (subst (λ (graph : Graph). HasZone graph c.args.zone) c.requires.0 c.requires.1.0)
-    (subst IsGrid c.requires.0 c.zones-zones.ensures.grid) c.args.work.now.of_part c.requires.1.1.rooms c.args.work.now.whole c.requires.1.1.read (c.comes_to.ensures.fits c.if-comes_to.true)
+    ∙ whole_view g.board c.requires.1.1.hand c.args.line.part c.args.line.side c.args.work.now.whole c.requires.1.1.read c.args.zone (subst (λ (graph : Graph). HasZone graph c.args.zone) c.requires.0 c.requires.1.0)
+    (subst IsGrid c.requires.0 c.zones-zones.ensures.grid) c.args.work.now.of_part c.requires.1.1.rooms (c.comes_to.ensures.fits c.if-comes_to.true)
     (subst (λ (graph : Graph). ComeTogether graph (room_of c.args.work.now.of_part) c.args.line.side c.args.zone c.args.work.now.whole.shown) c.requires.0
     (c.comes_to.ensures.together c.if-comes_to.true))
 

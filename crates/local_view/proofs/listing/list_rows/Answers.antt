@@ -1,8 +1,8 @@
-use Rattle.std.proofs.Common.{◌≡◌, ◌∙◌, ◌++◌, ℕ, List, ap, get_or, length, pos, refl, subst, sym}
+use Rattle.std.proofs.Common.{◌∙◌, ◌++◌, ℕ, List, ap, get_or, length, pos, refl, subst, sym}
+use Rattle.std.proofs.lemmas.List.{drop_more}
 use Rattle.zone_graph.specs.Rooms.{room_of}
 use Rattle.zone_graph.proofs.Places.{at_place}
 use Rattle.cut_proof.specs.Carrying.{FitTogether}
-use Rattle.route_choice.specs.Poured.{AreRoomsAfter, lots_of}
 use Rattle.local_view.specs.Poured.{legs_with, rows_taken}
 use Rattle.local_view.specs.declared.whole.LineOrder.{LineOrder}
 use Rattle.local_view.proofs.Listed.{all-listed, one-order}
@@ -35,11 +35,14 @@ loop-order-preserved c = record {
   walking = c.take-lots.ensures.walking;
   side = c.take-lots.ensures.side ∙ c.loop-order.invariant.side;
   zone = c.take-lots.ensures.zone ∙ c.loop-order.invariant.zone;
-  listed = one-order c.args.grid.now c.args.side c.args.zone c.args.of_part.now c.args.orders.now c.loop-order.walk.rooms c.take-lots.new.walk.rooms c.loop-order.left c.take-lots.result c.loop-order.order-index
-      c.loop-order.rows.items c.add_row.new.rows.items c.loop-order.taker.side c.loop-order.taker.zone no_order c.loop-order.invariant.listed c.loop-order-test.true c.loop-order.invariant.side c.loop-order.invariant.zone
-      (subst (λ n. c.take-lots.result ≡ lots_of (legs_with c.args.grid.now (room_of c.loop-order.walk.rooms) c.loop-order.taker.side c.loop-order.taker.zone (get_or c.args.orders.now c.loop-order.order-index no_order).zone n)) c.min.ensures c.take-lots.ensures.lots)
-      (subst (λ n. AreRoomsAfter (room_of c.loop-order.walk.rooms) (room_of c.take-lots.new.walk.rooms) (legs_with c.args.grid.now (room_of c.loop-order.walk.rooms) c.loop-order.taker.side c.loop-order.taker.zone (get_or c.args.orders.now c.loop-order.order-index no_order).zone n)) c.min.ensures c.take-lots.ensures.rooms)
-      c.in_ok-add_row.ensures;
+  listed =
+      let order = get_or c.args.orders.now c.loop-order.order-index no_order in
+      let legs = legs_with c.args.grid.now (room_of c.loop-order.walk.rooms) in
+      one-order c.args.grid.now c.args.side c.args.zone c.args.of_part.now c.args.orders.now c.loop-order.walk.rooms c.take-lots.new.walk.rooms c.loop-order.left c.take-lots.result c.loop-order.order-index
+      c.loop-order.rows.items c.add_row.new.rows.items (legs c.loop-order.taker.side c.loop-order.taker.zone order.zone c.min.result) order c.loop-order.invariant.listed
+      (drop_more c.args.orders.now c.loop-order.order-index no_order c.loop-order-test.true)
+      (ap (λ s. legs s c.loop-order.taker.zone order.zone c.min.result) c.loop-order.invariant.side ∙ ap (λ z. legs c.args.side z order.zone c.min.result) c.loop-order.invariant.zone ∙ ap (legs c.args.side c.args.zone order.zone) c.min.ensures)
+      c.take-lots.ensures.lots c.take-lots.ensures.rooms c.in_ok-add_row.ensures;
 }
 
 pub returns-clause-rows : goal.returns-clause-rows
