@@ -130,7 +130,8 @@ pub(crate) fn is_set(bits: u64, place: usize) -> bool
     }
 }
 
-// Computes the rows of a zone.
+// Makes the rows of a zone, in place of those that were there: those of the whole line, where all of it can
+// come to the zone, and else those that a walk along the line finds.
 fn fill_list(
     alloc: Global,
     grid: &Grid,
@@ -146,43 +147,24 @@ fn fill_list(
     ensures list { OnOk result (list.new ≡ view_of board line.part line.side zone) }
     ensures work { IsLineWork board line.part line.side work.new }
 {
-    let mut rows = mem::replace(list, Rows::new(alloc)).into_vec();
-    write_rows(grid, work, line, zone, &mut rows)?;
-    *list = Rows::from(rows);
-    Ok(())
-}
-
-// Writes the rows of a zone, in place of those that were there: those of the whole line, where all of it
-// can come to the zone, and else those that a walk along the line finds.
-fn write_rows(
-    grid: &Grid,
-    work: &mut Work,
-    line: Line,
-    zone: u32,
-    rows: &mut Vec<ViewRow>,
-) -> Result<(), NoMemory>
-    ghost board: { BoardState }
-    requires grid { grid.now ≡ board.grid }
-    requires zone { HasZone grid.now zone }
-    requires work { IsLineWork board line.part line.side work.old }
-    ensures rows { OnOk result (rows.new.items ≡ view_of board line.part line.side zone) }
-    ensures work { IsLineWork board line.part line.side work.new }
-{
     let zones = grid.zones();
     prove!(zone < zones);
+    let mut rows = mem::replace(list, Rows::new(alloc)).into_vec();
     if work.whole.comes_to(grid, &work.of_part, line.side, zone) {
         rows.clear();
         rows.extend_from_slice(work.whole.rows.as_slice())?;
-        return Ok(());
+    } else {
+        let orders = work.whole.orders.as_slice();
+        list_rows(
+            orders,
+            grid,
+            &work.of_part,
+            &mut work.walk,
+            line.side,
+            zone,
+            &mut rows,
+        )?;
     }
-    let orders = work.whole.orders.as_slice();
-    list_rows(
-        orders,
-        grid,
-        &work.of_part,
-        &mut work.walk,
-        line.side,
-        zone,
-        rows,
-    )
+    *list = Rows::from(rows);
+    Ok(())
 }
