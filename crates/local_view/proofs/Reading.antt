@@ -76,7 +76,7 @@ module _ (board : BoardState) (part : ℕ) (side : Side) where
       record {
         is_board = is;
         orders = sym (append-nil whole.orders.items) ∙ ap (λ os. whole.orders.items ++ map in_line os) (sym none) ∙ reading.orders;
-        rows = λ e. sym (append-nil whole.rows.items) ∙ ap (λ os. whole.rows.items ++ rows_shown os) (sym none) ∙ reading.onward;
+        rows = sym (append-nil whole.rows.items) ∙ ap (λ os. whole.rows.items ++ rows_shown os) (sym none) ∙ reading.onward;
         zones = λ e zone less.
             let own : AreTogether (get_or whole.shown zone 0) 0 (shown_in orders zone) = subst (λ os. AreTogether (get_or whole.shown zone 0) (shown_in os zone) (shown_in orders zone)) none (reading.zones zone less) in
             omega (arith, own, sums, fits e, zone-within orders zone);

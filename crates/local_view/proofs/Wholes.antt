@@ -184,7 +184,7 @@ module _ (board : BoardState) (none : board.hand ≡ None) (part : ℕ) (side : 
 
     pub whole_view : whole.rows.items ≡ view_of board part side zone
     whole_view =
-        read.rows fits
+        read.rows
         ∙ ap rows_shown rests
         ∙ sym (all-taken board.grid few_zones.is_graph side zone known (room_of rooms) orders
         (line-once board.grid board.hour board.events read.is_board.stands part side) (line-cross board.grid board.hour board.events read.is_board.stands part side)

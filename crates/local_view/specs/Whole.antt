@@ -41,10 +41,10 @@ WholeLinesAreViews = (graph : Graph) (hour : ℕ) (events : List Event) (part : 
 abbrev pub in_line : Standing → LineOrder
 in_line order = record { zone = order.order.zone; price = order.price; lots = order.shown }
 
--- a line of a board is read: its orders, and where it fits in what a view asks for all else too
+-- a line of a board is read: its orders and rows, and where it fits in what a view asks for its sums too
 pub record IsRead (board : BoardState) (part : ℕ) (side : Side) (whole : WholeLine) : Type 0 where
   pub is_board : IsBoard board
   pub orders : whole.orders.items ≡ map in_line (resting_line board part side)
-  pub rows : whole.fits ≡ true → whole.rows.items ≡ rows_shown (resting_line board part side)
+  pub rows : whole.rows.items ≡ rows_shown (resting_line board part side)
   pub zones : whole.fits ≡ true → (zone : ℕ) → zone < 64 → slice_index_or whole.shown zone 0 ≡ shown_in (resting_line board part side) zone
   pub few : whole.fits ≡ true → all_shown (resting_line board part side) ≤ 4294967295

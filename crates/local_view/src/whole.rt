@@ -37,7 +37,7 @@ pub(crate) struct WholeLine {
     pub(crate) shown: [u32; MOST_ZONES],
     /// The lots that all orders show together.
     pub(crate) all: u32,
-    /// Whether all these lots are less than a view asks for. Where it is so, all but the orders are told too.
+    /// Whether all these lots are less than a view asks for. Where it is so, the sums are told.
     pub(crate) fits: bool,
 }
 
