@@ -1,5 +1,5 @@
 -- Stored lines that are played, and what is recovered behind them.
-use Rattle.std.proofs.Common.{◌≡◌, ◌≢◌, ◌∙◌, inl, inr, ℕ, ◌+◌, ◌<◌, ◌≤◌, true, false, true≢false, nat_lt, List, [], ◌∷◌, ◌++◌, codes, drop, get_or, length, length-append, length-drop, take, None, Option, Some, Result, Ok, Err, IfOk, OnOk, refl, sym, ap, subst, arith}
+use Rattle.std.proofs.Common.{◌≡◌, ◌∙◌, inl, inr, ℕ, ◌+◌, ◌<◌, ◌≤◌, true, false, true≢false, nat_lt, List, [], ◌∷◌, ◌++◌, codes, drop, get_or, length, length-append, length-drop, take, None, Option, Some, Result, Ok, Err, IfOk, OnOk, sym, ap, subst, arith}
 use Rattle.std.specs.Str.{bytes_eq}
 use Rattle.std.proofs.lemmas.Bool.{lt-ltb}
 use Rattle.std.proofs.lemmas.List.{append_cancel_right, drop_all, drop_more, get_or-map, length-map, take_all, take_more}

@@ -1,5 +1,4 @@
 -- How a session that is not stored, or not recovered, ends a run.
-use Rattle.std.specs.Prelude.{ℕ}
 use Rattle.session_io.specs.declared.status.Status.{Status}
 use Rattle.session_io.specs.declared.status.Status.TheVariants as status
 

@@ -1,11 +1,11 @@
 -- The turns are played one after the other, and their lines stored.
-use Rattle.std.proofs.Common.{◌≡◌, ◌≤◌, ◌∙◌, ◌++◌, ◌∷◌, [], ◌+◌, ℕ, List, append_assoc, ap, get_or, length, take, sym, subst, arith}
+use Rattle.std.proofs.Common.{◌∙◌, ◌++◌, ◌∷◌, [], ℕ, List, append_assoc, ap, get_or, take, sym, subst, arith}
 use Rattle.std.proofs.lemmas.List.{append-nil, take_more}
 use Rattle.disk_model.proofs.Moments.{leaves_more, runs_on, started}
 use Rattle.journal_audit.specs.Course.{callers_of}
 use Rattle.stored_journal.specs.Lines.{StoresFront}
 use Rattle.stored_journal.proofs.Fronts.{IsFront, front-more, front-shorter}
-use Rattle.session_storing.specs.Playing.{lines_in_order, lines_played}
+use Rattle.session_storing.specs.Playing.{lines_in_order}
 use Rattle.session_storing.proofs.Appends.{holds-front, some-waits, turns-front}
 use Rattle.session_storing.proofs.storing.append_turns.Goals as goal
 
