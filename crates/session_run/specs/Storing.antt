@@ -1,5 +1,5 @@
 -- What `store` writes, and what it leaves on the disk.
-use Rattle.std.specs.Prelude.{◌≡◌, ◌≢◌, ◌<◌, ◌≤◌, ◌⊎◌, ℕ, List, [], Option, Result, Ok, Err, Some, length}
+use Rattle.std.specs.Prelude.{◌≡◌, ◌<◌, ◌≤◌, ◌⊎◌, ℕ, List, [], Option, Result, Ok, Err, Some, length}
 use Rattle.disk_model.specs.Contents.{Contents, settled}
 use Rattle.durable_journal.specs.Appending.{most_stored}
 use Rattle.durable_journal.specs.Stored.{StoresLines, image_of}

@@ -1,5 +1,5 @@
 -- What is answered of a session that is read and stored, or is not.
-use Rattle.std.proofs.Common.{◌≡◌, ◌≤◌, ◌<◌, ◌∙◌, inl, ℕ, List, length, arith, subst}
+use Rattle.std.proofs.Common.{◌<◌, ◌∙◌, inl, length, arith, subst}
 use Rattle.disk_model.proofs.Moments.{leaves_more, started}
 use Rattle.durable_journal.specs.Appending.{most_stored}
 use Rattle.durable_journal.specs.Resting.{IsImageOf}

@@ -1,12 +1,12 @@
 -- A session that is read is played on desks, over an empty disk.
-use Rattle.std.proofs.Common.{◌≡◌, ◌≤◌, ◌<◌, ◌∙◌, [], ℕ, List, IfOk, OnOk, length, refl, sym, subst}
+use Rattle.std.proofs.Common.{◌≡◌, ◌≤◌, ◌<◌, ◌∙◌, [], ℕ, List, IfOk, OnOk, length, sym, subst}
 use Rattle.disk_model.proofs.Moments.{started}
 use Rattle.disk_model.specs.Moments.{LeavesOnly}
 use Rattle.durable_journal.specs.Appending.{most_stored}
 use Rattle.durable_journal.specs.Resting.{IsImageOf}
 use Rattle.durable_journal.specs.Stored.{image_of}
 use Rattle.stored_journal.specs.Lines.{StoresFront, TellsContents}
-use Rattle.session_storing.specs.Playing.{HasCommandsFor, IsPlaying, PlayState, lines_in_order}
+use Rattle.session_storing.specs.Playing.{HasCommandsFor, PlayState, lines_in_order}
 use Rattle.session_run.specs.Storing.{lines_of_session}
 use Rattle.session_run.proofs.Stored.{desk-plays, empty-front, has-commands, later-done, later-ok, told-empty}
 use Rattle.session_run.proofs.storing.store_session.Goals as goal
