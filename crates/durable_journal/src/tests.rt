@@ -1,6 +1,7 @@
 //! Lines that are appended to a disk which fails, crashes and is opened again.
 
-use crate::appending::append;
+use crate::appending::{MOST_STORED, append};
+use crate::faults::AppendFault;
 use crate::opening::open_image;
 use disk_model::RamDisk;
 use std::alloc::Global;
@@ -51,5 +52,32 @@ fn acknowledged_lines_outlive_a_crash(rt: HostRuntime) -> Result<(), Fail> {
             assert!(rt; may_be_left(alloc, &mut crashed, count)?);
         }
     }
+    Ok(())
+}
+
+// How many bytes too many an append to an empty disk finds in an image of one line: none where it is appended.
+fn too_many(alloc: Global, line: &[u8]) -> Result<u64, Fail> {
+    let mut disk = RamDisk::new(alloc);
+    let (at, _lines) = open_image(alloc, &mut disk)?;
+    if line.is_empty() {
+        return Ok(0);
+    }
+    match append(alloc, &mut disk, at, line) {
+        Err(AppendFault::TooLarge { size, .. }) => Ok(size.saturating_sub(MOST_STORED)),
+        appended => {
+            let _end = appended?;
+            Ok(0)
+        }
+    }
+}
+
+#[test]
+fn an_image_holds_so_many_bytes_and_no_more(rt: HostRuntime) -> Result<(), Fail> {
+    let alloc = rt.alloc();
+    // A gate, eight bytes of a length and the closed gate stand about the bytes of the line.
+    let mut line = vec![in alloc; b'.'; MOST_STORED as usize - 10]?;
+    assert_eq!(rt; too_many(alloc, line.as_slice())?, 0);
+    line.push(b'.')?;
+    assert_eq!(rt; too_many(alloc, line.as_slice())?, 1);
     Ok(())
 }
