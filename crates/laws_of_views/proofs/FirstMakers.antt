@@ -399,6 +399,16 @@ module _ (graph : Graph) (is : IsGraph graph) (side : Side) (zone : ℕ) (known 
       ap (λ (m : Maker). has m.zone zones) (from.2 ∙ taken-is fill.maker fill.lots from.0) ∙ inside from.0 from.1) run.1 in
       omega (arith, falls, own, rest, sum_by-cons (λ (x : Fill). x.lots) fill fills)
 
+  -- nor more than the bound of any zones around the taker's
+  pub filled-within : (zones : List ℕ) (room : Arc → ℕ) (makers : List Maker) (left : ℕ) (fills : List Fill) → AreOnce makers → has zone zones ≡ true
+      → IsRun (next_fill graph side zone) after_fill (depth room makers left) fills → lots_filled fills ≤ bound room zones makers
+  filled-within zones room makers left [] once inside run = omega arith
+  filled-within zones room makers left (fill ∷ fills) once inside run =
+      let f = next_fill-is graph side zone (depth room makers left) fill is run.0 in
+      let falls = bound-falls room makers f.with fill zones once f.is_in f.named f.shows f.fits inside in
+      let rest = filled-within zones (room_after room (carried_by fill)) (taken fill.maker fill.lots makers) (left - fill.lots) fills (taken-once fill.maker fill.lots makers once) inside run.1 in
+      omega (arith, falls, rest, sum_by-cons (λ (x : Fill). x.lots) fill fills)
+
   -- ---- all makers
 
   -- the lots of all trades are the bound of the zones that are in reach in the end
