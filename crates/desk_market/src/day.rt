@@ -41,7 +41,7 @@ impl DayDesks {
         requires { hours ≤ 32 }
         ensures { IfOk result (λ day. day ≡ record { desks = days.empty_desks grid.now hours; chosen = record { 0 = 0 } }) }
     {
-        let mut desks = Vec::new(alloc);
+        let mut desks = Vec::with_capacity(alloc, hours as usize)?;
         for before in 0..hours {
             desks.push(HourDesk::new(alloc, before + 1, grid)?)?;
         }

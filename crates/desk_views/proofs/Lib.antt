@@ -9,5 +9,6 @@ mod Coming
 mod Outcomes
 mod Steps
 mod Lists
+mod Asked
 mod Beginning
 mod Refreshed

@@ -54,6 +54,14 @@ module _ (views : Views) (rooms planned : List (List (ℕ × ℕ))) (asked : Boo
       ∙ ap (λ next. record { views = views; rooms = rooms; next = next }) (sym no-rooms-next)
       ∙ is
 
+-- the rooms that are shown are those of the hour as it is settled
+pub shown-settled : (hour : HourState) → AreBoards hour → (views : Views) (rooms planned shown : List (List (ℕ × ℕ))) (asked : Bool) (old : DeskState)
+    → record { views = views; rooms = rooms; next = planned_if asked planned } ≡ old → shown ≡ rooms → StandAt (settled_board hour) old
+    → (part : ℕ) → part < 7 → AreRoomsOf (settled_board hour) part (get_or shown part [])
+shown-settled hour boards views rooms planned shown asked old view_is same stands part low =
+    subst (λ rows. AreRoomsOf (settled_board hour) part (get_or rows part [])) (sym (same ∙ ap (λ (d : DeskState). d.rooms) view_is))
+    (rooms-settled hour boards old stands part low)
+
 -- a refresh of the views and rooms of a desk: of the rooms that are shown, those that are next are written anew if the hour's flows have changed
 module _ (hour : HourState) (boards : AreBoards hour) (grid : Graph) (own : grid ≡ hour.board.grid) (is : IsGrid grid)
     (views : Views) (rooms planned shown : List (List (ℕ × ℕ))) (was : Bool) (old : DeskState)

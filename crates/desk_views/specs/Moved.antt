@@ -26,6 +26,10 @@ abbrev pub AreMoved : Graph → (old new : List (ℕ × ℕ)) → (zones : ℕ) 
 AreMoved graph old new zones = (zone : ℕ) → zone < 64
     → holds zones zone ≡ list_any (moves_in graph old new zone) (range_with_len 0 (border_count graph))
 
+-- over the borders that are none of the changed ones no room has become another one
+abbrev pub AreStillBut : Graph → (changed : List Bool) → (old new : List (ℕ × ℕ)) → Type 0
+AreStillBut graph changed old new = (border : ℕ) → border < border_count graph → get_or changed border false ≡ false → has_moved old new border ≡ false
+
 -- the zones in which orders of a part and side have changed, or rooms of the part
 abbrev pub touched_of : (changed moved : List ℕ) → (part : ℕ) → Side → ℕ
 touched_of changed moved part side = bit_or (zones_of changed part side) (get_or moved part 0)

@@ -1,5 +1,5 @@
 -- What a change of one border's rows does to offers and flows on all arcs.
-use Rattle.std.proofs.Common.{◌≡◌, ◌∙◌, ◌+◌, ◌<◌, ◌≤◌, ◌==◌, ◌&&◌, not, zero, suc, ℕ, pos, ◌+ℤ◌, ◌-ℤ◌, ℤ, Bool, true, false, List, [], ◌∷◌, length, get_or, if◌then◌else◌, refl, sym, ap, subst, arith, eqb-true, get_or-set_same, get_or-set_other, slice_set}
+use Rattle.std.proofs.Common.{◌≡◌, ◌∙◌, ◌+◌, ◌<◌, ◌≤◌, ◌==◌, ◌&&◌, not, ℕ, pos, ◌+ℤ◌, ◌-ℤ◌, ℤ, Bool, true, false, List, length, get_or, if◌then◌else◌, refl, sym, ap, subst, arith, eqb-true, get_or-set_same, get_or-set_other, slice_set}
 use Rattle.std.proofs.lemmas.Bool.{eqb-false, ne_eqb}
 use Rattle.std.proofs.lemmas.Int.{ints}
 use Rattle.quarter_capacity.specs.Row.{Row, flow, offered, with_offered, with_taken}

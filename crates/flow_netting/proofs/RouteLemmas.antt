@@ -1,14 +1,12 @@
 -- Routes that name no border twice, arc by arc.
-use Rattle.std.proofs.Common.{◌≡◌, ◌∙◌, ◌+◌, ◌<◌, ◌==◌, ◌&&◌, ◌||◌, zero, suc, ℕ, pos, ◌+ℤ◌, ◌-ℤ◌, ◌≤ℤ◌, ℤ, Bool, true, false, List, [], ◌∷◌, inl, inr, length, map, get_or, take, if◌then◌else◌, refl, sym, ap, subst, arith, eqb-true}
+use Rattle.std.proofs.Common.{◌≡◌, ◌∙◌, ◌+◌, ◌<◌, ◌||◌, ℕ, pos, ◌+ℤ◌, ◌-ℤ◌, ◌≤ℤ◌, ℤ, Bool, true, false, List, length, map, get_or, take, if◌then◌else◌, refl, sym, ap, arith}
 use Rattle.std.proofs.lemmas.Int.{ints}
 use Rattle.std.proofs.lemmas.List.Folds.{list_any_more}
 use Rattle.quarter_capacity.specs.Capacity.{remaining_of}
 use Rattle.zone_graph.specs.declared.route.Arc.{Arc}
-use Rattle.zone_graph.specs.Pour.{lots_if, opposite_arc, same_arc, same_bool, uses}
-use Rattle.zone_graph.specs.Route.{AreDifferent, IsIn}
-use Rattle.zone_graph.proofs.Membership.{IsIn-map}
-use Rattle.zone_graph.proofs.Places.{at_place}
-use Rattle.zone_graph.proofs.Arcs.{same_arc-border, eqb-symm, same_arc-symm, is_fresh, never_both, lots_if-or}
+use Rattle.zone_graph.specs.Pour.{lots_if, opposite_arc, same_arc, uses}
+use Rattle.zone_graph.specs.Route.{AreDifferent}
+use Rattle.zone_graph.proofs.Arcs.{same_arc-border, same_arc-symm, is_fresh, never_both, lots_if-or}
 use Rattle.flow_netting.specs.Flows.{added_by}
 
 -- ---- the same arc

@@ -98,6 +98,16 @@ impl HourFlows {
             .flow(arc.forward)
     }
 
+    /// The room of an arc over the quarters of a set: the least of what remains in them, and none
+    /// where the border is halted or the hour is not open.
+    pub fn room(&self, set: QuarterSet, arc: Arc) -> u32
+        requires border { arc.border < flows.border_count self.now }
+        ensures room { result ≡ flows.room_of self.now set arc }
+        ensures most { result ≤ most_remaining }
+    {
+        self.borders.as_slice()[arc.border as usize].room(is_open(self.phase), arc.forward, set)
+    }
+
     /// Writes the room of each arc over the quarters of a set: the least of what remains in them,
     /// and none where the border is halted or the hour is not open.
     pub fn rooms(&self, set: QuarterSet, into: &mut Rooms)

@@ -42,14 +42,14 @@ has-it number order fails = eqb-is (order.number == number) refl (not-false (has
     eqb-is : (b : Bool) → (order.number == number) ≡ b → (order.number == number) ≡ true → order.number ≡ number
     eqb-is b e is = eqb-true order.number number is
 
-any-none : {X : Type 0} (q : X → Bool) (xs : List X) → list_any q xs ≡ false → (x : X) → IsIn x xs → q x ≡ false
+pub any-none : {X : Type 0} (q : X → Bool) (xs : List X) → list_any q xs ≡ false → (x : X) → IsIn x xs → q x ≡ false
 any-none q xs none x i = by (q x) refl
   where
     by : (b : Bool) → q x ≡ b → b ≡ false
     by true e = absurd (true≢false (sym (any-some q x xs i e) ∙ none))
     by false e = refl
 
-from_reverse : {X : Type 0} (x : X) (xs : List X) → IsIn x (reverse xs) → IsIn x xs
+pub from_reverse : {X : Type 0} (x : X) (xs : List X) → IsIn x (reverse xs) → IsIn x xs
 from_reverse x [] i = i
 from_reverse x (y ∷ xs) i = elim (IsIn-append x (reverse xs) (y ∷ []) (subst (IsIn x) (reverse-append (y ∷ []) xs) i)) [
   | inl later ↦ inr (from_reverse x xs later)

@@ -1,6 +1,6 @@
 -- What is carried and offered in the quarters of a set, one quarter after the other, and on the arcs of
 -- a route, one arc after the other.
-use Rattle.std.proofs.Common.{◌≡◌, ◌∙◌, ℕ, ◌+◌, ◌<◌, ◌==◌, ◌&&◌, ◌||◌, ltb, pos, ◌≤ℤ◌, Bool, true, List, [], length, get_or, map, take}
+use Rattle.std.proofs.Common.{◌≡◌, ◌∙◌, ℕ, ◌+◌, ◌<◌, ◌==◌, ◌&&◌, ltb, pos, ◌≤ℤ◌, Bool, true, List, length, get_or, map, take}
 use Rattle.zone_graph.specs.declared.route.Arc.{Arc}
 use Rattle.zone_graph.specs.Pour.{same_arc, uses}
 use Rattle.zone_graph.specs.Route.{AreDifferent}

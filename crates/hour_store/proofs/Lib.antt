@@ -5,6 +5,7 @@ pub mod PutBack
 pub mod Places
 pub mod Zones
 pub mod ChangesLeave
+pub mod BordersChange
 pub mod InTurn
 pub mod UndoneFlows
 pub mod UndoneBooks

@@ -1,15 +1,16 @@
 -- What the noted changes of a store say: in which zones the orders of a part and side have changed, and
--- whether the flows have.
-use Rattle.std.specs.Prelude.{◌≡◌, ℕ, ◌<◌, Bool, true, false, ◌==◌, ◌&&◌, ◌*◌, not, List, filter, replicate, slice_index_or}
+-- whether and over which borders the flows have.
+use Rattle.std.specs.Prelude.{◌≡◌, ℕ, ◌<◌, Bool, true, false, ◌==◌, ◌&&◌, ◌*◌, not, List, filter, get_or, replicate, slice_index_or}
 use Rattle.std.specs.List.{list_any}
 use Rattle.order_kinds.specs.declared.side.Side.{Side}
 use Rattle.order_kinds.specs.Same.{same_side}
 use Rattle.contract_book.specs.declared.resting.Resting.{Resting}
 use Rattle.contract_book.specs.Book.{line_number, line_of}
 use Rattle.cut_proof.specs.ZoneSet.{holds}
+use Rattle.zone_graph.specs.Graph.{most_borders}
 use Rattle.hour_store.specs.declared.change.Change.{Change}
 use Rattle.hour_store.specs.declared.change.Change.TheVariants as change
-use Rattle.hour_store.specs.Contents.{AreAlike, Contents}
+use Rattle.hour_store.specs.Contents.{AreAlike, AreAlikeOver, Contents}
 use Rattle.hour_store.specs.Store.{GoesBackTo, Store}
 
 -- an order of a part is of this part and side, and stands in this zone
@@ -33,6 +34,18 @@ changes_flows (change.Offered arc number lots) = true
 changes_flows (change.HaltSet border was) = true
 changes_flows (change.PhaseSet was) = true
 changes_flows _ = false
+
+-- a change is of the flows over a border: of an offer, what flows or a halt there, or of the phase
+abbrev pub changes_over : (border : ℕ) → Change → Bool
+changes_over border (change.Carried arc set lots) = arc.border == border
+changes_over border (change.Offered arc number lots) = arc.border == border
+changes_over border (change.HaltSet halted was) = halted == border
+changes_over border (change.PhaseSet was) = true
+changes_over border _ = false
+
+-- of each border it is told whether one of the changes is of the flows over it
+abbrev pub AreChangedBorders : List Change → (changed : List Bool) → Type 0
+AreChangedBorders changes changed = (border : ℕ) → border < most_borders → get_or changed border false ≡ list_any (changes_over border) changes
 
 -- the bits for the zones of a part and side, of such of all parts: of each part first those for the buys
 abbrev pub zones_of : (zones : List ℕ) → (part : ℕ) → Side → ℕ
@@ -61,3 +74,8 @@ LinesChangeInTheirZones = (store : Store) (target : Contents) (part : ℕ) (side
 abbrev pub FlowsChangeWhereNoted : Type 0
 FlowsChangeWhereNoted = (store : Store) (target : Contents) → GoesBackTo store target → list_any changes_flows store.changes ≡ false
     → AreAlike target.flows store.contents.flows
+
+-- and where none of the flows over a border is noted, they say the same there
+abbrev pub BordersChangeWhereNoted : Type 0
+BordersChangeWhereNoted = (store : Store) (target : Contents) (border : ℕ) → GoesBackTo store target → list_any (changes_over border) store.changes ≡ false
+    → AreAlikeOver border target.flows store.contents.flows

@@ -1,11 +1,13 @@
 -- What an hour keeps: the books of its orders and of its blocks, and its flows.
 use Rattle.std.specs.Prelude.{◌≡◌, ℕ, ◌≤◌, List, pos, ◌≤ℤ◌}
+use Rattle.zone_graph.specs.declared.route.Arc.{Arc}
 use Rattle.zone_graph.specs.Route.{IsIn}
 use Rattle.contract_book.specs.declared.resting.Resting.{Resting}
 use Rattle.contract_book.specs.Book.{line_of}
 use Rattle.block_book.specs.declared.block.RestingBlock.{RestingBlock}
 use Rattle.quarter_capacity.specs.Capacity.{most_offered}
-use Rattle.flow_netting.specs.Flows.{Flows, InEachQuarter, SameFlows, SameHalts, SameOffers, border_count, offered_of, remaining_of}
+use Rattle.flow_netting.specs.Border.{EachQuarter}
+use Rattle.flow_netting.specs.Flows.{Flows, InEachQuarter, SameFlows, SameHalts, SameOffers, border_count, flow_of, is_halted, offered_of, remaining_of}
 
 -- the orders that rest, of each part first its buys, then its sells; the blocks that rest; the flows
 pub record Contents : Type 0 where
@@ -20,6 +22,13 @@ pub record AreAlike (old new : Flows) : Type 0 where
   pub halts : SameHalts old.borders new.borders
   pub phase : new.phase ≡ old.phase
   pub size : border_count new ≡ border_count old
+
+-- flows say the same of the two arcs over a border in each quarter and of the border, and the phase is the same
+pub record AreAlikeOver (border : ℕ) (old new : Flows) : Type 0 where
+  pub offers : (arc : Arc) → arc.border ≡ border → EachQuarter (λ number. offered_of new arc number ≡ offered_of old arc number)
+  pub flows : (arc : Arc) → arc.border ≡ border → EachQuarter (λ number. flow_of new arc number ≡ flow_of old arc number)
+  pub halts : is_halted new border ≡ is_halted old border
+  pub phase : new.phase ≡ old.phase
 
 -- the books are the same, and the flows say the same
 pub record AreSame (old new : Contents) : Type 0 where

@@ -1,17 +1,18 @@
-//! What the noted changes say: in which zones orders have changed, and whether flows have.
+//! What the noted changes say: in which zones orders have changed, and whether and over which borders flows have.
 
-ghost use Rattle.std.specs.Prelude.{◌≡◌, ℕ, ◌<◌, ◌||◌, ◌&&◌, length};
+ghost use Rattle.std.specs.Prelude.{◌≡◌, ℕ, ◌<◌, ◌==◌, ◌||◌, ◌&&◌, false, get_or, length};
 ghost use Rattle.std.specs.List.{list_any};
 ghost use Rattle.order_kinds.specs.declared.side.Side.{Side};
 ghost use Rattle.contract_book.specs.Book.{line_number};
 ghost use Rattle.cut_proof.specs.ZoneSet.{holds};
-ghost use Rattle.hour_store.specs.Changed.{AreChangedZones, FlowsChangeWhereNoted, LinesChangeInTheirZones, changes_flows, changes_in, no_zones, stands_in, zones_of};
+ghost use Rattle.zone_graph.specs.Graph.{most_borders};
+ghost use Rattle.hour_store.specs.Changed.{AreChangedBorders, AreChangedZones, BordersChangeWhereNoted, FlowsChangeWhereNoted, LinesChangeInTheirZones, changes_flows, changes_in, changes_over, no_zones, stands_in, zones_of};
 
 use crate::change::Change;
 use contract_book::Resting;
 use order_kinds::Side;
 use std::marker::Model;
-use zone_graph::MOST_ZONES;
+use zone_graph::{MOST_BORDERS, MOST_ZONES};
 
 // The lines of an hour: the buys and the sells of each of its seven parts.
 const LINES: usize = 14;
@@ -96,6 +97,68 @@ fn set_zone_of(lines: &mut [u64], part: u32, order: Resting)
     }
 }
 
+/// Over which borders flows have changed. Contracts see for each border by its number whether they have.
+#[derive(Drop)]
+pub struct ChangedBorders {
+    changed: [bool; MOST_BORDERS],
+}
+
+impl Model for ChangedBorders {
+    ghost use Rattle.std.specs.Prelude.{◌≡◌, Bool, List, length};
+
+    ghost Value = { List Bool };
+
+    ghost view = { λ borders. borders.changed };
+
+    ghost invariant = { λ borders. length borders.changed ≡ 128 };
+}
+
+impl ChangedBorders {
+    /// Whether the flows over a border have changed.
+    pub fn has(&self, border: u32) -> bool
+        requires { border < most_borders }
+        ensures { result ≡ get_or self.now border false }
+    {
+        self.changed[border as usize]
+    }
+}
+
+/// Over which borders flows have changed, by these changes.
+pub(crate) fn borders_of_changes(changes: &[Change]) -> ChangedBorders
+    ensures { AreChangedBorders changes.now result }
+{
+    let mut changed = [false; MOST_BORDERS];
+    for change in changes {
+        mark_change(&mut changed, *change);
+    }
+    ChangedBorders { changed }
+}
+
+// Marks the border of a change of the flows, and each one where the change is of the phase.
+fn mark_change(changed: &mut [bool], change: Change)
+    requires { length changed.old ≡ most_borders }
+    ensures { (border : ℕ) → border < most_borders
+        → get_or changed.new border false ≡ (get_or changed.old border false || changes_over border change) }
+{
+    match change {
+        Change::Carried { arc, .. } | Change::Offered { arc, .. } => mark(changed, arc.border),
+        Change::HaltSet { border, .. } => mark(changed, border),
+        Change::PhaseSet { .. } => changed.fill(true),
+        _ => {}
+    }
+}
+
+// Marks a border.
+fn mark(changed: &mut [bool], border: u32)
+    requires { length changed.old ≡ most_borders }
+    ensures { (other : ℕ) → other < most_borders
+        → get_or changed.new other false ≡ (get_or changed.old other false || (border == other)) }
+{
+    if (border as usize) < MOST_BORDERS {
+        changed[border as usize] = true;
+    }
+}
+
 /// Whether one of these changes is of the flows.
 pub(crate) fn any_changes_flows(changes: &[Change]) -> bool
     ensures { result ≡ list_any changes_flows changes.now }
@@ -125,4 +188,9 @@ pub fn lines_change_in_their_zones()
 /// Where no change of the flows is noted, they say the same in the store and in the target.
 pub fn flows_change_where_noted()
     ensures { FlowsChangeWhereNoted }
+{}
+
+/// Where no change of the flows over a border is noted, they say the same there in the store and in the target.
+pub fn borders_change_where_noted()
+    ensures { BordersChangeWhereNoted }
 {}

@@ -19,7 +19,10 @@ mod orders;
 mod store;
 
 pub use change::Change;
-pub use changed::{ChangedZones, flows_change_where_noted, lines_change_in_their_zones};
+pub use changed::{
+    ChangedBorders, ChangedZones, borders_change_where_noted, flows_change_where_noted,
+    lines_change_in_their_zones,
+};
 pub use faults::Full;
 pub use store::HourStore;
 pub use zone_graph::NoMemory;

@@ -11,11 +11,13 @@ ghost use Rattle.flow_netting.specs.Flows as flow;
 ghost use Rattle.flow_netting.specs.QuarterSet.{has};
 ghost use Rattle.laws_of_hours.specs.Standing.{IsCarried, IsHaltSet, IsIdle, IsOffered};
 ghost use Rattle.hour_store.specs.Contents.{AreSame, Contents, IsOfPart, NothingOverdrawn, OffersInRange};
-ghost use Rattle.hour_store.specs.Changed.{AreChangedZones, changes_flows};
+ghost use Rattle.hour_store.specs.Changed.{AreChangedBorders, AreChangedZones, changes_flows};
 ghost use Rattle.hour_store.specs.Store.{GoesBackTo, StillLeadsBack};
 
 use crate::change::Change;
-use crate::changed::{ChangedZones, any_changes_flows, zones_of_changes};
+use crate::changed::{
+    ChangedBorders, ChangedZones, any_changes_flows, borders_of_changes, zones_of_changes,
+};
 use crate::faults::Full;
 use crate::flows::{grant_in, offer_one, offered, set_halt};
 use crate::kept::{Kept, take_all_back};
@@ -388,6 +390,14 @@ impl HourStore {
         ensures { AreChangedZones self.now.changes result }
     {
         zones_of_changes(self.log.as_slice())
+    }
+
+    /// Over which borders the flows have changed since the last settling: one walk of the noted changes. It
+    /// takes no memory.
+    pub fn changed_borders(&self) -> ChangedBorders
+        ensures { AreChangedBorders self.now.changes result }
+    {
+        borders_of_changes(self.log.as_slice())
     }
 
     /// Whether the flows have changed since the last settling: an offer, what flows, a halt or the phase.

@@ -1,5 +1,5 @@
 -- What the changes that a store has noted leave as the hour is settled.
-use Rattle.std.proofs.Common.{◌≡◌, ◌∙◌, inl, ℕ, ◌<◌, ◌≤◌, Bool, true, false, not, List, [], ◌∷◌, filter, map, take, Option, None, refl, sym, ap, subst, arith}
+use Rattle.std.proofs.Common.{◌≡◌, ◌∙◌, inl, ℕ, ◌<◌, ◌≤◌, Bool, true, false, not, List, [], ◌∷◌, filter, map, take, Option, None, refl, sym, ap, ap₂, subst, arith}
 use Rattle.std.proofs.lemmas.Bool.{true≢false}
 use mathlib.Core.List.{map-map}
 use Rattle.std.specs.List.{list_any}
@@ -8,7 +8,8 @@ use Rattle.order_kinds.specs.declared.side.Side.{Side}
 use Rattle.order_kinds.specs.Contract.{contract_at, part_at}
 use Rattle.order_kinds.specs.Period.{contract_quarters}
 use Rattle.zone_graph.specs.declared.route.Arc.{Arc}
-use Rattle.zone_graph.specs.Graph.{Graph, HasArc, HasZone, zone_count}
+use Rattle.quarter_capacity.specs.Capacity.{remaining_of}
+use Rattle.zone_graph.specs.Graph.{Graph, HasArc, HasZone, border_count, zone_count}
 use Rattle.zone_graph.specs.Route.{IsIn, has}
 use Rattle.zone_graph.proofs.Membership.{IsIn-map, from_filter, from_map, has-IsIn}
 use Rattle.contract_book.specs.declared.resting.Resting.{Resting}
@@ -36,10 +37,12 @@ use Rattle.laws_of_rows.specs.Depth.{AreInZones, maker_of}
 use Rattle.laws_of_rows.proofs.Views.{makers-known}
 use Rattle.laws_of_views.specs.Nearby.{is_elsewhere, seen_elsewhere}
 use Rattle.hour_store.specs.declared.change.Change.{Change}
-use Rattle.hour_store.specs.Changed.{AreChangedZones, changes_flows, has_changed, is_untouched, zones_of}
+use Rattle.hour_store.specs.Changed.{AreChangedBorders, AreChangedZones, changes_flows, changes_over, has_changed, is_untouched, zones_of}
+use Rattle.hour_store.specs.Contents.{AreAlikeOver}
 use Rattle.hour_store.specs.Store.{Store}
+use Rattle.hour_store.proofs.BordersChange.{borders-change}
 use Rattle.hour_store.proofs.ChangesLeave.{flows-change, lines-change}
-use Rattle.kept_hour.specs.Changed.{AreRoomsSettled, AreSeenElsewhere, HasTouched}
+use Rattle.kept_hour.specs.Changed.{AreRoomsSettled, AreRoomsSettledBut, AreSeenElsewhere, HasTouched}
 use Rattle.kept_hour.specs.Kept.{IsKept}
 use Rattle.kept_hour.specs.State.{HourState}
 use Rattle.kept_hour.proofs.Keeping.{alike-stands, own}
@@ -126,6 +129,19 @@ rooms-same graph before after hour part flows was is arc low there =
     ∙ kept_part-is before hour arc flows.phase (kept.is_halted flows arc.border) (kept.remaining_of flows arc) was.phase_same (was.halted_same arc.border there)
     (remains graph before hour flows arc was there) (part_at part) (known-at part low)
 
+-- the room of an arc where flows say the same over its border
+rooms-over : (graph : Graph) (before after : List Event) (hour part : ℕ) (old new : Flows) → Stands graph before hour old → Stands graph after hour new
+    → (arc : Arc) → AreAlikeOver arc.border old new → part < 7 → HasArc graph arc
+    → room after (contract_quarters (contract_at hour part)) arc ≡ room before (contract_quarters (contract_at hour part)) arc
+rooms-over graph before after hour part old new was is arc over low there =
+    sym (kept_part-is after hour arc new.phase (kept.is_halted new arc.border) (kept.remaining_of new arc) is.phase_same (is.halted_same arc.border there)
+    (remains graph after hour new arc is there) (part_at part) (known-at part low))
+    ∙ kept_part-is before hour arc new.phase (kept.is_halted new arc.border) (kept.remaining_of new arc) (over.phase ∙ was.phase_same)
+    (over.halts ∙ was.halted_same arc.border there)
+    (λ number first last.
+    ap₂ remaining_of (over.offers arc refl number first last) (over.flows arc refl number first last) ∙ remains graph before hour old arc was there number first last)
+    (part_at part) (known-at part low)
+
 -- ---- an hour, as its fields have it
 
 module _ (grid : Graph) (number : ℕ) (events : List Event) (settled : ℕ) (hand : Option ℕ) (numbers settled_numbers : ℕ) (store : Store)
@@ -156,3 +172,12 @@ module _ (grid : Graph) (number : ℕ) (events : List Event) (settled : ℕ) (ha
       let keeps = kept.keeps in
       let was = alike-stands grid (take settled events) number keeps.target.flows store.contents.flows keeps.target_of.flows (flows-change store keeps.target keeps.back none) in
       rooms-same grid (take settled events) events number part store.contents.flows was keeps.contents.flows arc low there)
+
+  pub rooms-settled-but : border_count seen.board.grid ≤ 128 → (changed : List Bool) → AreChangedBorders store.changes changed → AreRoomsSettledBut seen changed
+  rooms-settled-but few changed are =
+      subst (λ h. AreRoomsSettledBut h changed) view_is (λ part arc low there unmarked.
+      let keeps = kept.keeps in
+      let small : border_count grid ≤ 128 = subst (λ (h : HourState). border_count h.board.grid ≤ 128) (sym view_is) few in
+      let none : list_any (changes_over arc.border) store.changes ≡ false = sym (are arc.border (omega (arith, there, small))) ∙ unmarked in
+      rooms-over grid (take settled events) events number part keeps.target.flows store.contents.flows keeps.target_of.flows keeps.contents.flows arc
+      (borders-change store keeps.target arc.border keeps.back none) low there)

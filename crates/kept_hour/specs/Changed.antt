@@ -1,5 +1,5 @@
 -- What the planned events of an hour leave as it is settled: the orders in other zones than some, and rooms.
-use Rattle.std.specs.Prelude.{◌≡◌, ℕ, ◌<◌, true, List}
+use Rattle.std.specs.Prelude.{◌≡◌, ℕ, ◌<◌, Bool, true, false, List, get_or}
 use Rattle.order_kinds.specs.declared.side.Side.{Side}
 use Rattle.order_kinds.specs.Contract.{contract_at}
 use Rattle.order_kinds.specs.Period.{contract_quarters}
@@ -32,5 +32,11 @@ AreSeenElsewhere hour touched = (part : ℕ) (side : Side) (zones : List ℕ) �
 -- each arc has the room over each contract of the hour that it has as settled
 abbrev pub AreRoomsSettled : HourState → Type 0
 AreRoomsSettled hour = (part : ℕ) (arc : Arc) → part < 7 → HasArc hour.board.grid arc
+    → room hour.board.events (contract_quarters (contract_at hour.board.hour part)) arc
+    ≡ room hour.settled (contract_quarters (contract_at hour.board.hour part)) arc
+
+-- and so has each arc over a border that is none of the changed ones
+abbrev pub AreRoomsSettledBut : HourState → (changed : List Bool) → Type 0
+AreRoomsSettledBut hour changed = (part : ℕ) (arc : Arc) → part < 7 → HasArc hour.board.grid arc → get_or changed arc.border false ≡ false
     → room hour.board.events (contract_quarters (contract_at hour.board.hour part)) arc
     ≡ room hour.settled (contract_quarters (contract_at hour.board.hour part)) arc

@@ -1,12 +1,12 @@
 //! What an hour's planned events have changed of what its views see.
 
 ghost use Rattle.std.specs.Prelude.{◌≡◌, ◌≤◌, None, false};
-ghost use Rattle.zone_graph.specs.Graph.{most_zones, zone_count};
+ghost use Rattle.zone_graph.specs.Graph.{border_count, most_borders, most_zones, zone_count};
 ghost use Rattle.hour_store.specs.Changed.{no_zones};
-ghost use Rattle.kept_hour.specs.Changed.{AreBoards, AreRoomsSettled, AreSeenElsewhere};
+ghost use Rattle.kept_hour.specs.Changed.{AreBoards, AreRoomsSettled, AreRoomsSettledBut, AreSeenElsewhere};
 
 use crate::hour::KeptHour;
-use hour_store::ChangedZones;
+use hour_store::{ChangedBorders, ChangedZones};
 
 impl KeptHour {
     /// In which zones the orders of each part and side have changed since the hour was settled: elsewhere
@@ -33,5 +33,16 @@ impl KeptHour {
         ensures unplanned { self.now.board.events ≡ self.now.settled → result ≡ false }
     {
         self.settled < self.events.len() && self.store.flows_changed()
+    }
+
+    /// Over which borders the flows of the hour have changed since it was settled: the arcs over the others have
+    /// the room that they had. It takes no memory.
+    ///
+    /// The grid has at most 128 borders, as every one has.
+    pub fn changed_borders(&self) -> ChangedBorders
+        requires { border_count self.now.board.grid ≤ most_borders }
+        ensures { AreRoomsSettledBut self.now result }
+    {
+        self.store.changed_borders()
     }
 }

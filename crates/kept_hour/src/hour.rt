@@ -1,18 +1,24 @@
 //! The hour.
 
 ghost use Rattle.std.specs.Prelude.{◌≡◌, ◌+◌, ◌-◌, ◌^◌, ◌<◌, ◌≤◌, ℕ, [], None, Some, length, take, false, IsSome, IfOk, OnOk, OnErr};
+ghost use Rattle.order_kinds.specs.Contract.{contract_at};
+ghost use Rattle.order_kinds.specs.Period.{contract_quarters};
+ghost use Rattle.quarter_capacity.specs.Capacity.{most_remaining};
+ghost use Rattle.zone_graph.specs.Graph.{HasArc};
 ghost use Rattle.laws_of_books.specs.BookOf.{book_of};
 ghost use Rattle.laws_of_books.specs.BlocksOf.{blocks_of};
 ghost use Rattle.laws_of_hours.specs.Standing.{Stands};
 ghost use Rattle.market_model.specs.Board.{IsBoard, resting_names};
 ghost use Rattle.market_model.specs.Orders.{is_open, next_name, open_names};
 ghost use Rattle.market_model.specs.Refusals.{desk_room};
+ghost use Rattle.market_model.specs.Room.{room};
 ghost use Rattle.laws_of_hours.specs.OrderEvents.{without_hand};
 ghost use Rattle.hour_store.specs.Contents.{IsOfPart};
 ghost use Rattle.kept_hour.specs.Kept.{names_given};
 ghost use Rattle.kept_hour.specs.State as states;
 
 use crate::cutting::cut;
+use crate::parts::quarters_of;
 use block_book::BlockBook;
 use contract_book::{ContractBook, Resting};
 use flow_netting::HourFlows;
@@ -21,7 +27,7 @@ use market_model::{Event, Events, Order, OrderName};
 use std::alloc::Global;
 use std::marker::Model;
 use std::snapshot::Snapshot;
-use zone_graph::{Grid, NoMemory};
+use zone_graph::{Arc, Grid, NoMemory};
 
 /// An hour as a desk keeps it: contracts see a board, and the first of its events, those that are settled.
 ///
@@ -124,6 +130,16 @@ impl KeptHour {
         ensures { Stands self.now.board.grid self.now.board.events self.now.board.hour result.now }
     {
         self.store.flows()
+    }
+
+    /// The room of an arc over the quarters of a part of the hour, as its events leave it. It takes no memory.
+    pub fn room_of(&self, part: u32, arc: Arc) -> u32
+        requires part { part < 7 }
+        requires arc { HasArc self.now.board.grid arc }
+        ensures room { result ≡ room self.now.board.events (contract_quarters (contract_at self.now.board.hour part)) arc }
+        ensures most { result ≤ most_remaining }
+    {
+        self.store.flows().room(quarters_of(part), arc)
     }
 
     /// How many orders and blocks of the hour are open and rest: the order in hand is not counted. It takes

@@ -1,18 +1,46 @@
-use Rattle.std.proofs.Common.{◌≡◌, ◌∙◌, ◌<◌, [], get_or, length, ap, arith}
-use Rattle.zone_graph.proofs.Places.{at_any}
-use Rattle.local_view.specs.Boards.{AreRoomsOf}
-use Rattle.desk_views.proofs.Lists.{each-set}
+use Rattle.std.proofs.Common.{◌≡◌, ◌≢◌, ◌∙◌, inl, inr, false, [], get_or, sym, ap, subst, arith}
+use Rattle.std.proofs.lemmas.Bool.{cases_eq}
+use Rattle.zone_graph.specs.declared.route.Arc.{Arc}
+use Rattle.zone_graph.specs.Graph.{HasArc, border_count}
+use Rattle.zone_graph.specs.Rooms.{room_of}
+use Rattle.desk_views.specs.Insides.{IsRoomOf}
+use Rattle.desk_views.proofs.Asked.{room-still}
 use Rattle.desk_views.proofs.rooms.ask_rooms.Goals as goal
 
-pub loop-part-preserved : goal.loop-part-preserved
-loop-part-preserved c =
-    let within : c.loop-part.part < length c.loop-part.into = omega (arith, c.loop-part-test.true, c.loop-part.auto.into) in
-    let own : length c.rooms.new.into ≡ length (get_or c.args.into.now c.loop-part.part []) =
-    c.rooms.ensures.size ∙ ap length (at_any c.loop-part.into c.loop-part.part _ [] within) ∙ c.loop-part.invariant.size c.loop-part.part in
-    record {
-      size = λ part. each-set (λ k rooms. length rooms ≡ length (get_or c.args.into.now k [])) [] c.loop-part.into c.loop-part.part c.rooms.new.into within own part
-          (λ apart. c.loop-part.invariant.size part);
-      rooms = λ part low. each-set (λ k rooms. AreRoomsOf c.args.hour.now.board k rooms) [] c.loop-part.into c.loop-part.part c.rooms.new.into within
-          (record { size = own ∙ c.requires.size c.loop-part.part (omega (arith, within, c.requires.parts, c.loop-part.auto.into)); are = c.rooms.ensures.rooms; most = c.rooms.ensures.most }) part
-          (λ apart. c.loop-part.invariant.rooms part (omega (arith, low, apart)));
-    }
+pub copy_rooms-requires-clause-size : goal.copy_rooms-requires-clause-size
+copy_rooms-requires-clause-size c = λ part low. c.requires.size part low ∙ ap border_count c.requires.grid ∙ sym (c.requires.settled part low).size
+
+pub loop-border-init : goal.loop-border-init
+loop-border-init c = record {
+  size = c.copy_rooms.ensures.size;
+  own = λ part arc low less. absurd (let no : ⊥ = omega (arith, less) in no);
+  others = λ part arc low high. ap (λ row. room_of row arc) (c.copy_rooms.ensures.same part low);
+}
+
+pub ask_if-requires-clause-size : goal.ask_if-requires-clause-size
+ask_if-requires-clause-size c = λ part low. c.loop-border.invariant.size part ∙ c.requires.size part low ∙ ap border_count c.requires.grid
+
+pub ask_if-requires-clause-still : goal.ask_if-requires-clause-still
+ask_if-requires-clause-still c = λ unchanged part arc low on.
+    subst (IsRoomOf c.args.hour.now.board part arc) (sym (c.loop-border.invariant.others part arc low (omega (arith, on))))
+    (room-still c.args.hour.now c.args.changed.now c.requires.still part low (get_or c.args.rooms.now part []) (c.requires.settled part low) arc
+    (there arc on) (ap (λ border. get_or c.args.changed.now border false) on ∙ sym c.has.ensures ∙ unchanged))
+  where
+    there : (arc : Arc) → arc.border ≡ c.loop-border.border → HasArc c.args.hour.now.board.grid arc
+    there arc on =
+        let size : border_count c.args.grid.now ≡ border_count c.args.hour.now.board.grid = ap border_count c.requires.grid in
+        omega (arith, on, size)
+
+pub loop-border-preserved : goal.loop-border-preserved
+loop-border-preserved c = record {
+  size = λ part. c.ask_if.ensures.size part ∙ c.loop-border.invariant.size part;
+  own = λ part arc low less. elim (cases_eq arc.border c.loop-border.border) [
+    | inl same ↦ c.ask_if.ensures.own part arc low same
+    | inr apart ↦
+        subst (IsRoomOf c.args.hour.now.board part arc) (sym (c.ask_if.ensures.others part arc low apart))
+        (c.loop-border.invariant.own part arc low (omega (arith, less, apart)))
+  ];
+  others = λ part arc low high.
+      let apart : arc.border ≢ c.loop-border.border = λ same. omega (arith, same, high) in
+      c.ask_if.ensures.others part arc low apart ∙ c.loop-border.invariant.others part arc low (omega (arith, high));
+}

@@ -1,7 +1,12 @@
 use Rattle.std.proofs.Common.{drop, length, refl}
 use Rattle.desk_views.proofs.Next.{touched-none}
-use Rattle.desk_views.proofs.Refreshed.{all-still, inside-back, kept-made, near, near-made, next-stands, written-back}
+use Rattle.desk_views.proofs.Refreshed.{all-still, inside-back, kept-made, near, near-made, next-stands, shown-settled, written-back}
 use Rattle.desk_views.proofs.desk.DeskViews.refresh.Goals as goal
+
+pub moved_if-moved-requires-clause-settled : goal.moved_if-moved-requires-clause-settled
+moved_if-moved-requires-clause-settled c =
+    shown-settled c.args.hour.now c.changed_zones-changed.ensures.boards c.self.inside.views c.self.inside.rooms.items c.self.inside.planned.items c.as_slice-rooms.result.now
+    c.self.inside.asked c.args.self.now c.self.view_is c.as_slice-rooms.ensures.value c.requires.stands
 
 pub refresh_lines-requires-clause-near : goal.refresh_lines-requires-clause-near
 refresh_lines-requires-clause-near c =
