@@ -4,10 +4,9 @@ use Rattle.std.proofs.lemmas.Bool.{true≢false}
 use Rattle.std.proofs.lemmas.Bool.Decides.{eqb_tells}
 use Rattle.std.proofs.lemmas.List.{get_or-set_other, get_or-set_same, length-set}
 use Rattle.std.proofs.lemmas.List.Sums.{sum_by-set}
-use Rattle.zone_graph.specs.declared.route.Arc.{Arc}
-use Rattle.zone_graph.specs.Graph.{Graph, HasArc, end_of}
-use Rattle.local_view.specs.declared.ways.Ways.{Ways}
-use Rattle.local_view.specs.Ways.{AreFound, AreWays, free_places, if_free, no_arc}
+use Rattle.zone_graph.specs.Graph.{Graph, HasArc, arc_ends, end_of, start_of}
+use Rattle.local_view.specs.declared.ways.Way.{Way}
+use Rattle.local_view.specs.Ways.{AreFound, AreWays, free_places, arc_at, if_free, no_way}
 
 spaces : (found : List Bool) (zone : ℕ) → zone < length found → get_or found zone false ≡ false → free_places (set found zone true) + 1 ≡ free_places found
 spaces found zone within none =
@@ -16,69 +15,86 @@ spaces found zone within none =
     omega (arith, changed, one)
 
 -- so there is a place for one more
-pub place_free : (graph : Graph) (arcs : List Arc) (count : ℕ) (found : List Bool) (to : ℕ) → AreFound graph arcs count found → to < 64 → get_or found to false ≡ false → count + 1 < 64
-place_free graph arcs count found to are within none =
+pub place_free : (graph : Graph) (ways : List Way) (count : ℕ) (found : List Bool) (to : ℕ) → AreFound graph ways count found → to < 64 → get_or found to false ≡ false → count + 1 < 64
+place_free graph ways count found to are within none =
     let flags = are.flags in
     let free = are.free in
     omega (arith, spaces found to (omega (arith, within, flags)) none, free)
 
--- what holds of each arc, and of the new one
-at_new : (arcs : List Arc) (count : ℕ) (arc : Arc) (P : Arc → Type 0) (i : ℕ) → count < length arcs → i < count + 1 → P arc → (i < count → P (get_or arcs i no_arc))
-    → P (get_or (set arcs count arc) i no_arc)
-at_new arcs count arc P i within less new old = elim (eqb_tells i count) [
-  | inl same ↦ subst P (sym (ap (λ k. get_or (set arcs count arc) k no_arc) same.1 ∙ get_or-set_same arcs count arc no_arc within)) new
-  | inr other ↦ subst P (sym (get_or-set_other arcs count i arc no_arc other.1)) (old (let apart = other.1 in omega (arith, less, apart)))
+-- what holds of each way, and of the new one
+at_new : (ways : List Way) (count : ℕ) (way : Way) (P : Way → Type 0) (i : ℕ) → count < length ways → i < count + 1 → P way → (i < count → P (get_or ways i no_way))
+    → P (get_or (set ways count way) i no_way)
+at_new ways count way P i within less new old = elim (eqb_tells i count) [
+  | inl same ↦ subst P (sym (ap (λ k. get_or (set ways count way) k no_way) same.1 ∙ get_or-set_same ways count way no_way within)) new
+  | inr other ↦ subst P (sym (get_or-set_other ways count i way no_way other.1)) (old (let apart = other.1 in omega (arith, less, apart)))
 ]
 
-pub found_more : (graph : Graph) (arcs : List Arc) (count : ℕ) (found : List Bool) (arc : Arc) (to : ℕ) → AreFound graph arcs count found → HasArc graph arc
-    → end_of graph arc ≡ to → to < 64 → get_or found to false ≡ false → AreFound graph (set arcs count arc) (count + 1) (set found to true)
-found_more graph arcs count found arc to are known end within none = record {
-  flags = length-set found to true ∙ are.flags;
-  places = length-set arcs count arc ∙ are.places;
-  known = λ i less. at_new arcs count arc (HasArc graph) i room less known (are.known i);
+-- a zone that is found stays so
+pub still_found : (found : List Bool) (to zone : ℕ) → to < length found → get_or found zone false ≡ true → get_or (set found to true) zone false ≡ true
+still_found found to zone there is = elim (eqb_tells zone to) [
+  | inl same ↦ ap (λ z. get_or (set found to true) z false) same.1 ∙ get_or-set_same found to true false there
+  | inr other ↦ get_or-set_other found to zone true false other.1 ∙ is
+]
+
+pub found_more : (graph : Graph) (ways : List Way) (count : ℕ) (found : List Bool) (way : Way) → AreFound graph ways count found → HasArc graph way.arc
+    → start_of graph way.arc ≡ way.near → get_or found way.near false ≡ true → end_of graph way.arc ≡ way.far → way.far < 64 → get_or found way.far false ≡ false
+    → AreFound graph (set ways count way) (count + 1) (set found way.far true)
+found_more graph ways count found way are known start begun end within none = record {
+  flags = length-set found way.far true ∙ are.flags;
+  places = length-set ways count way ∙ are.places;
+  known = λ i less. at_new ways count way (λ w. HasArc graph w.arc) i room less known (are.known i);
+  ends = λ i less. at_new ways count way (λ w. arc_ends graph w.arc ≡ (w.near, w.far)) i room less (λ k. (start k, end k)) (are.ends i);
   reached = λ i less.
-      at_new arcs count arc (λ a. get_or (set found to true) (end_of graph a) false ≡ true) i room less
-      (ap (λ z. get_or (set found to true) z false) end ∙ get_or-set_same found to true false there) (λ old. still (end_of graph (get_or arcs i no_arc)) (are.reached i old));
+      at_new ways count way (λ w. get_or (set found way.far true) (end_of graph w.arc) false ≡ true) i room less
+      (ap (λ z. get_or (set found way.far true) z false) end ∙ get_or-set_same found way.far true false there) (λ old. still_found found way.far (end_of graph (arc_at ways i)) there (are.reached i old));
+  begun = λ i less.
+      at_new ways count way (λ w. get_or (set found way.far true) (start_of graph w.arc) false ≡ true) i room less
+      (still_found found way.far (start_of graph way.arc) there (ap (λ z. get_or found z false) start ∙ begun))
+      (λ old. still_found found way.far (start_of graph (arc_at ways i)) there (are.begun i old));
   apart = λ i j before less.
-      subst (λ (a : Arc). end_of graph a ≢ end_of graph (get_or (set arcs count arc) j no_arc)) (sym (get_or-set_other arcs count i arc no_arc (sooner i j before less)))
-      (at_new arcs count arc (λ a. end_of graph (get_or arcs i no_arc) ≢ end_of graph a) j room less
+      subst (λ (w : Way). end_of graph w.arc ≢ end_of graph (arc_at (set ways count way) j)) (sym (get_or-set_other ways count i way no_way (sooner i j before less)))
+      (at_new ways count way (λ w. end_of graph (arc_at ways i) ≢ end_of graph w.arc) j room less
       (λ same. true≢false (sym (are.reached i (omega (arith, before, less))) ∙ ap (λ z. get_or found z false) (same ∙ end) ∙ none))
       (λ old. are.apart i j before old));
-  free = (let free = are.free in omega (arith, spaces found to there none, free));
+  onward = λ i j before less.
+      subst (λ (w : Way). start_of graph w.arc ≢ end_of graph (arc_at (set ways count way) j)) (sym (get_or-set_other ways count i way no_way (sooner i j before less)))
+      (at_new ways count way (λ w. start_of graph (arc_at ways i) ≢ end_of graph w.arc) j room less
+      (λ same. true≢false (sym (are.begun i (omega (arith, before, less))) ∙ ap (λ z. get_or found z false) (same ∙ end) ∙ none))
+      (λ old. are.onward i j before old));
+  free = (let free = are.free in omega (arith, spaces found way.far there none, free));
 }
   where
-    there : to < length found
+    there : way.far < length found
     there = let flags = are.flags in omega (arith, within, flags)
 
-    room : count < length arcs
-    room = let places = are.places in omega (arith, place_free graph arcs count found to are within none, places)
+    room : count < length ways
+    room = let places = are.places in omega (arith, place_free graph ways count found way.far are within none, places)
 
     sooner : (i j : ℕ) → i < j → j < count + 1 → i ≢ count
     sooner i j before less same = omega (arith, before, less, same)
 
-    still : (zone : ℕ) → get_or found zone false ≡ true → get_or (set found to true) zone false ≡ true
-    still zone is = elim (eqb_tells zone to) [
-      | inl same ↦ ap (λ z. get_or (set found to true) z false) same.1 ∙ get_or-set_same found to true false there
-      | inr other ↦ get_or-set_other found to zone true false other.1 ∙ is
-    ]
-
 -- those that were found are ways
-pub all_found : (graph : Graph) (arcs : List Arc) (count : ℕ) (found : List Bool) → AreFound graph arcs count found → AreWays graph arcs count
-all_found graph arcs count found are = record {
+pub all_found : (graph : Graph) (ways : List Way) (count : ℕ) (found : List Bool) → AreFound graph ways count found → AreWays graph ways count
+all_found graph ways count found are = record {
   places = are.places;
   few = (let free = are.free in omega (arith, free));
   known = are.known;
+  ends = are.ends;
   apart = are.apart;
+  onward = are.onward;
 }
 
 -- before the first is added the zone alone is found that they lead from
-pub alone_found : (graph : Graph) (arcs : List Arc) (zone : ℕ) → length arcs ≡ 64 → zone < 64 → AreFound graph arcs 0 (set (replicate 64 false) zone true)
-alone_found graph arcs zone size within = record {
+pub alone_found : (graph : Graph) (ways : List Way) (zone : ℕ) → length ways ≡ 64 → zone < 64 → AreFound graph ways 0 (set (replicate 64 false) zone true)
+alone_found graph ways zone size within = record {
   flags = length-set (replicate 64 false) zone true;
   places = size;
   known = λ i less. absurd (omega (arith, less));
+  ends = λ i less. absurd (omega (arith, less));
   reached = λ i less. absurd (omega (arith, less));
+  begun = λ i less. absurd (omega (arith, less));
   apart = λ i j before less. absurd (omega (arith, less));
+  onward = λ i j before less. absurd (omega (arith, less));
   free = (let all : free_places (replicate 64 false) ≡ 64 = refl in
       let flags : length (replicate 64 false) ≡ 64 = refl in
       omega (arith, spaces (replicate 64 false) zone (omega (arith, within, flags)) (none-set 64 zone), all));
@@ -90,6 +106,6 @@ alone_found graph arcs zone size within = record {
     none-set (suc count) (suc k) = none-set count k
 
 -- the same of what a step left
-pub found_as : (graph : Graph) (ways other : Ways) (found new : List Bool) → ways ≡ other → found ≡ new → AreFound graph other.arcs other.count new → AreFound graph ways.arcs ways.count found
-found_as graph ways other found new same is are =
-    subst (λ (w : Ways). AreFound graph w.arcs w.count found) (sym same) (subst (AreFound graph other.arcs other.count) (sym is) are)
+pub found_as : (graph : Graph) (ways others : List Way) (count many : ℕ) (found new : List Bool) → ways ≡ others → count ≡ many → found ≡ new → AreFound graph others many new → AreFound graph ways count found
+found_as graph ways others count many found new same as_many is are =
+    subst (λ list. AreFound graph list count found) (sym same) (subst (λ n. AreFound graph others n found) (sym as_many) (subst (AreFound graph others many) (sym is) are))

@@ -1,11 +1,14 @@
 pub mod Bits
 mod Bringing
+mod Certificates
 mod Chosen
+mod Drafting
+mod Cutting
 mod Hours
 mod Leading
+mod Spreading
 mod Joining
 mod LineMakers
-mod LineTrees
 mod Lines
 mod Listed
 mod Made
@@ -14,6 +17,7 @@ mod NearViews
 mod Nearing
 mod Parts
 mod Reading
+mod Standing
 mod Sums
 mod Takers
 mod Walking

@@ -68,11 +68,11 @@ module _ (board : BoardState) (part : ℕ) (side : Side) where
       }
 
   -- at the end all is read
-  pub ends : (whole : WholeLine) (next : Option Shown) → IsBoard board → IsReading board part side next whole.orders.items whole.rows.items whole.shown whole.all → next ≡ None
-      → (whole.fits ≡ true → whole.all < 4294967295) → IsRead board part side whole
-  ends whole next is reading end fits =
+  pub ends : (whole : WholeLine) (all : ℕ) (next : Option Shown) → IsBoard board → IsReading board part side next whole.orders.items whole.rows.items whole.shown all → next ≡ None
+      → (whole.fits ≡ true → all < 4294967295) → IsRead board part side whole
+  ends whole all next is reading end fits =
       let none : from_shown orders next ≡ [] = ap (from_shown orders) end in
-      let sums : AreTogether whole.all 0 (all_shown orders) = subst (λ os. AreTogether whole.all (all_shown os) (all_shown orders)) none reading.sums in
+      let sums : AreTogether all 0 (all_shown orders) = subst (λ os. AreTogether all (all_shown os) (all_shown orders)) none reading.sums in
       record {
         is_board = is;
         orders = sym (append-nil whole.orders.items) ∙ ap (λ os. whole.orders.items ++ map in_line os) (sym none) ∙ reading.orders;

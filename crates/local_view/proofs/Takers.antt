@@ -15,7 +15,7 @@ use Rattle.cut_proof.specs.Carrying.{CanCarry, FitTogether}
 use Rattle.cut_proof.proofs.Carrying.{fit-kept, route_can_carry}
 use Rattle.route_choice.specs.Freshness.{IsFresh, is_known, directed_route, has_room}
 use Rattle.route_choice.specs.Poured.{AreRoomsAfter, lots_of, rooms_after}
-use Rattle.route_choice.proofs.Fresh.{known_is_reached, searched_arcs, searches_stay, stays_fresh}
+use Rattle.route_choice.proofs.Fresh.{known_is_reached, searched_arcs, stays_fresh}
 use Rattle.route_choice.proofs.Pours.{IsPoured, IsPourLeg, ended, leg_over_route, one_more, over_route, pour_leg-is}
 use Rattle.route_choice.specs.Tree.{Tree}
 use Rattle.local_view.specs.Nearness.{is_joined}
@@ -79,13 +79,6 @@ module _ (graph : Graph) (is : IsGraph graph) (rooms : List (ℕ × ℕ)) (size 
     pub fit_after : FitTogether graph (room_of after)
     fit_after = subst (FitTogether graph) (λ i. λ arc. sym (over_leg arc) i) (fit-kept graph (room_of rooms) leg fit is_leg.fits.has_room)
 
-    -- the routes of the taker's zone stay the same where each arc has room
-    routes-stay : list_all (has_room (room_of after)) route ≡ true → (o : ℕ) → best_between graph (room_of after) side zone o ≡ best_between graph (room_of rooms) side zone o
-    routes-stay all o =
-        sym (between graph (room_of after) side zone o)
-        ∙ (searches_stay graph (room_of rooms) (room_of after) zone other (same_side side Sell) route lots is all (between graph (room_of rooms) side zone other ∙ found) over).routes o
-        ∙ between graph (room_of rooms) side zone o
-
     own-stays : (tree : Tree) → list_all (has_room (room_of after)) route ≡ true → IsOwn graph (room_of rooms) side zone tree → IsOwn graph (room_of after) side zone tree
     own-stays tree all own = record {
       here = own.here;
@@ -96,31 +89,14 @@ module _ (graph : Graph) (is : IsGraph graph) (rooms : List (ℕ × ℕ)) (size 
           over;
     }
 
-    pub taker-stays : (start : Arc → ℕ) (own : Option Tree) → list_all (has_room (room_of after)) route ≡ true
-        → IsTaker graph start (room_of rooms) (record { side = side; zone = zone; own = own }) → IsTaker graph start (room_of after) (record { side = side; zone = zone; own = own })
-    taker-stays start own all t = record {
-      there = t.there;
-      first = λ e o. routes-stay all o ∙ t.first e o;
-      own = λ tree e. own-stays tree all (t.own tree e);
-    }
+    pub taker-stays : (own : Tree) → list_all (has_room (room_of after)) route ≡ true
+        → IsTaker graph (room_of rooms) (record { side = side; zone = zone; own = own }) → IsTaker graph (room_of after) (record { side = side; zone = zone; own = own })
+    taker-stays own all t = record { there = t.there; own = own-stays own all t.own }
 
--- a taker whose own tree was made just now
-pub taker-anew : (graph : Graph) (start room : Arc → ℕ) (side : Side) (zone : ℕ) (tree : Tree) → HasZone graph zone → IsFresh graph room tree → tree.zone ≡ zone
-    → tree.towards ≡ same_side side Sell → IsTaker graph start room (record { side = side; zone = zone; own = Some tree })
-taker-anew graph start room side zone tree there told here towards = record {
-  there = there;
-  first = λ e. absurd (cc);
-  own = λ other e. subst (IsOwn graph room side zone) (let same : tree ≡ other = cc in same) (record { here = here; towards = towards; told = told });
-}
-
--- and one that has taken nothing yet
-pub taker-first : (graph : Graph) (start room : Arc → ℕ) (side : Side) (zone : ℕ) → HasZone graph zone → room ≡ start
-    → IsTaker graph start room (record { side = side; zone = zone; own = None })
-taker-first graph start room side zone there same = record {
-  there = there;
-  first = λ e o. ap (λ (r : Arc → ℕ). best_between graph r side zone o) same;
-  own = λ tree e. absurd (cc);
-}
+-- a taker whose tree was made just now
+pub taker-anew : (graph : Graph) (room : Arc → ℕ) (side : Side) (zone : ℕ) (tree : Tree) → HasZone graph zone → IsFresh graph room tree → tree.zone ≡ zone
+    → tree.towards ≡ same_side side Sell → IsTaker graph room (record { side = side; zone = zone; own = tree })
+taker-anew graph room side zone tree there told here towards = record { there = there; own = record { here = here; towards = towards; told = told } }
 
 -- ---- the whole pour
 

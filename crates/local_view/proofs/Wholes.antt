@@ -1,9 +1,8 @@
 -- The law of the whole line: where all that its orders show can come to a zone together, the view of the
 -- zone takes all of each.
-use Rattle.std.proofs.Common.{◌≡◌, ◌∙◌, inl, inr, ℕ, zero, suc, ◌+◌, ◌-◌, ◌≤◌, true, List, [], ◌∷◌, filter, fold, get_or, map, min, sum_by, None, refl, sym, ap, subst, arith}
+use Rattle.std.proofs.Common.{◌≡◌, ◌∙◌, inl, inr, ℕ, ◌+◌, ◌-◌, ◌≤◌, true, List, [], ◌∷◌, filter, fold, get_or, map, min, sum_by, None, refl, sym, ap, subst, arith}
 use Rattle.std.proofs.lemmas.List.Sums.{sum_by-cons}
 use Rattle.std.proofs.lemmas.Simd.{map-map}
-use Rattle.order_kinds.specs.declared.order.OrderName.{OrderName}
 use Rattle.order_kinds.specs.declared.price.Price.{Price}
 use Rattle.order_kinds.specs.declared.side.Side.{Side}
 use Rattle.order_kinds.specs.declared.side.Side.TheVariants.{Buy, Sell}
@@ -40,14 +39,12 @@ use Rattle.local_view.specs.Boards.{AreRoomsOf, view_of}
 use Rattle.local_view.specs.Poured.{legs_with, row_if, rows_taken, sent_from, sent_to}
 use Rattle.local_view.specs.Ways.{ComeTogether, PassesOn}
 use Rattle.local_view.specs.Whole.{IsRead, WholeLinesAreViews, all_shown, in_line, rows_shown, shown_in}
+use Rattle.local_view.proofs.Certificates.{lots_in, nobody, row-lots}
 use Rattle.local_view.proofs.Hours.{hour-graph, line-cross, line-once, line-zones, room-like, rooms_like, view-walked}
 use Rattle.local_view.proofs.Lines.{rests-all}
 use Rattle.local_view.proofs.Walking.{as_order, walked, walked-trades}
 
 -- ---- rows
-
-abbrev lots_in : List ViewRow → ℕ
-lots_in rows = sum_by (λ (row : ViewRow). row.lots) rows
 
 -- what makers have left
 abbrev all_left : List Maker → ℕ
@@ -61,10 +58,6 @@ rows_left (maker ∷ makers) = row_if maker.price maker.left (rows_left makers)
 left-shown : (orders : List Standing) → rows_left (map maker_of orders) ≡ rows_shown orders
 left-shown [] = refl
 left-shown (order ∷ orders) = ap (row_if order.price order.shown) (left-shown orders)
-
-row-lots : (price : Price) (lots : ℕ) (rows : List ViewRow) → lots_in (row_if price lots rows) ≡ lots + lots_in rows
-row-lots price zero rows = omega arith
-row-lots price (suc more) rows = sum_by-cons (λ (row : ViewRow). row.lots) (record { price = price; lots = suc more }) rows
 
 -- of rows that have all together, the first has all of its own
 first-all : (price : Price) (lots own : ℕ) (rows : List ViewRow) (others all : ℕ) → lots ≤ own → lots_in rows ≤ others → all ≡ own + others → all ≤ lots_in (row_if price lots rows)
@@ -103,9 +96,6 @@ module _ (graph : Graph) (is : IsGraph graph) (side : Side) (zone : ℕ) where
       ap (λ n. row_if maker.price n (walked graph side zone after less makers)) parts.0 ∙ ap (row_if maker.price maker.left) (walked-whole makers after less parts.1)
 
   -- ---- a plan in which all give all
-
-  nobody : OrderName
-  nobody = record { hour = 0; number = 0 }
 
   makers-shown : (zones : List ℕ) (orders : List Standing) → makers_shown zones (map maker_of orders) ≡ all_shown (filter (λ (o : Standing). has o.order.zone zones) orders)
   makers-shown zones orders = omega (arith, sum-map (λ (m : Maker). lots_if (has m.zone zones) m.left) maker_of orders, sum_passing (λ (o : Standing). has o.order.zone zones) (λ (o : Standing). o.shown) orders)

@@ -1,5 +1,8 @@
 -- What the contracts of this crate cite.
 pub mod Boards
+pub mod Certified
+pub mod Cuts
+pub mod Drafts
 pub mod Insides
 pub mod Kept
 pub mod Nearness
@@ -7,7 +10,6 @@ pub mod Poured
 pub mod Rows
 pub mod Sums
 pub mod Takers
-pub mod Trees
 pub mod Ways
 pub mod Whole
 pub mod Works

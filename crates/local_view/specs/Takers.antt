@@ -1,5 +1,5 @@
 -- What a taker of a view knows of the rooms as it goes along the line.
-use Rattle.std.specs.Prelude.{◌≡◌, ℕ, List, length, Option, None, Some}
+use Rattle.std.specs.Prelude.{◌≡◌, ℕ, List, length, Option}
 use Rattle.order_kinds.specs.declared.side.Side.{Side}
 use Rattle.order_kinds.specs.declared.side.Side.TheVariants.{Sell}
 use Rattle.order_kinds.specs.Same.{same_side}
@@ -13,7 +13,6 @@ use Rattle.route_choice.specs.Tree.{Tree}
 use Rattle.local_view.specs.declared.taker.Taker.{Taker}
 use Rattle.local_view.specs.declared.walk.Walk.{Walk}
 use Rattle.local_view.specs.Poured.{sent_from, sent_to}
-use Rattle.local_view.specs.Trees.{AreTrees}
 
 -- the best route between a taker in a zone and an order of a side in another zone
 abbrev pub best_between : Graph → (Arc → ℕ) → Side → (zone other : ℕ) → Option (List Arc)
@@ -25,24 +24,19 @@ pub record IsOwn (graph : Graph) (room : Arc → ℕ) (side : Side) (zone : ℕ)
   pub towards : tree.towards ≡ same_side side Sell
   pub told : IsFresh graph room tree
 
--- as long as no arc was used up the taker's routes are those over the first rooms; after that its own
--- tree tells them
-pub record IsTaker (graph : Graph) (start room : Arc → ℕ) (taker : Taker) : Type 0 where
+-- a taker's tree tells the routes of its zone
+pub record IsTaker (graph : Graph) (room : Arc → ℕ) (taker : Taker) : Type 0 where
   pub there : HasZone graph taker.zone
-  pub first : taker.own ≡ None → (other : ℕ) → best_between graph room taker.side taker.zone other ≡ best_between graph start taker.side taker.zone other
-  pub own : (tree : Tree) → taker.own ≡ Some tree → IsOwn graph room taker.side taker.zone tree
+  pub own : IsOwn graph room taker.side taker.zone taker.own
 
--- what a list works with, in its course: the rooms that are left, the line's trees over the first rooms,
--- and what the taker knows
-pub record IsWalking (graph : Graph) (start : Arc → ℕ) (taker : Taker) (walk : Walk) : Type 0 where
+-- what a list works with, in its course: the rooms that are left, and what the taker knows
+pub record IsWalking (graph : Graph) (taker : Taker) (walk : Walk) : Type 0 where
   pub size : length walk.rooms ≡ border_count graph
   pub fit : FitTogether graph (room_of walk.rooms)
-  pub trees : AreTrees graph start taker.side walk.trees
   pub places : length walk.route ≡ 64
-  pub knows : IsTaker graph start (room_of walk.rooms) taker
+  pub knows : IsTaker graph (room_of walk.rooms) taker
 
 -- what a list can begin with
-pub record IsReady (graph : Graph) (start : Arc → ℕ) (side : Side) (walk : Walk) : Type 0 where
+pub record IsReady (graph : Graph) (walk : Walk) : Type 0 where
   pub size : length walk.rooms ≡ border_count graph
-  pub trees : AreTrees graph start side walk.trees
   pub places : length walk.route ≡ 64

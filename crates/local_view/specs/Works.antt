@@ -7,27 +7,25 @@ use Rattle.market_model.specs.Board.{BoardState}
 use Rattle.zone_graph.specs.Rooms.{room_of}
 use Rattle.local_view.specs.Boards.{AreRoomsOf, view_of}
 use Rattle.local_view.specs.Rows.{LineRows}
-use Rattle.zone_graph.specs.Graph.{Graph, HasZone, border_count, zone_count}
+use Rattle.zone_graph.specs.Graph.{Graph, HasZone, border_count}
 use Rattle.local_view.specs.declared.walk.Walk.{Walk}
 use Rattle.local_view.specs.declared.work.Work.{Work}
-use Rattle.local_view.specs.Takers.{IsReady}
+use Rattle.local_view.specs.Cuts.{AreWide}
 use Rattle.local_view.specs.Whole.{IsRead}
 
--- lists work with rooms of so many borders, and trees of so many zones
-pub record IsWalk (borders zones : ℕ) (walk : Walk) : Type 0 where
+-- lists work with rooms of so many borders
+pub record IsWalk (borders : ℕ) (walk : Walk) : Type 0 where
   pub rooms : length walk.rooms ≡ borders
-  pub trees : length walk.trees.trees ≡ zones
   pub places : length walk.route ≡ 64
 
--- the rooms and trees are as many as is said
+-- the rooms are as many as is said
 pub record IsSound (work : Work) : Type 0 where
   pub of_part : length work.of_part ≡ work.borders
-  pub walk : IsWalk work.borders work.zones work.walk
+  pub walk : IsWalk work.borders work.walk
 
 -- they are those of a grid
 pub record IsWork (graph : Graph) (work : Work) : Type 0 where
   pub borders : work.borders ≡ border_count graph
-  pub zones : work.zones ≡ zone_count graph
   pub sound : IsSound work
 
 -- they are there
@@ -35,12 +33,19 @@ abbrev pub IsThere : Graph → Option Work → Type 0
 IsThere graph None = ⊥
 IsThere graph (Some work) = IsWork graph work
 
+-- a line of a board, and rooms
+pub record BoardLine : Type 0 where
+  pub board : BoardState
+  pub part : ℕ
+  pub side : Side
+  pub rooms : List (ℕ × ℕ)
+
 -- they are ready for the lists of a line of a board: the rooms are those of the part, and the line is read
 pub record IsLineWork (board : BoardState) (part : ℕ) (side : Side) (work : Work) : Type 0 where
   pub hand : board.hand ≡ None
   pub sized : IsWork board.grid work
   pub rooms : AreRoomsOf board part work.of_part
-  pub walk : IsReady board.grid (room_of work.of_part) side work.walk
+  pub wide : AreWide board.grid (room_of work.of_part) side work.wide
   pub read : IsRead board part side work.whole
 
 -- the rows of a zone, where they are computed or kept

@@ -2,18 +2,19 @@
 //! orders, for each part, side and zone, kept and refreshed near a change.
 #![tactic(auto)]
 
+mod cuts;
+mod draft;
 mod filling;
 mod laws;
 mod listing;
 mod nearness;
 mod part_views;
 mod taker;
-mod trees;
 mod views;
 mod walk;
 mod ways;
 mod whole;
 mod work;
 
-pub use laws::whole_lines_are_views;
+pub use laws::{certified_rows_are_views, whole_lines_are_views};
 pub use views::LocalViews;

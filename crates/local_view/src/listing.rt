@@ -43,20 +43,16 @@ pub(crate) fn list_rows(
     requires size { length of_part.now ≡ border_count grid.now }
     requires fit { FitTogether grid.now (room_of of_part.now) }
     requires zone { HasZone grid.now zone }
-    requires walk { IsReady grid.now (room_of of_part.now) side walk.old }
+    requires walk { IsReady grid.now walk.old }
     ensures rows { OnOk result (rows.new.items ≡ rows_taken grid.now side zone (room_of of_part.now) 4294967295 orders.now) }
-    ensures walk { IsReady grid.now (room_of of_part.now) side walk.new }
+    ensures walk { IsReady grid.now walk.new }
 {
     rows.clear();
     walk.rooms.copy_from(of_part);
-    let mut taker = Taker {
-        side,
-        zone,
-        own: None,
-    };
+    let mut taker = Taker::over(grid, of_part, side, zone);
     let mut left = u32::MAX;
     for order in orders {
-        let lots = taker.take(grid, of_part, walk, order.zone, left.min(order.lots));
+        let lots = taker.take(grid, walk, order.zone, left.min(order.lots));
         add_row(rows, order.price, lots)?;
         left -= lots;
     }

@@ -9,6 +9,7 @@ ghost use Rattle.local_view.specs.Kept.{AreNext, IsSized, adopted, empty_part, e
 ghost use Rattle.local_view.specs.Rows.{HaveLists, chosen_at, of_zones};
 ghost use Rattle.local_view.specs.Works.{HasMade, IsSound};
 
+use crate::draft::Flow;
 use crate::filling::{clear_lists, fill_lists, is_set};
 use crate::listing::Line;
 use crate::work::Work;
@@ -26,6 +27,8 @@ pub(crate) struct LineViews {
     zones: u32,
     kept: Vec<Rows>,
     next: Vec<Rows>,
+    // What flowed to each zone when its rows were computed last, where that was noted.
+    flows: Vec<Flow>,
     computed: u64,
     is_next: bool,
 }
@@ -49,6 +52,7 @@ impl LineViews {
             zones,
             kept: Vec::new(alloc),
             next: Vec::new(alloc),
+            flows: Vec::new(alloc),
             computed: 0,
             is_next: false,
         }
@@ -118,7 +122,16 @@ impl LineViews {
         }
         make_lists(alloc, self.zones, &mut self.kept, &mut self.next)?;
         let lists = self.next.as_mut_slice();
-        fill_lists(alloc, board, grid, work, line, computed, lists)?;
+        fill_lists(
+            alloc,
+            board,
+            grid,
+            work,
+            line,
+            computed,
+            lists,
+            &mut self.flows,
+        )?;
         self.computed = computed;
         self.is_next = true;
         Ok(())

@@ -10,7 +10,6 @@ ghost use Rattle.zone_graph.specs.Rooms.{room_of};
 ghost use Rattle.zone_graph.specs.Route.{IsIn};
 ghost use Rattle.zone_graph.specs.declared.route.Arc.{Arc as AnArc};
 ghost use Rattle.route_choice.specs.Freshness.{has_room};
-ghost use Rattle.route_choice.specs.Tree.{told_route};
 ghost use Rattle.route_choice.specs.Poured.{AreRoomsAfter, lots_of};
 ghost use Rattle.local_view.specs.Poured.{CarriesNext, leg_with, legs_with};
 ghost use Rattle.local_view.specs.Takers.{IsTaker, IsWalking, best_between};
@@ -28,34 +27,40 @@ pub(crate) struct Taker {
     pub(crate) side: Side,
     /// The taker's zone.
     pub(crate) zone: u32,
-    /// The routes of its zone over the rooms that are left, where it used up an arc. As long as it did
-    /// not, they are those over the rooms of the part.
-    pub(crate) own: Option<RouteTree>,
+    /// The routes of its zone over the rooms that are left.
+    pub(crate) own: RouteTree,
 }
 
 impl Taker {
+    /// A taker in a zone, over these rooms.
+    pub(crate) fn over(grid: &Grid, rooms: &Rooms, side: Side, zone: u32) -> Taker
+        requires zone { HasZone grid.now zone }
+        requires size { length rooms.now ≡ border_count grid.now }
+        ensures side { result.side ≡ side }
+        ensures zone { result.zone ≡ zone }
+        ensures knows { IsTaker grid.now (room_of rooms.now) result }
+    {
+        Taker {
+            side,
+            zone,
+            own: RouteTree::new(grid, rooms, zone, is_sell(side)),
+        }
+    }
+
     /// Takes what it can, and no more than so many lots, of an order in another zone, over one best
     /// route after the other, and answers how many lots that is. The rooms are lowered by it.
-    pub(crate) fn take(
-        &mut self,
-        grid: &Grid,
-        of_part: &Rooms,
-        walk: &mut Walk,
-        other: u32,
-        most: u32,
-    ) -> u32
+    pub(crate) fn take(&mut self, grid: &Grid, walk: &mut Walk, other: u32, most: u32) -> u32
         requires other { HasZone grid.now other }
-        requires size { length of_part.now ≡ border_count grid.now }
-        requires walking { IsWalking grid.now (room_of of_part.now) self.old walk.old }
+        requires walking { IsWalking grid.now self.old walk.old }
         ensures lots { result ≡ lots_of (legs_with grid.now (room_of walk.old.rooms) self.old.side self.old.zone other most) }
         ensures most { result ≤ most }
         ensures rooms { AreRoomsAfter (room_of walk.old.rooms) (room_of walk.new.rooms) (legs_with grid.now (room_of walk.old.rooms) self.old.side self.old.zone other most) }
-        ensures walking { IsWalking grid.now (room_of of_part.now) self.new walk.new }
+        ensures walking { IsWalking grid.now self.new walk.new }
         ensures side { self.new.side ≡ self.old.side }
         ensures zone { self.new.zone ≡ self.old.zone }
     {
         let mut left = most;
-        while let Some(lots) = self.take_next(grid, of_part, walk, other, left) {
+        while let Some(lots) = self.take_next(grid, walk, other, left) {
             left -= lots;
         }
         most - left
@@ -63,19 +68,11 @@ impl Taker {
 
     // Takes over the next best route what it carries of so many lots. `None` exactly where none are
     // left or no route has room.
-    fn take_next(
-        &mut self,
-        grid: &Grid,
-        of_part: &Rooms,
-        walk: &mut Walk,
-        other: u32,
-        left: u32,
-    ) -> Option<u32>
+    fn take_next(&mut self, grid: &Grid, walk: &mut Walk, other: u32, left: u32) -> Option<u32>
         requires other { HasZone grid.now other }
-        requires size { length of_part.now ≡ border_count grid.now }
-        requires walking { IsWalking grid.now (room_of of_part.now) self.old walk.old }
+        requires walking { IsWalking grid.now self.old walk.old }
         ensures next { CarriesNext (room_of walk.old.rooms) (room_of walk.new.rooms) (leg_with grid.now (room_of walk.old.rooms) self.old.side self.old.zone other left) result }
-        ensures walking { IsWalking grid.now (room_of of_part.now) self.new walk.new }
+        ensures walking { IsWalking grid.now self.new walk.new }
         ensures side { self.new.side ≡ self.old.side }
         ensures zone { self.new.zone ≡ self.old.zone }
         ensures grid { IsGrid grid.now }
@@ -85,7 +82,7 @@ impl Taker {
         if left == 0 {
             return None;
         }
-        let Some(count) = self.route_to(grid, of_part, walk, other) else {
+        let Some(count) = self.route_to(grid, walk, other) else {
             return None;
         };
         let route = &walk.route[..count];
@@ -97,6 +94,24 @@ impl Taker {
         Some(lots)
     }
 
+    // Finds the best route between the taker and an order in another zone: how many arcs it has, which are
+    // then in the first places. `None` exactly where there is none.
+    fn route_to(&self, grid: &Grid, walk: &mut Walk, other: u32) -> Option<usize>
+        requires other { HasZone grid.now other }
+        requires walking { IsWalking grid.now self.now walk.old }
+        ensures some { IfSome result (λ count. best_between grid.now (room_of walk.old.rooms) self.now.side self.now.zone other ≡ Some (take count walk.new.route)) }
+        ensures none { IfNone result (best_between grid.now (room_of walk.old.rooms) self.now.side self.now.zone other ≡ None) }
+        ensures short { IfSome result (λ count. count ≤ 64) }
+        ensures rooms { walk.new.rooms ≡ walk.old.rooms }
+        ensures walking { IsWalking grid.now self.now walk.new }
+    {
+        if self.own.reaches(other) {
+            Some(self.own.route_into(other, &mut walk.route))
+        } else {
+            None
+        }
+    }
+
     // Searches the routes of the taker's own zone. It is no part of the code around its calls, where the
     // tree's places would be cleared for every leg.
     #[inline(never)]
@@ -105,47 +120,9 @@ impl Taker {
         requires size { length rooms.now ≡ border_count grid.now }
         ensures side { self.new.side ≡ self.old.side }
         ensures zone { self.new.zone ≡ self.old.zone }
-        ensures own { (start : AnArc → ℕ) → IsTaker grid.now start (room_of rooms.now) self.new }
+        ensures knows { IsTaker grid.now (room_of rooms.now) self.new }
     {
-        self.own = Some(RouteTree::new(grid, rooms, self.zone, is_sell(self.side)));
-    }
-
-    // Finds the best route between the taker and an order in another zone: how many arcs it has, which are
-    // then in the first places. `None` exactly where there is none.
-    fn route_to(&self, grid: &Grid, of_part: &Rooms, walk: &mut Walk, other: u32) -> Option<usize>
-        requires other { HasZone grid.now other }
-        requires size { length of_part.now ≡ border_count grid.now }
-        requires walking { IsWalking grid.now (room_of of_part.now) self.now walk.old }
-        ensures some { IfSome result (λ count. best_between grid.now (room_of walk.old.rooms) self.now.side self.now.zone other ≡ Some (take count walk.new.route)) }
-        ensures none { IfNone result (best_between grid.now (room_of walk.old.rooms) self.now.side self.now.zone other ≡ None) }
-        ensures short { IfSome result (λ count. count ≤ 64) }
-        ensures rooms { walk.new.rooms ≡ walk.old.rooms }
-        ensures walking { IsWalking grid.now (room_of of_part.now) self.now walk.new }
-    {
-        match &self.own {
-            None => {
-                walk.trees.make(grid, of_part, self.side, other);
-                let tree = walk.trees.of(other);
-                read(tree, self.zone, &mut walk.route)
-            }
-            Some(tree) => read(tree, other, &mut walk.route),
-        }
-    }
-}
-
-// Reads the route of a zone off a tree, if there is one: how many arcs it has, which are then in the first
-// places.
-fn read(tree: &RouteTree, zone: u32, route: &mut [Arc]) -> Option<usize>
-    requires { length route.old ≡ 64 }
-    ensures some { IfSome result (λ count. told_route tree.now zone ≡ Some (take count route.new)) }
-    ensures none { IfNone result (told_route tree.now zone ≡ None) }
-    ensures short { IfSome result (λ count. count ≤ 64) }
-    ensures places { length route.new ≡ 64 }
-{
-    if tree.reaches(zone) {
-        Some(tree.route_into(zone, route))
-    } else {
-        None
+        self.own = RouteTree::new(grid, rooms, self.zone, is_sell(self.side));
     }
 }
 

@@ -1,21 +1,17 @@
 //! What the lists of a line work with.
 
 ghost use Rattle.std.specs.Prelude.{IfOk};
-ghost use Rattle.zone_graph.specs.Graph.{border_count, zone_count};
+ghost use Rattle.zone_graph.specs.Graph.{border_count};
 ghost use Rattle.local_view.specs.Works.{IsWalk};
 
-use crate::trees::LineTrees;
 use crate::ways::NO_ARC;
-use std::alloc::Global;
 use zone_graph::{Arc, Grid, MOST_ZONES, NoMemory, Rooms};
 
 /// What the lists of a line work with, kept from list to list.
 #[derive(Drop)]
 pub(crate) struct Walk {
-    /// The rooms that a list lowers.
+    /// The rooms that a list leaves.
     pub(crate) rooms: Rooms,
-    /// The routes of the orders' zones over the rooms of the part.
-    pub(crate) trees: LineTrees,
     /// The arcs of the route that was taken last, in the first places.
     pub(crate) route: [Arc; MOST_ZONES],
 }
@@ -26,14 +22,11 @@ impl Walk {
     /// # Errors
     ///
     /// [`NoMemory`] where memory runs out.
-    pub(crate) fn over(alloc: Global, grid: &Grid) -> Result<Walk, NoMemory>
-        ensures { IfOk result (λ walk. IsWalk (border_count grid.now) (zone_count grid.now) walk) }
+    pub(crate) fn over(grid: &Grid) -> Result<Walk, NoMemory>
+        ensures { IfOk result (λ walk. IsWalk (border_count grid.now) walk) }
     {
-        let rooms = Rooms::new(grid)?;
-        let trees = LineTrees::new(alloc, grid, &rooms)?;
         Ok(Walk {
-            rooms,
-            trees,
+            rooms: Rooms::new(grid)?,
             route: [NO_ARC; MOST_ZONES],
         })
     }

@@ -1,19 +1,17 @@
 //! A line as its views see it: its orders, read once, and whether all of them can come to a zone.
 
-ghost use Rattle.std.specs.Prelude.{◌≡◌, ◌<◌, None, IsTrue, OnOk, length, true};
+ghost use Rattle.std.specs.Prelude.{◌≡◌, ◌<◌, ℕ, None, OnOk, length, true};
+ghost use Rattle.cut_proof.specs.ZoneSet.{holds};
 ghost use Rattle.zone_graph.specs.Graph.{HasZone, border_count};
 ghost use Rattle.zone_graph.specs.Rooms.{room_of};
 ghost use Rattle.local_view.specs.Ways.{ComeTogether};
 ghost use Rattle.local_view.specs.Whole.{IsRead};
 
 use crate::listing::{Line, add_row};
-use crate::ways::{Ways, room_for};
+use crate::ways::whole_zones;
 use market_model::{Board, NoMemory, Price, Side, ViewRow};
 use std::alloc::Global;
 use zone_graph::{Grid, MOST_ZONES, Rooms};
-
-// How many rows make the test worth its while: a walk along fewer costs less than the test.
-const WORTH_TESTING: usize = 16;
 
 /// An order of a line, as its views see it.
 #[derive(Clone, Copy)]
@@ -35,8 +33,6 @@ pub(crate) struct WholeLine {
     pub(crate) rows: Vec<ViewRow>,
     /// The lots that the orders of each zone show together.
     pub(crate) shown: [u32; MOST_ZONES],
-    /// The lots that all orders show together.
-    pub(crate) all: u32,
     /// Whether all these lots are less than a view asks for. Where it is so, the sums are told.
     pub(crate) fits: bool,
 }
@@ -48,7 +44,6 @@ impl WholeLine {
             orders: Vec::new(alloc),
             rows: Vec::new(alloc),
             shown: [0; MOST_ZONES],
-            all: 0,
             fits: false,
         }
     }
@@ -88,36 +83,20 @@ impl WholeLine {
             add_row(&mut self.rows, order.price, order.lots)?;
             next = board.after(order.number);
         }
-        self.all = all;
         self.fits = all < u32::MAX;
         Ok(())
     }
 
-    /// Whether all that the line shows comes to a zone together, over ways that the rooms are wide enough for. It is not
-    /// told of a line of few orders.
-    pub(crate) fn comes_to(&self, grid: &Grid, rooms: &Rooms, side: Side, zone: u32) -> bool
-        requires zone { HasZone grid.now zone }
-        requires size { length rooms.now ≡ border_count grid.now }
-        ensures fits { IsTrue result → self.now.fits ≡ true }
-        ensures together { IsTrue result → ComeTogether grid.now (room_of rooms.now) side zone self.now.shown }
+    /// The zones to which all that the line shows comes together, as far as one tree of ways tells. Bit z stands for zone z.
+    pub(crate) fn comes_to(&self, grid: &Grid, rooms: &Rooms, side: Side) -> u64
+        requires { length rooms.now ≡ border_count grid.now }
+        ensures fits { (zone : ℕ) → HasZone grid.now zone → holds result zone ≡ true → self.now.fits ≡ true }
+        ensures together { (zone : ℕ) → HasZone grid.now zone → holds result zone ≡ true → ComeTogether grid.now (room_of rooms.now) side zone self.now.shown }
     {
-        self.fits
-            && self.rows.len() >= WORTH_TESTING
-            && self.may_come_to(grid, rooms, side, zone)
-            && Ways::from_zone(grid, zone).bring_all(grid, rooms, side, zone, &self.shown)
-    }
-
-    // Whether the arcs around a zone have room enough for what other zones show. Where they do not, no ways do.
-    fn may_come_to(&self, grid: &Grid, rooms: &Rooms, side: Side, zone: u32) -> bool
-        requires zone { HasZone grid.now zone }
-        requires size { length rooms.now ≡ border_count grid.now }
-    {
-        let zones = grid.zones();
-        prove!(zone < zones);
-        let mut left = self.all.saturating_sub(self.shown[zone as usize]);
-        for neighbour in grid.neighbours(zone) {
-            left = left.saturating_sub(room_for(rooms, side, neighbour.arc));
+        if self.fits {
+            whole_zones(grid, rooms, side, &self.shown)
+        } else {
+            0
         }
-        left == 0
     }
 }

@@ -6,21 +6,21 @@ ghost use Rattle.local_view.specs.Works.{IsSound, IsThere, IsWork};
 use crate::walk::Walk;
 use crate::whole::WholeLine;
 use std::alloc::Global;
-use zone_graph::{Grid, NoMemory, Rooms};
+use zone_graph::{Grid, MOST_ZONES, NoMemory, Rooms};
 
 /// Rooms that a refresh works on, and what its lists work with.
 #[derive(Drop)]
 pub(crate) struct Work {
     /// How many borders the rooms have.
     pub(crate) borders: u32,
-    /// How many zones have trees of routes.
-    pub(crate) zones: u32,
     /// The rooms of the part.
     pub(crate) of_part: Rooms,
     /// What the lists work with.
     pub(crate) walk: Walk,
     /// The line whose lists are made.
     pub(crate) whole: WholeLine,
+    /// For each zone the room over which lots of the line's side can leave it.
+    pub(crate) wide: [u32; MOST_ZONES],
 }
 
 impl Work {
@@ -30,15 +30,15 @@ impl Work {
     {
         Ok(Work {
             borders: grid.borders(),
-            zones: grid.zones(),
             of_part: Rooms::new(grid)?,
-            walk: Walk::over(alloc, grid)?,
+            walk: Walk::over(grid)?,
             whole: WholeLine::new(alloc),
+            wide: [0; MOST_ZONES],
         })
     }
 }
 
-/// Makes what a refresh over a grid works with, where what is kept has not as many borders and zones, or
+/// Makes what a refresh over a grid works with, where what is kept has not as many borders, or
 /// nothing is kept.
 ///
 /// # Errors
@@ -50,7 +50,7 @@ pub(crate) fn make_work(alloc: Global, grid: &Grid, kept: &mut Option<Work>) -> 
     ensures sound { IfSome kept.new IsSound }
 {
     if let Some(work) = kept {
-        if work.borders == grid.borders() && work.zones == grid.zones() {
+        if work.borders == grid.borders() {
             return Ok(());
         }
     }

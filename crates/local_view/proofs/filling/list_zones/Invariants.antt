@@ -13,5 +13,5 @@ invariant-loop-zone g l = record {
 }
 
 -- of the same board
-abbrev pub ghost-fill_list : goal.ghost-fill_list
-ghost-fill_list g a = g.board
+abbrev pub ghost-make_list : goal.ghost-make_list
+ghost-make_list g a = g.board

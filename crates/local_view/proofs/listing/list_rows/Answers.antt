@@ -1,4 +1,4 @@
-use Rattle.std.proofs.Common.{◌∙◌, ◌++◌, ℕ, List, ap, get_or, length, pos, refl, subst, sym}
+use Rattle.std.proofs.Common.{◌∙◌, ◌++◌, ℕ, List, ap, get_or, length, pos, subst, sym}
 use Rattle.std.proofs.lemmas.List.{drop_more}
 use Rattle.zone_graph.specs.Rooms.{room_of}
 use Rattle.zone_graph.proofs.Places.{at_place}
@@ -6,7 +6,7 @@ use Rattle.cut_proof.specs.Carrying.{FitTogether}
 use Rattle.local_view.specs.Poured.{legs_with, rows_taken}
 use Rattle.local_view.specs.declared.whole.LineOrder.{LineOrder}
 use Rattle.local_view.proofs.Listed.{all-listed, one-order}
-use Rattle.local_view.proofs.Takers.{taker-first}
+use Rattle.local_view.specs.Takers.{IsTaker}
 use Rattle.local_view.proofs.listing.list_rows.Goals as goal
 
 abbrev no_order : LineOrder
@@ -17,12 +17,11 @@ loop-order-init c = record {
   walking = record {
     size = ap length c.copy_from.ensures ∙ c.requires.size;
     fit = subst (λ (rooms : List (ℕ × ℕ)). FitTogether c.args.grid.now (room_of rooms)) (sym c.copy_from.ensures) c.requires.fit;
-    trees = c.requires.walk.trees;
     places = c.requires.walk.places;
-    knows = taker-first c.args.grid.now (room_of c.args.of_part.now) (room_of c.copy_from.new.self) c.args.side c.args.zone c.requires.zone (ap room_of c.copy_from.ensures);
+    knows = subst (λ (rooms : List (ℕ × ℕ)). IsTaker c.args.grid.now (room_of rooms) c.over-taker.result) (sym c.copy_from.ensures) c.over-taker.ensures.knows;
   };
-  side = refl;
-  zone = refl;
+  side = c.over-taker.ensures.side;
+  zone = c.over-taker.ensures.zone;
   listed = ap (λ rows. rows ++ rows_taken c.args.grid.now c.args.side c.args.zone (room_of c.copy_from.new.self) 4294967295 c.args.orders.now) c.clear.ensures.items
       ∙ ap (λ rooms. rows_taken c.args.grid.now c.args.side c.args.zone (room_of rooms) 4294967295 c.args.orders.now) c.copy_from.ensures;
 }

@@ -1,8 +1,6 @@
 use Rattle.std.proofs.Common.{◌≡◌, ◌∙◌, ℕ, List, Some, take, refl, subst, sym, arith}
-use Rattle.order_kinds.specs.declared.side.Side.{Side}
 use Rattle.zone_graph.specs.Rooms.{room_of}
 use Rattle.local_view.specs.Takers.{best_between}
-use Rattle.local_view.specs.Trees.{AreTrees}
 use Rattle.local_view.proofs.Takers.{arcs_known, can_carry, fit_after, taker-stays}
 use Rattle.local_view.proofs.taker.Taker.take_next.Goals as goal
 
@@ -35,9 +33,8 @@ returns-then-not-have_room-clause-walking c = record {
       (take c.in-Some.count c.route_to.new.walk.route)
       (subst (λ (rooms : List (ℕ × ℕ)). best_between c.args.grid.now (room_of rooms) c.args.self.now.side c.args.self.now.zone c.args.other ≡ Some (take c.in-Some.count c.route_to.new.walk.route)) (sym c.route_to.ensures.rooms) c.in-Some.ensures.some)
       c.carry.new.rooms c.carried-lots.result c.carried-lots.ensures c.carry.ensures.rooms;
-  trees = subst (λ (side : Side). AreTrees c.args.grid.now (room_of c.args.of_part.now) side c.route_to.new.walk.trees) (sym c.search.ensures.side) c.route_to.ensures.walking.trees;
   places = c.route_to.ensures.walking.places;
-  knows = c.search.ensures.own (room_of c.args.of_part.now);
+  knows = c.search.ensures.knows;
 }
 
 pub returns-else-not-have_room-clause-walking : goal.returns-else-not-have_room-clause-walking
@@ -47,11 +44,10 @@ returns-else-not-have_room-clause-walking c = record {
       (take c.in-Some.count c.route_to.new.walk.route)
       (subst (λ (rooms : List (ℕ × ℕ)). best_between c.args.grid.now (room_of rooms) c.args.self.now.side c.args.self.now.zone c.args.other ≡ Some (take c.in-Some.count c.route_to.new.walk.route)) (sym c.route_to.ensures.rooms) c.in-Some.ensures.some)
       c.carry.new.rooms c.carried-lots.result c.carried-lots.ensures c.carry.ensures.rooms;
-  trees = c.route_to.ensures.walking.trees;
   places = c.route_to.ensures.walking.places;
   knows = taker-stays c.args.grid.now c.zones-zones.ensures.grid.is_graph c.route_to.new.walk.rooms c.route_to.ensures.walking.size c.route_to.ensures.walking.fit c.args.self.now.side c.args.self.now.zone c.args.other c.args.left (omega (arith, c.if-left-eq0.false))
       (take c.in-Some.count c.route_to.new.walk.route)
       (subst (λ (rooms : List (ℕ × ℕ)). best_between c.args.grid.now (room_of rooms) c.args.self.now.side c.args.self.now.zone c.args.other ≡ Some (take c.in-Some.count c.route_to.new.walk.route)) (sym c.route_to.ensures.rooms) c.in-Some.ensures.some)
-      c.carry.new.rooms c.carried-lots.result c.carried-lots.ensures c.carry.ensures.rooms (room_of c.args.of_part.now) c.args.self.now.own
+      c.carry.new.rooms c.carried-lots.result c.carried-lots.ensures c.carry.ensures.rooms c.args.self.now.own
       (sym c.have_room.ensures ∙ c.if-not-have_room.false) c.route_to.ensures.walking.knows;
 }

@@ -32,4 +32,4 @@ loop-next-preserved g c =
     (c.after-next.ensures.next c.args.line.part c.args.line.side (rests-in (g.B.Board.state c.args.board.now) c.first-next.ensures.board c.requires.hand c.args.line.part c.requires.part c.args.line.side 0 c.in-Some.order (at-order (g.B.Board.state c.args.board.now) c.first-next.ensures.board c.requires.hand c.args.line.part c.requires.part c.args.line.side 0 c.loop-next.next c.in-Some.order c.loop-next.invariant.stands c.in-Some.is)))
 
 pub returns : goal.returns
-returns g c = ends (g.B.Board.state c.args.board.now) c.args.line.part c.args.line.side _ c.loop-next.next c.first-next.ensures.board c.loop-next.invariant c.in_default.is (ltb-true c.loop-next.all 4294967295)
+returns g c = ends (g.B.Board.state c.args.board.now) c.args.line.part c.args.line.side _ c.loop-next.all c.loop-next.next c.first-next.ensures.board c.loop-next.invariant c.in_default.is (ltb-true c.loop-next.all 4294967295)

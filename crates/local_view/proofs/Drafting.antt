@@ -1,0 +1,71 @@
+-- Rooms of which the two arcs of each border keep their sum.
+use Rattle.std.proofs.Common.{◌≡◌, ◌∙◌, ℕ, ◌+◌, ◌==◌, ◌&&◌, inl, inr, Bool, true, false, not, List, if◌then◌else◌, refl, sym, ap, subst, arith, eqb-true}
+use Rattle.std.proofs.lemmas.Bool.{true≢false}
+use Rattle.zone_graph.specs.declared.route.Arc.{Arc}
+use Rattle.zone_graph.specs.Graph.{Graph}
+use Rattle.zone_graph.specs.Pour.{opposite_arc, same_arc, same_bool}
+use Rattle.zone_graph.specs.Rooms.{room_of}
+use Rattle.zone_graph.proofs.Arcs.{opposite-twice, same_arc-is, same_arc-itself, same_border}
+use Rattle.cut_proof.specs.Carrying.{FitTogether}
+use Rattle.local_view.specs.Drafts.{AreKept}
+
+-- what fits together fits where the sums are kept
+pub fit-kept : (graph : Graph) (old new : List (ℕ × ℕ)) → FitTogether graph (room_of old) → AreKept old new → FitTogether graph (room_of new)
+fit-kept graph old new fit kept arc has = omega (arith, fit arc has, kept arc)
+
+pub kept-on : (old mid new : List (ℕ × ℕ)) → AreKept old mid → AreKept mid new → AreKept old new
+kept-on old mid new first next arc = next arc ∙ first arc
+
+-- an arc is another one than the opposite
+opposite-other : (arc : Arc) → same_arc (opposite_arc arc) arc ≡ false
+opposite-other arc = by (same_arc (opposite_arc arc) arc) refl
+  where
+    turned : (forward : Bool) → not forward ≡ forward → ⊥
+    turned true e = true≢false (sym e)
+    turned false e = true≢false e
+
+    by : (b : Bool) → same_arc (opposite_arc arc) arc ≡ b → b ≡ false
+    by true e = absurd (turned arc.forward (ap (λ (a : Arc). a.forward) (same_arc-is (opposite_arc arc) arc e)))
+    by false e = refl
+
+-- one row of rooms is another but for the room of an arc
+abbrev pub IsWith : (old new : List (ℕ × ℕ)) → Arc → ℕ → Type 0
+IsWith old new arc room = (other : Arc) → room_of new other ≡ (if same_arc arc other then room else room_of old other)
+
+at_arc : (old new : List (ℕ × ℕ)) (arc : Arc) (room : ℕ) → IsWith old new arc room → room_of new arc ≡ room
+at_arc old new arc room is = is arc ∙ ap (λ b. if b then room else room_of old arc) (same_arc-itself arc)
+
+elsewhere : (old new : List (ℕ × ℕ)) (arc : Arc) (room : ℕ) (other : Arc) → IsWith old new arc room → same_arc arc other ≡ false → room_of new other ≡ room_of old other
+elsewhere old new arc room other is e = is other ∙ ap (λ b. if b then room else room_of old other) e
+
+-- the sums are kept where the two arcs of a border are given rooms with the sum of theirs
+pub kept-both : (of old mid new : List (ℕ × ℕ)) (arc opposite : Arc) (room back : ℕ) → IsWith old mid arc room → IsWith mid new opposite back → opposite ≡ opposite_arc arc
+    → AreKept of old → room + back ≡ room_of of arc + room_of of (opposite_arc arc) → AreKept of new
+kept-both of old mid new arc opposite room back first second is kept sum other = by (arc.border == other.border) refl
+  where
+    next : IsWith mid new (opposite_arc arc) back
+    next = subst (λ o. IsWith mid new o back) is second
+
+    KeptAt : Arc → Type 0
+    KeptAt a = room_of new a + room_of new (opposite_arc a) ≡ room_of of a + room_of of (opposite_arc a)
+
+    there : KeptAt arc
+    there =
+        let own = elsewhere mid new (opposite_arc arc) back arc next (opposite-other arc) ∙ at_arc old mid arc room first in
+        let against = at_arc mid new (opposite_arc arc) back next in
+        omega (arith, own, against, sum)
+
+    turned : KeptAt (opposite_arc arc)
+    turned = omega (arith, there, ap (room_of new) (opposite-twice arc), ap (room_of of) (opposite-twice arc))
+
+    untouched : (a : Arc) → (arc.border == a.border) ≡ false → room_of new a ≡ room_of old a
+    untouched a e =
+        elsewhere mid new (opposite_arc arc) back a next (ap (λ t. t && same_bool (opposite_arc arc).forward a.forward) e)
+        ∙ elsewhere old mid arc room a first (ap (λ t. t && same_bool arc.forward a.forward) e)
+
+    by : (b : Bool) → (arc.border == other.border) ≡ b → KeptAt other
+    by true e = elim (same_border other arc (sym (eqb-true arc.border other.border e))) [
+      | inl same ↦ subst KeptAt (sym same) there
+      | inr same ↦ subst KeptAt (sym same) turned
+    ]
+    by false e = omega (arith, untouched other e, untouched (opposite_arc other) e, kept other)

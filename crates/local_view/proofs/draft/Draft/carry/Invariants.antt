@@ -1,0 +1,14 @@
+use Rattle.std.proofs.Common.{◌≡◌, ◌≤◌, length}
+use Rattle.zone_graph.specs.Graph.{border_count}
+use Rattle.local_view.specs.Drafts.{AreKept}
+use Rattle.local_view.proofs.draft.Draft.carry.Given as goal
+
+abbrev pub invariant-loop : goal.invariant-loop
+invariant-loop l = l.lots ≤ l.most
+
+abbrev pub invariant-loop-2 : goal.invariant-loop-2
+invariant-loop-2 l = record {
+  size : length l.left ≡ border_count l.grid;
+  kept : AreKept l.fn.left l.left;
+  rest : l.self.rest ≡ l.fn.self.rest;
+}
