@@ -66,8 +66,8 @@ pub(crate) fn forget(lists: &mut [Events], hours: Span)
     }
 }
 
-// Takes the last event off a list, if there is one.
-fn pop_last(list: &mut Events)
+/// Takes the last event off a list, if there is one.
+pub(crate) fn pop_last(list: &mut Events)
     ensures { list.new ≡ but_last list.old }
 {
     let _last = list.pop();

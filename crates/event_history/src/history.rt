@@ -1,10 +1,11 @@
 //! A list of events that are kept by hour as well.
 
-ghost use Rattle.std.specs.Prelude.{◌≡◌, ◌<◌, ◌↔◌, [], ◌∷◌, ◌++◌, length, IsSome, IfOk, OnOk, OnErr};
+ghost use Rattle.std.specs.Prelude.{◌≡◌, ◌<◌, ◌↔◌, [], ◌∷◌, ◌++◌, filter, length, IsSome, IfOk, OnOk, OnErr, if◌then◌else◌};
 ghost use Rattle.std.specs.Option.{option_to_list};
-ghost use Rattle.event_history.specs.Near.{IsNear};
+ghost use Rattle.event_history.specs.ByHour.{but_last};
+ghost use Rattle.event_history.specs.Near.{AreGates, IsNear, is_gate};
 
-use crate::by_hour::{forget, no_events, note};
+use crate::by_hour::{forget, no_events, note, pop_last};
 use crate::touching::Span;
 use market_model::{Duplicate, Event, Events};
 use std::alloc::Global;
@@ -12,11 +13,12 @@ use std::marker::Model;
 use zone_graph::NoMemory;
 
 /// Events in order, which contracts see as a plain list. Beside them it keeps for each hour copies of
-/// those that touch the hour.
+/// those that touch the hour, and copies of the gates of all hours.
 #[derive(Debug, Drop)]
 pub struct History {
     events: Events,
     hours: Vec<Events>,
+    gates: Events,
 }
 
 impl Model for History {
@@ -26,10 +28,11 @@ impl Model for History {
     ghost Value = { List Event };
 
     ghost use Rattle.event_history.specs.ByHour.{AreByHour};
+    ghost use Rattle.event_history.specs.Near.{AreGates};
 
     ghost view = { λ history. history.events };
 
-    ghost invariant = { λ history. AreByHour history.events history.hours.items };
+    ghost invariant = { λ history. AreByHour history.events history.hours.items × AreGates history.events history.gates };
 }
 
 impl History {
@@ -44,6 +47,7 @@ impl History {
         Ok(History {
             events: Events::new(alloc),
             hours: no_events(alloc)?,
+            gates: Events::new(alloc),
         })
     }
 
@@ -80,6 +84,13 @@ impl History {
         }
     }
 
+    /// Lends the gates of all hours, in order.
+    pub fn gates(&self) -> &[Event]
+        ensures { AreGates self.now result.now }
+    {
+        self.gates.as_slice()
+    }
+
     /// How many events there are.
     pub fn len(&self) -> usize
         ensures { result ≡ length self.now }
@@ -98,11 +109,11 @@ impl History {
     {
         let touched = Span::touched_by(&event);
         note(self.hours.as_mut_slice(), touched, &event)?;
-        let pushed = self.events.push(event);
-        if pushed.is_err() {
+        let kept = keep(&mut self.events, &mut self.gates, event);
+        if kept.is_err() {
             forget(self.hours.as_mut_slice(), touched);
         }
-        pushed
+        kept
     }
 
     /// Takes the last event: `None` exactly where there is none.
@@ -112,6 +123,36 @@ impl History {
     {
         let event = self.events.pop()?;
         forget(self.hours.as_mut_slice(), Span::touched_by(&event));
+        forget_gate(&mut self.gates, &event);
         Some(event)
+    }
+}
+
+// Puts an event at the end of all events, and of the gates if it is one.
+fn keep(events: &mut Events, gates: &mut Events, event: Event) -> Result<(), NoMemory>
+    ensures events { OnOk result (events.new ≡ events.old ++ event ∷ []) }
+    ensures gates { OnOk result (gates.new ≡ gates.old ++ filter is_gate (event ∷ [])) }
+    ensures events_err { OnErr result (events.new ≡ events.old) }
+    ensures gates_err { OnErr result (gates.new ≡ gates.old) }
+{
+    match event {
+        Event::Gated { hour, phase } => {
+            gates.push(Event::Gated { hour, phase })?;
+            let pushed = events.push(Event::Gated { hour, phase });
+            if pushed.is_err() {
+                pop_last(gates);
+            }
+            pushed
+        }
+        other => events.push(other),
+    }
+}
+
+// Takes the last gate off, if an event that is taken off is one.
+fn forget_gate(gates: &mut Events, event: &Event)
+    ensures { gates.new ≡ (if is_gate event.now then but_last gates.old else gates.old) }
+{
+    if let Event::Gated { .. } = event {
+        pop_last(gates);
     }
 }

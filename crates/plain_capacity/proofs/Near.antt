@@ -17,18 +17,25 @@ use Rattle.laws_of_market.proofs.LocalStates.{Agree, allocated-agree, halted-agr
 use Rattle.laws_of_market.proofs.NamedByHour.{history-named}
 use Rattle.laws_of_market.proofs.Restrict.{filter-filter, fold-filter}
 use Rattle.laws_of_market.proofs.Uses.{within_offers}
-use Rattle.event_history.specs.Near.{IsNear}
+use Rattle.event_history.specs.Near.{AreGates, IsNear, is_gate}
 use Rattle.plain_capacity.specs.Rows.{IsNoted}
 use Rattle.plain_capacity.specs.Hour.{CanNoteIn, Capacity, IsCapacityOf, halted_at, is_of_orders, rows_in, size_of}
 use Rattle.plain_capacity.proofs.Hours.{can-note-in, no-halt, no-phase, noted-in, same-rows, take-more}
 
 -- ---- phases and halts
 
--- what an event says of an hour's phase, or of a halt in it, is said by one that touches it
-phase-elsewhere : (hour : ℕ) (e : Event) → touches hour e ≡ false → phase_by hour e ≡ None
-phase-elsewhere hour (event.Gated gated asked) h = rw h refl
-phase-elsewhere hour _ h = refl
+-- an hour's phase is said by gates alone
+phase-ungated : (hour : ℕ) (e : Event) → is_gate e ≡ false → phase_by hour e ≡ None
+phase-ungated hour (event.Gated gated asked) h = absurd (true≢false h)
+phase-ungated hour _ h = refl
 
+pub phase-gates : (hour : ℕ) (events gates : List Event) → AreGates events gates → phase_of gates hour ≡ phase_of events hour
+phase-gates hour events gates are =
+    ap (λ es. phase_of es hour) are
+    ∙ fold-filter (λ said e. unwrap_or (phase_by hour e) said) is_gate events
+    (λ e i out said. ap (λ o. unwrap_or o said) (phase-ungated hour e out)) phase.Open
+
+-- what an event says of a halt in an hour is said by one that touches it
 unsaid : (here within said : Bool) → within ≡ false → (if here && within then Some said else None) ≡ None
 unsaid true within said apart = rw apart refl
 unsaid false within said apart = refl
@@ -52,9 +59,6 @@ module _ (hour : ℕ) (events near : List Event) (is : IsNear hour events near) 
   said-near says start elsewhere =
       ap (last_said says start) is.some
       ∙ fold-filter (λ said e. unwrap_or (says e) said) is.keeps events (λ e i out said. ap (λ o. unwrap_or o said) (elsewhere e (left_out e out))) start
-
-  pub phase-near : phase_of near hour ≡ phase_of events hour
-  phase-near = said-near (phase_by hour) phase.Open (phase-elsewhere hour)
 
   pub halted-near : (border : ℕ) → is_halted near border hour ≡ is_halted events border hour
   halted-near border = said-near (halt_by border hour) false (halt-elsewhere border hour)

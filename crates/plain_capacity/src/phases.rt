@@ -12,9 +12,9 @@ use order_kinds::Phase;
 pub fn phase_of(events: &History, hour: u32) -> Phase
     ensures { result ≡ rooms.phase_of events.now hour }
 {
-    let near = events.near(hour);
+    let gates = events.gates();
     let mut phase = Phase::Open;
-    for event in near {
+    for event in gates {
         phase = phase_by(event, hour).unwrap_or(phase);
     }
     phase

@@ -1,6 +1,6 @@
 //! An order that enters.
 
-ghost use Rattle.std.specs.Prelude.{◌≡◌, ◌-◌, ◌<◌, ◌^◌, [], ◌∷◌, ◌++◌, Ok, None, IfOk, OnOk, OnErr, count_by};
+ghost use Rattle.std.specs.Prelude.{◌≡◌, ◌-◌, ◌<◌, ◌^◌, [], ◌∷◌, ◌++◌, Ok, None, IfOk, IfSome, OnOk, OnErr, count_by};
 ghost use Rattle.market_model.specs.Entering as market;
 ghost use Rattle.market_model.specs.History.{entered_count, enters_in};
 ghost use Rattle.market_model.specs.Orders as orders;
@@ -13,12 +13,13 @@ ghost use Rattle.plain_market.specs.Entering.{CanEnter, StaysWhereRefused};
 ghost use Rattle.plain_matching.specs.Grown.{Grew};
 ghost use Rattle.plain_matching.specs.Summed.{AreHourSums};
 ghost use Rattle.plain_orders.specs.Histories.{IsSomeHistory};
+ghost use Rattle.plain_orders.specs.Tallies.{AreSums};
 
 use crate::judging::refusal_after;
 use event_history::History;
 use market_model::{Event, Kind, NoMemory, Order, OrderName, Refusal};
 use plain_matching::{HourSums, cut_back, sweep, take};
-use plain_orders::{left, next_name_over};
+use plain_orders::{OrderSums, left_over, next_name_over};
 use std::alloc::Global;
 use zone_graph::Grid;
 
@@ -128,6 +129,7 @@ fn finish(
     order: &Order,
 ) -> Result<(), NoMemory>
     requires legal { IsLegalOver grid.now events.old }
+    requires hour { name.hour ≡ order.now.contract.hour }
     requires summed { AreHourSums grid.now events.old order.now.contract.hour sums.old }
     ensures ok { let rested = events.old ++ market.rest_withdrawn order.now.kind name (orders.left events.old name) in
         OnOk result (events.new ≡ rested ++ sweeping.sweep sweeping.all_parts grid.now order.now.contract.hour rested) }
@@ -135,31 +137,46 @@ fn finish(
 {
     let zones = grid.zones();
     prove!(zones <= 64);
-    withdraw_rest(events, name, order.kind)?;
+    withdraw_rest(alloc, events, &mut sums.orders, name, order.kind)?;
     sweep(alloc, grid, events, sums, order.contract.hour)
 }
 
 // Withdraws what is left of an order, if it is immediate-or-cancel. Where there is no memory the events
 // stay as they were.
-fn withdraw_rest(events: &mut History, name: OrderName, kind: Kind) -> Result<(), NoMemory>
+fn withdraw_rest(
+    alloc: Global,
+    events: &mut History,
+    sums: &mut Option<OrderSums>,
+    name: OrderName,
+    kind: Kind,
+) -> Result<(), NoMemory>
     requires history { IsSomeHistory events.old }
+    requires summed { IfSome sums.old (AreSums events.old name.hour) }
     ensures ok { OnOk result (events.new ≡ events.old ++ market.rest_withdrawn kind name (orders.left events.old name)) }
     ensures err { OnErr result (events.new ≡ events.old) }
+    ensures summed { IfSome sums.new (AreSums events.old name.hour) }
 {
     match kind {
-        Kind::Ioc => withdraw(events, name),
+        Kind::Ioc => withdraw(alloc, events, sums, name),
         Kind::Limit | Kind::Fok | Kind::Iceberg { .. } => Ok(()),
     }
 }
 
 // Withdraws what is left of an order, if there is something. Where there is no memory the events stay as
 // they were.
-fn withdraw(events: &mut History, name: OrderName) -> Result<(), NoMemory>
+fn withdraw(
+    alloc: Global,
+    events: &mut History,
+    sums: &mut Option<OrderSums>,
+    name: OrderName,
+) -> Result<(), NoMemory>
     requires history { IsSomeHistory events.old }
+    requires summed { IfSome sums.old (AreSums events.old name.hour) }
     ensures ok { OnOk result (events.new ≡ events.old ++ market.rest_withdrawn Kind.Ioc name (orders.left events.old name)) }
     ensures err { OnErr result (events.new ≡ events.old) }
+    ensures summed { IfSome sums.new (AreSums events.old name.hour) }
 {
-    match left(events, name) {
+    match left_over(alloc, events, sums, name)? {
         0 => Ok(()),
         lots => events.push(Event::Withdrawn { name, lots }),
     }

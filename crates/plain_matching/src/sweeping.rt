@@ -22,7 +22,7 @@ use crate::trade::resting_trade;
 use event_history::History;
 use market_model::{Contract, Event, NoMemory, Part, Price, Side};
 use plain_capacity::{CapacitySums, contract_rooms_over};
-use plain_orders::{StandingOrder, best_price, line, open_orders_over};
+use plain_orders::{StandingOrder, best_prices, line, open_orders_over};
 use std::alloc::Global;
 use zone_graph::{Grid, Rooms};
 
@@ -168,8 +168,7 @@ fn leg_in(
 {
     let zones = grid.zones();
     prove!(zones <= 64);
-    let best_buy = best_price(orders, contract, Side::Buy);
-    let best_sell = best_price(orders, contract, Side::Sell);
+    let (best_buy, best_sell) = best_prices(orders, contract);
     if !best_cross(best_buy, best_sell) {
         return Ok(None);
     }

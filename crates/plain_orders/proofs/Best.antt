@@ -14,7 +14,7 @@ use Rattle.order_kinds.specs.Side.{price_cmp}
 use Rattle.market_model.specs.Lines.{priority_cmp, time_cmp}
 use Rattle.market_model.specs.Orders.{Standing}
 use Rattle.zone_graph.specs.InOrder.{in_order, put_in_order}
-use Rattle.plain_orders.specs.Listed.{best_price, better_of, first_price, is_in_line}
+use Rattle.plain_orders.specs.Listed.{best_price, best_with, better_of, first_price, is_in_line}
 
 -- two prices of which neither goes first are the same
 same-rank : (side : Side) (one other : Price) → price_cmp side one other ≡ Equal → one ≡ other
@@ -55,15 +55,17 @@ module _ (contract : Contract) (side : Side) (orders : List Standing) (i : ℕ) 
   more : filter here (take (i + 1) orders) ≡ filter here (take i orders) ++ cond (here order) (order ∷ []) []
   more = ap (filter here) one-more ∙ filter-append here (take i orders) (order ∷ [])
 
-  -- an order of the line
-  pub best-more : here order ≡ true → best_price (take (i + 1) orders) contract side ≡ Some (better_of side order.price (best_price (take i orders) contract side))
-  best-more on =
-      ap (λ os. first_price (in_order (priority_cmp side) os)) (more ∙ ap (λ b. filter here (take i orders) ++ cond b (order ∷ []) []) on)
-      ∙ ap first_price (fold-append (put_in_order (priority_cmp side)) [] (filter here (take i orders)) (order ∷ []))
-      ∙ put-first side (in_order (priority_cmp side) (filter here (take i orders))) order
+  -- the best price with one more order
+  pub best-next : best_price (take (i + 1) orders) contract side ≡ best_with contract side order (best_price (take i orders) contract side)
+  best-next = go (here order) refl
+    where
+      so_far : List Standing
+      so_far = filter here (take i orders)
 
-  -- another one
-  pub best-same : here order ≡ false → best_price (take (i + 1) orders) contract side ≡ best_price (take i orders) contract side
-  best-same off =
-      ap (λ os. first_price (in_order (priority_cmp side) os))
-      (more ∙ ap (λ b. filter here (take i orders) ++ cond b (order ∷ []) []) off ∙ append-nil (filter here (take i orders)))
+      go : (b : Bool) → here order ≡ b
+          → best_price (take (i + 1) orders) contract side ≡ (if b then Some (better_of side order.price (best_price (take i orders) contract side)) else best_price (take i orders) contract side)
+      go true on =
+          ap (λ os. first_price (in_order (priority_cmp side) os)) (more ∙ ap (λ b. so_far ++ cond b (order ∷ []) []) on)
+          ∙ ap first_price (fold-append (put_in_order (priority_cmp side)) [] so_far (order ∷ []))
+          ∙ put-first side (in_order (priority_cmp side) so_far) order
+      go false off = ap (λ os. first_price (in_order (priority_cmp side) os)) (more ∙ ap (λ b. so_far ++ cond b (order ∷ []) []) off ∙ append-nil so_far)

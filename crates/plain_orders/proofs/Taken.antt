@@ -1,5 +1,7 @@
 -- An event of a history can be taken in, and then the tallies tell what the events with it come to.
-use Rattle.std.proofs.Common.{◌≡◌, ◌≢◌, ◌∙◌, inl, ℕ, ◌+◌, ◌<◌, ◌≤◌, Bool, true, false, cond, List, [], ◌∷◌, ◌++◌, filter, get_or, length, length-append, length-take, Some, take, refl, sym, ap, subst, if◌then◌else◌, arith}
+use Rattle.std.proofs.Common.{◌≡◌, ◌≢◌, ◌∙◌, inl, inr, ℕ, ◌+◌, ◌<◌, ◌≤◌, Bool, true, false, cond, List, [], ◌∷◌, ◌++◌, filter, get_or, length, length-append, length-take, Some, take, refl, sym, ap, subst, if◌then◌else◌, arith}
+use Rattle.std.proofs.lemmas.Bool.{cases_lt}
+use Rattle.std.proofs.lemmas.List.{get_or_past}
 use Rattle.std.proofs.lemmas.List.Sums.{sum_by-append}
 use Rattle.order_kinds.specs.declared.order.OrderName.{OrderName}
 use Rattle.order_kinds.specs.declared.side.Side.{Side}
@@ -22,10 +24,11 @@ use Rattle.laws_of_market.proofs.Soundness.{block_fault-none, lots_in_range-boun
 use Rattle.laws_of_market.proofs.Tests.{same_name-refl}
 use Rattle.laws_of_market.proofs.Unique.{entered-is, entered-none, entered-order, enters-block_placed, one_block, one_order, times-some}
 use Rattle.laws_of_market.proofs.Wholes.{other_name}
+use Rattle.plain_orders.specs.Histories.{IsSomeHistory}
 use Rattle.plain_orders.specs.declared.tally.Change.{Change}
 use Rattle.plain_orders.specs.declared.tally.Change.TheVariants as change
 use Rattle.plain_orders.specs.declared.tally.Tally.{Tally}
-use Rattle.plain_orders.specs.Tallies.{AreTallies, CanApply, CanChange, CanTakeIn, HasPeak, Tells, after_event, changed, entered_in, name_in}
+use Rattle.plain_orders.specs.Tallies.{AreTallies, CanApply, CanChange, CanTakeIn, HasPeak, Tells, after_event, changed, entered_in, left_at, name_in, nothing}
 use Rattle.plain_orders.proofs.Changes.{sound-peak}
 use Rattle.plain_orders.proofs.Histories.{IsAt}
 use Rattle.laws_of_market.proofs.LocalMoments.{hour-more, hour-same}
@@ -98,6 +101,20 @@ left-named events name some = go (times_entered events name) refl
 -- a name of an hour is that of its number
 pub same-name : (name : OrderName) (hour : ℕ) → name.hour ≡ hour → name_in hour name.number ≡ name
 same-name name hour is i = record { hour = sym is i; number = name.number }
+
+-- the tallies of an hour say what is left of a name, and that nothing is left of one that was not given
+pub left-told : (events : List Event) (name : OrderName) (tallies : List Tally) → IsSomeHistory events → length tallies ≡ entered_in events name.hour + 1
+    → AreTallies events name.hour tallies → left_at tallies name.number ≡ left events name
+left-told events name tallies history size tell = elim (cases_lt name.number (length tallies)) [
+  | inl less ↦ (tell name.number nothing less).left
+  | inr high ↦ ap (λ (t : Tally). t.left) (get_or_past tallies name.number nothing high) ∙ sym (none (left events name) refl high)
+]
+  where
+    none : (lots : ℕ) → left events name ≡ lots → length tallies ≤ name.number → lots ≡ 0
+    none lots is high =
+        let at : ¬ (1 ≤ lots) = λ some. (let within = has-place history.setup events history.fit name name.hour (length tallies)
+        (left-named events name (omega (arith, is, some))) refl (omega (arith, size)) in absurd (omega (arith, within, high))) in
+        omega (arith, at)
 
 opposed : (side : Side) → side ≢ opposite side
 opposed Buy is = absurd (cc)

@@ -75,6 +75,10 @@ abbrev pub better_of : Side → Price → Option Price → Price
 better_of side price None = price
 better_of side price (Some best) = if prefers side price best then price else best
 
+-- the best price of a line so far, with an order that may be of it
+abbrev pub best_with : Contract → Side → Standing → Option Price → Option Price
+best_with contract side order best = if is_in_line contract side order then Some (better_of side order.price best) else best
+
 -- the open orders of an hour make the lines of its contracts
 abbrev pub LinesAreOfOrders : Type 0
 LinesAreOfOrders = (events : List Event) (contract : Contract) (side : Side) → IsSomeHistory events

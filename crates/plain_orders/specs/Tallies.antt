@@ -123,6 +123,10 @@ abbrev pub AreTallies : List Event → (hour : ℕ) → List Tally → Type 0
 AreTallies events hour tallies = (number : ℕ) (d : Tally) → number < length tallies
     → Tells events (name_in hour number) (slice_index_or tallies number d)
 
+-- what is left of the order or block of a number by the tallies: nothing where none has it
+abbrev pub left_at : List Tally → (number : ℕ) → ℕ
+left_at tallies number = (slice_index_or tallies number nothing).left
+
 -- the tallies of an hour after some events, its orders, and how many of the events touch it
 pub record AreSumsOf (events : List Event) (hour : ℕ) (tallies : List Tally) (orders : List Placed) (moment : ℕ) : Type 0 where
   pub size : length tallies ≡ entered_in events hour + 1
