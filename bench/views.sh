@@ -18,7 +18,7 @@ mkdir -p "$crate/src" "$crate/specs" "$crate/proofs"
 (cd "$top" && tar cf - --exclude=out crates crates.txt HANDLES) | tar xf - -C "$scratch"
 echo 'count_views: tests_of_shared_boards local_view market_model zone_graph order_kinds' >>"$scratch/crates.txt"
 
-sed -i 's/^pub(crate) fn list_rows<B: Board>(/#[inline(never)]\n&/' "$scratch/crates/local_view/src/listing.rt"
+sed -i 's/^fn list_zones(/#[inline(never)]\n&/' "$scratch/crates/local_view/src/filling.rt"
 sed -i 's/^    fn \(first\|after\|rooms\)(&self/    #[inline(never)]\n&/' "$scratch/crates/tests_of_shared_boards/src/small_board.rt"
 
 cat >"$crate/src/main.rt" <<'PROGRAM'
@@ -128,7 +128,7 @@ PROGRAM
 # of the board's calls that they make.
 instructions() {
     valgrind --tool=callgrind --callgrind-out-file="$scratch/callgrind.out" "$crate/out/count_views" "$1" >/dev/null 2>&1
-    python3 - "$scratch/callgrind.out" local_view::listing::list_rows <<'PYTHON'
+    python3 - "$scratch/callgrind.out" local_view::filling::list_zones <<'PYTHON'
 import re
 import sys
 
