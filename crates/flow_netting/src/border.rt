@@ -43,12 +43,12 @@ impl BorderFlows {
     }
 
     /// The row of a quarter.
-    pub fn row(&self, number: u32) -> QuarterRow
+    pub fn row(&self, number: u32) -> &QuarterRow
         requires first { 1 ≤ number }
         requires last { number ≤ 4 }
-        ensures { result ≡ row_in self.now number }
+        ensures { result.now ≡ row_in self.now number }
     {
-        self.rows[(number - 1) as usize]
+        &self.rows[(number - 1) as usize]
     }
 
     /// Whether trade over the border is halted.

@@ -88,6 +88,32 @@ pub fn write_rooms(borders: &[BorderFlows], is_open: bool, set: QuarterSet, into
     ensures rooms { (arc : Arc) → arc.border < length borders.now → rooms.room_of into.new arc ≡ set_room is_open (flows.border_at borders.now arc.border) arc.forward set }
     ensures most { (arc : Arc) → arc.border < length borders.now → rooms.room_of into.new arc ≤ most_remaining }
 {
+    if !is_open {
+        write_over(borders, false, set, into);
+        return;
+    }
+    // The hour, its halves and its quarters have a loop each.
+    match set.0 {
+        0b1111 => write_over(borders, true, QuarterSet(0b1111), into),
+        0b0011 => write_over(borders, true, QuarterSet(0b0011), into),
+        0b1100 => write_over(borders, true, QuarterSet(0b1100), into),
+        0b0001 => write_over(borders, true, QuarterSet(0b0001), into),
+        0b0010 => write_over(borders, true, QuarterSet(0b0010), into),
+        0b0100 => write_over(borders, true, QuarterSet(0b0100), into),
+        0b1000 => write_over(borders, true, QuarterSet(0b1000), into),
+        _ => write_over(borders, true, set, into),
+    }
+}
+
+// Writes the room of each arc. Where a call names the set, the compiler knows the loop's quarters.
+#[inline(always)]
+fn write_over(borders: &[BorderFlows], is_open: bool, set: QuarterSet, into: &mut Rooms)
+    requires few { length borders.now ≤ 128 }
+    requires size { length into.old ≡ length borders.now }
+    ensures size { length into.new ≡ length into.old }
+    ensures rooms { (arc : Arc) → arc.border < length borders.now → rooms.room_of into.new arc ≡ set_room is_open (flows.border_at borders.now arc.border) arc.forward set }
+    ensures most { (arc : Arc) → arc.border < length borders.now → rooms.room_of into.new arc ≤ most_remaining }
+{
     for (place, border) in borders.iter().enumerate() {
         write_border(border, place as u32, is_open, set, into);
     }
@@ -100,6 +126,8 @@ fn write_border(border: &BorderFlows, number: u32, is_open: bool, set: QuarterSe
     ensures rooms { (arc : Arc) → rooms.room_of into.new arc ≡ (if number == arc.border then set_room is_open border.now arc.forward set else rooms.room_of into.old arc) }
     ensures most { (arc : Arc) → arc.border ≡ number → rooms.room_of into.new arc ≤ most_remaining }
 {
-    into.set(Arc::over(number, true), border.room(is_open, true, set));
-    into.set(Arc::over(number, false), border.room(is_open, false, set));
+    let forward = border.room(is_open, true, set);
+    let backward = border.room(is_open, false, set);
+    into.set(Arc::over(number, true), forward);
+    into.set(Arc::over(number, false), backward);
 }

@@ -3,7 +3,7 @@ use Rattle.zone_graph.specs.declared.route.Arc.{Arc}
 use Rattle.zone_graph.specs.Rooms.{room_of}
 use Rattle.flow_netting.specs.Border.{set_room}
 use Rattle.flow_netting.specs.Flows.{border_at}
-use Rattle.flow_netting.proofs.borders.write_rooms.Given as goal
+use Rattle.flow_netting.proofs.borders.write_over.Given as goal
 
 -- the arcs of the borders so far have their rooms
 abbrev pub invariant-loop-place : goal.invariant-loop-place

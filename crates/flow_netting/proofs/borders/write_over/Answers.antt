@@ -2,7 +2,7 @@ use Rattle.std.proofs.Common.{◌∙◌, arith}
 use Rattle.zone_graph.specs.Rooms.{room_of}
 use Rattle.flow_netting.specs.Border.{set_room}
 use Rattle.flow_netting.proofs.RoomLemmas.{most_more, written_more}
-use Rattle.flow_netting.proofs.borders.write_rooms.Goals as goal
+use Rattle.flow_netting.proofs.borders.write_over.Goals as goal
 
 pub loop-place-preserved : goal.loop-place-preserved
 loop-place-preserved c = record {
