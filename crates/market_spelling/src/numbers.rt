@@ -1,8 +1,6 @@
 //! Numbers, quantities, amounts of cents and prices.
 
-ghost use Rattle.std.specs.Prelude.{◌≡◌, ◌<◌, ◌≤◌, ◌^◌, length, IsTrue, IfSome};
-ghost use Rattle.std.specs.List.{list_all};
-ghost use Rattle.std.specs.Char.{is_ascii_digit};
+ghost use Rattle.std.specs.Prelude.{◌≡◌, ◌<◌, ◌≤◌, ◌^◌, IfSome};
 ghost use Rattle.market_spelling.specs.Numbers as numbers;
 
 use order_kinds::{Lots, Price};
@@ -77,10 +75,17 @@ pub(crate) fn read_number(bytes: &[u8], most: usize) -> Option<u32>
     ensures value { result ≡ numbers.number_of most bytes.now }
     ensures below { IfSome result (λ number. number < 10 ^ most) }
 {
-    if bytes.is_empty() || bytes.len() > most || !are_digits(bytes) {
+    if bytes.is_empty() || bytes.len() > most {
         return None;
     }
-    Some(value_of_digits(bytes))
+    let mut value = 0;
+    for byte in bytes {
+        match read_digit(*byte) {
+            Some(digit) => value = 10 * value + digit,
+            None => return None,
+        }
+    }
+    Some(value)
 }
 
 // The value of a decimal digit.
@@ -94,25 +99,4 @@ pub(crate) fn read_digit(byte: u8) -> Option<u32>
     } else {
         None
     }
-}
-
-// The number that decimal digits stand for.
-fn value_of_digits(digits: &[u8]) -> u32
-    requires few { length digits.now ≤ 9 }
-    requires digits { IsTrue (list_all is_ascii_digit digits.now) }
-    ensures value { result ≡ numbers.digits_value digits.now }
-    ensures below { result < 10 ^ length digits.now }
-{
-    let mut value = 0;
-    for digit in digits {
-        value = 10 * value + u32::from(*digit - b'0');
-    }
-    value
-}
-
-// Whether each byte is a decimal digit.
-fn are_digits(bytes: &[u8]) -> bool
-    ensures { result ≡ list_all is_ascii_digit bytes.now }
-{
-    bytes.iter().all(|byte| byte.is_ascii_digit())
 }

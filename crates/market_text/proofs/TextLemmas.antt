@@ -1,7 +1,11 @@
 -- Lines of a text one by one, and what they make of the answer.
-use Rattle.std.proofs.Common.{◌≡◌, ℕ, suc, ◌+◌, ◌<◌, ◌≤◌, ◌==◌, Bool, true, false, not, cond, List, [], ◌∷◌, length, take, drop, refl, ap, arith, Option, Some, None, Result, Err, position}
+use Rattle.std.proofs.Common.{◌≡◌, ℕ, suc, ◌+◌, ◌<◌, ◌≤◌, ◌==◌, Bool, true, false, not, cond, List, [], ◌∷◌, length, take, drop, refl, sym, ◌∙◌, ap, arith, Option, Some, None, Result, Err, position}
 use Rattle.std.specs.List.{onto_first, position_or_len}
+use Rattle.std.proofs.lemmas.Bool.{true≢false}
+use Rattle.std.proofs.lemmas.List.Quantifiers.{position-Some}
+use Rattle.std.proofs.lemmas.List.Sums.{fails_before_first}
 use Rattle.std.proofs.lemmas.List.Splits.{length-slice_split}
+use Rattle.memchr.specs.Find.{IsFirstByte}
 use Rattle.market_text.specs.declared.reader.Reader.{Reader}
 use Rattle.market_text.specs.declared.session.Session.{Session}
 use Rattle.command_lines.specs.declared.fault.LineFault.{LineFault}
@@ -10,6 +14,21 @@ use Rattle.market_text.specs.Fault.{fault_at}
 use Rattle.market_text.specs.Steps.{Takes}
 use Rattle.market_text.specs.Text.{lines_of, line_step, after_line, text_from, IsAnswer}
 use Rattle.command_lines.proofs.NameLemmas.{none_past_end, some_place}
+
+-- the first place whose byte passes a test is its position
+pub position-first : (p : ℕ → Bool) (xs : List ℕ) (first found : Option ℕ) → position p xs ≡ found → IsFirstByte p xs first → found ≡ first
+position-first p xs None None is none = refl
+position-first p xs None (Some i) is none =
+    let at = position-Some p xs i 0 is in
+    absurd (none i (omega arith) at.0 at.1)
+position-first p xs (Some k) None is first =
+    let past = none_past_end (position_or_len p xs) (length xs) is in
+    absurd (true≢false (sym first.1 ∙ fails_before_first p xs k 0 (omega (arith, first.0.high))))
+position-first p xs (Some k) (Some i) is first =
+    let at = position-Some p xs i 0 is in
+    let not_after : k < i → ⊥ = λ lt. true≢false (sym first.1 ∙ at.2 k lt) in
+    let not_before : i < k → ⊥ = λ lt. first.0.before i (omega arith) lt at.1 in
+    ap Some (omega arith)
 
 -- the place of the first line feed, or the length
 abbrev pub first_line_feed : List ℕ → ℕ

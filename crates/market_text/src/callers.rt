@@ -40,6 +40,14 @@ impl CommandLists {
         Ok(())
     }
 
+    /// Puts a command at the end of those of a caller.
+    pub fn give_one(&mut self, caller: usize, command: Command) -> Result<(), NoMemory>
+        requires { caller < length self.old }
+        ensures { OnOk result (self.new ≡ with_commands self.old caller (command ∷ [])) }
+    {
+        self.lists[caller].push(command)
+    }
+
     /// Puts commands at the end of those of a caller.
     pub fn give(&mut self, caller: usize, commands: Commands) -> Result<(), NoMemory>
         requires { caller < length self.old }

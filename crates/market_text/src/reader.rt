@@ -11,7 +11,7 @@ use command_lines::{
     ClockTable, LineFault, NameTable, command_of_words, first_word, list_gates, only_word,
 };
 use contract_calendar::Day;
-use market_model::{Commands, NoMemory, Pairs, Role, Sequence};
+use market_model::{Command, Commands, NoMemory, Pairs, Role, Sequence};
 use market_spelling::{Verb, read_instant, read_verb};
 use std::alloc::Global;
 
@@ -118,9 +118,7 @@ impl Reader {
             Ok(command) => command,
             Err(fault) => return Err(fault),
         };
-        let mut commands = Commands::new(alloc);
-        commands.push(command)?;
-        self.take(caller, commands)
+        self.take_one(caller, command)
     }
 
     // Reads the instant of a clock line, which stands for gates.
@@ -144,6 +142,22 @@ impl Reader {
         let gates = list_gates(alloc, &day, &last, instant)?;
         self.clocks.set(caller, instant);
         self.take(caller, gates)
+    }
+
+    // Takes the one command of a line.
+    #[tactic(auto, unfolding(crate::specs::Steps::take_commands))]
+    fn take_one(&mut self, caller: usize, command: Command) -> Result<(), LineFault>
+        requires reading { IsReading self.old }
+        requires known { caller < length self.old.callers }
+        ensures kept { OnOk result (IsReading self.new) }
+        ensures exact { Takes (steps.take_commands self.old caller (command ∷ [])) self.new result }
+    {
+        if self.turns.len() >= MOST_COMMANDS {
+            return Err(LineFault::Bad);
+        }
+        self.turns.push(caller as u32)?;
+        self.commands.give_one(caller, command)?;
+        Ok(())
     }
 
     // Takes the commands of a line.

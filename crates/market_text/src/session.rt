@@ -1,6 +1,6 @@
 //! A session, and how it is read from a text.
 
-ghost use Rattle.std.specs.Prelude.{◌≡◌, ◌<◌, ◌+◌, ◌^◌, ◌==◌, ◌∷◌, [], length, map, position, IfOk, IfSome, MatchOption, OnOk};
+ghost use Rattle.std.specs.Prelude.{◌≡◌, ◌<◌, ◌+◌, ◌^◌, ◌∷◌, [], length, map, IfOk, IfSome, MatchOption, OnOk};
 ghost use Rattle.market_text.specs.Reading.{IsReading};
 ghost use Rattle.market_text.specs.Session.{IsSession};
 ghost use Rattle.market_text.specs.Steps.{Takes};
@@ -10,6 +10,7 @@ use crate::fault::TextFault;
 use crate::reader::Reader;
 use command_lines::LineFault;
 use market_model::{Commands, Sequence, Setup};
+use memchr::memchr;
 use std::alloc::{AllocError, Global};
 
 /// The commands of each caller, in the order of the callers, and of each caller in the order in
@@ -50,10 +51,11 @@ pub fn read_session(alloc: Global, bytes: &[u8]) -> Result<Session, TextFault>
     ensures exact { IsAnswer (session_of_text bytes.now) result }
 {
     let mut reader = Reader::new(alloc);
+    let mut words = Vec::new(alloc);
     let mut rest = bytes;
     let mut line = 1;
     while let Some((text, after)) = split_line(rest) {
-        match read_line(alloc, &mut reader, text) {
+        match read_line(alloc, &mut reader, &mut words, text) {
             Ok(()) => {
                 rest = after;
                 line += 1;
@@ -76,22 +78,21 @@ fn split_line(text: &[u8]) -> Option<(&[u8], &[u8])>
     ensures lines { MatchOption result (lines_of text.now ≡ text.now ∷ []) (λ parts. lines_of text.now ≡ parts.0.now ∷ lines_of parts.1.now) }
     ensures shorter { IfSome result (λ parts. length parts.1.now < length text.now) }
 {
-    match find_line_feed(text) {
+    match memchr(b'\n', text) {
         None => None,
         Some(end) => Some((&text[..end], &text[end + 1..])),
     }
 }
 
-// The place of the first line feed.
-fn find_line_feed(text: &[u8]) -> Option<usize>
-    ensures { result ≡ position (λ byte. byte == 10) text.now }
-{
-    text.iter().position(|byte| *byte == b'\n')
-}
-
-// Reads a line, which is passed over where it is empty or a comment.
+// Reads a line, which is passed over where it is empty or a comment. Its words take the place of
+// those of the line before.
 #[tactic(auto, unfolding(crate::specs::Text::line_step))]
-fn read_line(alloc: Global, reader: &mut Reader, line: &[u8]) -> Result<(), LineFault>
+fn read_line<'a>(
+    alloc: Global,
+    reader: &mut Reader,
+    words: &mut Vec<&'a [u8]>,
+    line: &'a [u8],
+) -> Result<(), LineFault>
     requires { IsReading reader.old }
     ensures kept { OnOk result (IsReading reader.new) }
     ensures exact { Takes (line_step reader.old line.now) reader.new result }
@@ -99,13 +100,14 @@ fn read_line(alloc: Global, reader: &mut Reader, line: &[u8]) -> Result<(), Line
     if line.is_empty() || line[0] == b'#' {
         return Ok(());
     }
-    let words = split_words(alloc, line)?;
+    split_words(words, line)?;
     reader.read_words(alloc, words.as_slice())
 }
 
-// The words of a line.
-fn split_words(alloc: Global, line: &[u8]) -> Result<Vec<&[u8]>, AllocError>
-    ensures { IfOk result (λ words. map (λ word. word.now) words.items ≡ words_of line.now) }
+// Makes a list that of the words of a line.
+fn split_words<'a>(words: &mut Vec<&'a [u8]>, line: &'a [u8]) -> Result<(), AllocError>
+    ensures { OnOk result (map (λ word. word.now) words.new.items ≡ words_of line.now) }
 {
-    line.split(|byte| *byte == b' ').collect(alloc)
+    words.clear();
+    words.extend(line.split(|byte| *byte == b' '))
 }
