@@ -1,2 +1,2 @@
 pub mod Plain
-pub mod Sent
+pub mod Joined

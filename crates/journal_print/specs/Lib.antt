@@ -1,5 +1,4 @@
 -- What the contracts of this crate cite.
+pub mod Commas
 pub mod Json
-pub mod Known
 pub mod Line
-pub mod Value

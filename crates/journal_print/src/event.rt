@@ -1,242 +1,221 @@
 //! Events as arrays.
 
-ghost use Rattle.std.specs.Prelude.{[], ◌∷◌, OnOk, map, All, codes, true};
+ghost use Rattle.std.specs.Prelude.{◌≡◌, [], ◌∷◌, ◌++◌, OnOk, map, All, codes, true};
 ghost use Rattle.market_model.specs.Naming.{HasArcs, HasBorder, IsNamed, IsEventIn};
-ghost use Rattle.journal_print.specs.Json.{IsPlain, quote, row};
+ghost use Rattle.journal_print.specs.Json.{quote, row};
 ghost use Rattle.journal_print.specs.Line as printed;
-ghost use Rattle.journal_print.specs.Value.{Sends};
 ghost use Rattle.order_kinds.specs.Contract.{hour_text, quarter_text, contract_text};
 ghost use Rattle.order_kinds.specs.Order.{name_text};
 ghost use Rattle.order_kinds.specs.Phase.{phase_text};
 
 use crate::names::write_arc;
-use crate::spelling::{Hour, Quantity, write_spelled, write_word};
+use crate::spelling::{Hour, Quantity, begin_row, write_comma, write_next};
 use market_model::{Event, Leg, Setup};
 use order_kinds::{Contract, OrderName, Phase, Quarter};
-use serde::Serializer;
+use std::alloc::AllocError;
 use zone_graph::Arc;
 
 /// Writes events, each as an array.
-pub(crate) fn write_events<S: Serializer>(
+pub(crate) fn write_events(
     setup: &Setup,
     events: &[Event],
-    out: &mut S,
-) -> Result<(), S::Error>
+    out: &mut Vec<u8>,
+) -> Result<(), AllocError>
     requires named { IsNamed setup.now }
     requires within { All (IsEventIn setup.now) events.now }
-    ensures { OnOk result (Sends (row (printed.event_rows setup.now events.now))
-        (S.written out.old) (S.written out.new)) }
+    ensures { OnOk result (out.new.items ≡ out.old.items ++ row (printed.event_rows setup.now events.now)) }
 {
-    out.begin_seq(Some(events.len()))?;
-    for event in events {
+    out.push(b'[')?;
+    for (place, event) in events.iter().enumerate() {
+        write_comma(place, out)?;
         write_event(setup, event, out)?;
     }
-    out.end_seq()
+    out.push(b']')?;
+    Ok(())
 }
 
 // Writes an event as the array of its kind and of what it concerns.
-fn write_event<S: Serializer>(setup: &Setup, event: &Event, out: &mut S) -> Result<(), S::Error>
+fn write_event(setup: &Setup, event: &Event, out: &mut Vec<u8>) -> Result<(), AllocError>
     requires named { IsNamed setup.now }
     requires within { IsEventIn setup.now event.now }
-    ensures { OnOk result (Sends (row (printed.event_parts setup.now event.now))
-        (S.written out.old) (S.written out.new)) }
+    ensures { OnOk result (out.new.items ≡ out.old.items ++ row (printed.event_parts setup.now event.now)) }
 {
     match event {
         Event::Entered { name, order, .. } => write_entered(*name, order.contract, out),
         Event::EnteredBlock { name, order, .. } => {
             write_entered_block(*name, order.first, order.last, out)
         }
-        Event::Leg { leg, .. } => write_trade(setup, "leg", leg, out),
-        Event::BlockLeg { leg, .. } => write_trade(setup, "blockleg", leg, out),
+        Event::Leg { leg, .. } => write_trade(setup, b"leg", leg, out),
+        Event::BlockLeg { leg, .. } => write_trade(setup, b"blockleg", leg, out),
         Event::Granted {
             arc,
             first,
             last,
             lots,
-        } => write_capacity(setup, "granted", *arc, *first, *last, *lots, out),
+        } => write_capacity(setup, b"granted", *arc, *first, *last, *lots, out),
         Event::Offered {
             arc,
             first,
             last,
             lots,
-        } => write_capacity(setup, "offered", *arc, *first, *last, *lots, out),
+        } => write_capacity(setup, b"offered", *arc, *first, *last, *lots, out),
         Event::Halted {
             border,
             first,
             last,
-        } => write_border_hours(setup, "halted", *border, *first, *last, out),
+        } => write_border_hours(setup, b"halted", *border, *first, *last, out),
         Event::Resumed {
             border,
             first,
             last,
-        } => write_border_hours(setup, "resumed", *border, *first, *last, out),
+        } => write_border_hours(setup, b"resumed", *border, *first, *last, out),
         Event::Gated { hour, phase } => write_gated(*hour, *phase, out),
-        Event::Withdrawn { name, lots } => write_order_change("withdrawn", *name, *lots, out),
-        Event::Reduced { name, by } => write_order_change("reduced", *name, *by, out),
+        Event::Withdrawn { name, lots } => write_order_change(b"withdrawn", *name, *lots, out),
+        Event::Reduced { name, by } => write_order_change(b"reduced", *name, *by, out),
     }
 }
 
 // An order that was entered.
-fn write_entered<S: Serializer>(
-    name: OrderName,
-    contract: Contract,
-    out: &mut S,
-) -> Result<(), S::Error>
-    ensures { OnOk result (Sends
-        (row (quote (codes "entered") ∷ quote (name_text name) ∷ quote (contract_text contract) ∷ []))
-        (S.written out.old) (S.written out.new)) }
+#[tactic(auto, unfolding(crate::specs::Json::row))]
+fn write_entered(name: OrderName, contract: Contract, out: &mut Vec<u8>) -> Result<(), AllocError>
+    ensures { OnOk result (out.new.items ≡ out.old.items ++ row (quote (codes "entered") ∷ quote (name_text name) ∷ quote (contract_text contract) ∷ [])) }
 {
-    out.begin_seq(Some(3))?;
-    write_word("entered", out)?;
-    write_spelled(&name, out)?;
-    write_spelled(&contract, out)?;
-    out.end_seq()
+    begin_row(b"entered", out)?;
+    write_next(&name, out)?;
+    write_next(&contract, out)?;
+    out.push(b']')?;
+    Ok(())
 }
 
 // A block that was entered.
-fn write_entered_block<S: Serializer>(
+#[tactic(auto, unfolding(crate::specs::Json::row))]
+fn write_entered_block(
     name: OrderName,
     first: u32,
     last: u32,
-    out: &mut S,
-) -> Result<(), S::Error>
-    ensures { OnOk result (Sends
-        (row (quote (codes "entered") ∷ quote (name_text name) ∷ quote (hour_text first)
-        ∷ quote (hour_text last) ∷ []))
-        (S.written out.old) (S.written out.new)) }
+    out: &mut Vec<u8>,
+) -> Result<(), AllocError>
+    ensures { OnOk result (out.new.items ≡ out.old.items ++ row (quote (codes "entered") ∷ quote (name_text name) ∷ quote (hour_text first) ∷ quote (hour_text last) ∷ [])) }
 {
-    out.begin_seq(Some(4))?;
-    write_word("entered", out)?;
-    write_spelled(&name, out)?;
-    write_spelled(&Hour(first), out)?;
-    write_spelled(&Hour(last), out)?;
-    out.end_seq()
+    begin_row(b"entered", out)?;
+    write_next(&name, out)?;
+    write_next(&Hour(first), out)?;
+    write_next(&Hour(last), out)?;
+    out.push(b']')?;
+    Ok(())
 }
 
 // A trade of two orders or of two blocks over one route.
-fn write_trade<S: Serializer>(
-    setup: &Setup,
-    kind: &str,
-    leg: &Leg,
-    out: &mut S,
-) -> Result<(), S::Error>
-    requires plain { IsPlain kind.now }
+#[tactic(auto, unfolding(crate::specs::Json::row))]
+fn write_trade(setup: &Setup, kind: &[u8], leg: &Leg, out: &mut Vec<u8>) -> Result<(), AllocError>
     requires named { IsNamed setup.now }
     requires known { HasArcs setup.now leg.now.route }
-    ensures { OnOk result (Sends (row (quote kind.now ∷ printed.trade_parts setup.now leg.now))
-        (S.written out.old) (S.written out.new)) }
+    ensures { OnOk result (out.new.items ≡ out.old.items ++ row (quote kind.now ∷ printed.trade_parts setup.now leg.now)) }
 {
     let route = leg.route.as_slice();
-    out.begin_seq(Some(6))?;
-    write_word(kind, out)?;
-    write_spelled(&leg.taker, out)?;
-    write_spelled(&leg.maker, out)?;
-    write_spelled(&Quantity(leg.lots as u64), out)?;
-    write_spelled(&leg.price, out)?;
+    begin_row(kind, out)?;
+    write_next(&leg.taker, out)?;
+    write_next(&leg.maker, out)?;
+    write_next(&Quantity(leg.lots as u64), out)?;
+    write_next(&leg.price, out)?;
+    out.push(b',')?;
     write_route(setup, route, out)?;
-    out.end_seq()
+    out.push(b']')?;
+    Ok(())
 }
 
 // The arcs of a route, in order.
-fn write_route<S: Serializer>(setup: &Setup, route: &[Arc], out: &mut S) -> Result<(), S::Error>
+fn write_route(setup: &Setup, route: &[Arc], out: &mut Vec<u8>) -> Result<(), AllocError>
     requires named { IsNamed setup.now }
     requires known { HasArcs setup.now route.now }
-    ensures { OnOk result (Sends
-        (row (map (λ arc. quote (printed.arc_text setup.now arc)) route.now))
-        (S.written out.old) (S.written out.new)) }
+    ensures { OnOk result (out.new.items ≡ out.old.items ++ row (map (λ arc. quote (printed.arc_text setup.now arc)) route.now)) }
 {
-    out.begin_seq(Some(route.len()))?;
-    for arc in route {
+    out.push(b'[')?;
+    for (place, arc) in route.iter().enumerate() {
+        write_comma(place, out)?;
         write_arc(setup, *arc, out)?;
     }
-    out.end_seq()
+    out.push(b']')?;
+    Ok(())
 }
 
 // Capacity that was granted or offered in a range of quarters.
-fn write_capacity<S: Serializer>(
+#[tactic(auto, unfolding(crate::specs::Json::row))]
+fn write_capacity(
     setup: &Setup,
-    kind: &str,
+    kind: &[u8],
     arc: Arc,
     first: Quarter,
     last: Quarter,
     lots: u32,
-    out: &mut S,
-) -> Result<(), S::Error>
-    requires plain { IsPlain kind.now }
+    out: &mut Vec<u8>,
+) -> Result<(), AllocError>
     requires named { IsNamed setup.now }
     requires known { HasBorder setup.now arc.border }
-    ensures { OnOk result (Sends
-        (row (quote kind.now ∷ quote (printed.arc_text setup.now arc) ∷ quote (quarter_text first)
-        ∷ quote (quarter_text last) ∷ quote (printed.quantity_text lots) ∷ []))
-        (S.written out.old) (S.written out.new)) }
+    ensures { OnOk result (out.new.items ≡ out.old.items ++ row (quote kind.now ∷ quote (printed.arc_text setup.now arc) ∷ quote (quarter_text first) ∷ quote (quarter_text last) ∷ quote (printed.quantity_text lots) ∷ [])) }
 {
-    out.begin_seq(Some(5))?;
-    write_word(kind, out)?;
+    begin_row(kind, out)?;
+    out.push(b',')?;
     write_arc(setup, arc, out)?;
-    write_spelled(&first, out)?;
-    write_spelled(&last, out)?;
-    write_spelled(&Quantity(lots as u64), out)?;
-    out.end_seq()
+    write_next(&first, out)?;
+    write_next(&last, out)?;
+    write_next(&Quantity(lots as u64), out)?;
+    out.push(b']')?;
+    Ok(())
 }
 
 // A border, by its forward arc, that was halted or resumed in a range of hours.
-fn write_border_hours<S: Serializer>(
+#[tactic(auto, unfolding(crate::specs::Json::row))]
+fn write_border_hours(
     setup: &Setup,
-    kind: &str,
+    kind: &[u8],
     border: u32,
     first: u32,
     last: u32,
-    out: &mut S,
-) -> Result<(), S::Error>
-    requires plain { IsPlain kind.now }
+    out: &mut Vec<u8>,
+) -> Result<(), AllocError>
     requires named { IsNamed setup.now }
     requires known { HasBorder setup.now border }
-    ensures { OnOk result (Sends
-        (row (quote kind.now
-        ∷ quote (printed.arc_text setup.now (record { border = border; forward = true }))
-        ∷ quote (hour_text first) ∷ quote (hour_text last) ∷ []))
-        (S.written out.old) (S.written out.new)) }
+    ensures { OnOk result (out.new.items ≡ out.old.items ++ row (quote kind.now ∷ quote (printed.arc_text setup.now (record { border = border; forward = true })) ∷ quote (hour_text first) ∷ quote (hour_text last) ∷ [])) }
 {
     let arc = Arc {
         border,
         forward: true,
     };
-    out.begin_seq(Some(4))?;
-    write_word(kind, out)?;
+    begin_row(kind, out)?;
+    out.push(b',')?;
     write_arc(setup, arc, out)?;
-    write_spelled(&Hour(first), out)?;
-    write_spelled(&Hour(last), out)?;
-    out.end_seq()
+    write_next(&Hour(first), out)?;
+    write_next(&Hour(last), out)?;
+    out.push(b']')?;
+    Ok(())
 }
 
 // An hour that went on to a phase.
-fn write_gated<S: Serializer>(hour: u32, phase: Phase, out: &mut S) -> Result<(), S::Error>
-    ensures { OnOk result (Sends
-        (row (quote (codes "gated") ∷ quote (hour_text hour) ∷ quote (phase_text phase) ∷ []))
-        (S.written out.old) (S.written out.new)) }
+#[tactic(auto, unfolding(crate::specs::Json::row))]
+fn write_gated(hour: u32, phase: Phase, out: &mut Vec<u8>) -> Result<(), AllocError>
+    ensures { OnOk result (out.new.items ≡ out.old.items ++ row (quote (codes "gated") ∷ quote (hour_text hour) ∷ quote (phase_text phase) ∷ [])) }
 {
-    out.begin_seq(Some(3))?;
-    write_word("gated", out)?;
-    write_spelled(&Hour(hour), out)?;
-    write_spelled(&phase, out)?;
-    out.end_seq()
+    begin_row(b"gated", out)?;
+    write_next(&Hour(hour), out)?;
+    write_next(&phase, out)?;
+    out.push(b']')?;
+    Ok(())
 }
 
 // An order or a block that left the order book, or became smaller.
-fn write_order_change<S: Serializer>(
-    kind: &str,
+#[tactic(auto, unfolding(crate::specs::Json::row))]
+fn write_order_change(
+    kind: &[u8],
     name: OrderName,
     lots: u32,
-    out: &mut S,
-) -> Result<(), S::Error>
-    requires { IsPlain kind.now }
-    ensures { OnOk result (Sends
-        (row (quote kind.now ∷ quote (name_text name) ∷ quote (printed.quantity_text lots) ∷ []))
-        (S.written out.old) (S.written out.new)) }
+    out: &mut Vec<u8>,
+) -> Result<(), AllocError>
+    ensures { OnOk result (out.new.items ≡ out.old.items ++ row (quote kind.now ∷ quote (name_text name) ∷ quote (printed.quantity_text lots) ∷ [])) }
 {
-    out.begin_seq(Some(3))?;
-    write_word(kind, out)?;
-    write_spelled(&name, out)?;
-    write_spelled(&Quantity(lots as u64), out)?;
-    out.end_seq()
+    begin_row(kind, out)?;
+    write_next(&name, out)?;
+    write_next(&Quantity(lots as u64), out)?;
+    out.push(b']')?;
+    Ok(())
 }

@@ -1,22 +1,22 @@
 //! Entries as lines.
 
-ghost use Rattle.std.specs.Prelude.{◌≡◌, [], ◌∷◌, IfOk, OnOk, All, codes, decimal};
+ghost use Rattle.std.specs.Prelude.{◌≡◌, [], ◌∷◌, ◌++◌, IfOk, OnOk, All, codes, decimal};
 ghost use Rattle.market_model.specs.Naming.{IsNamed, IsEventIn, IsRefusalIn, IsEntryIn};
 ghost use Rattle.order_kinds.specs.Price.{price_text};
-ghost use Rattle.journal_print.specs.Json.{IsPlain, quote, row, braces};
-ghost use Rattle.journal_print.specs.Known.{IsEntryIn-prop};
+ghost use Rattle.journal_print.specs.Json.{quote, row, braces};
 ghost use Rattle.journal_print.specs.Line as printed;
-ghost use Rattle.journal_print.specs.Value.{Sends, SendsMember, BeginsLine};
 
 use crate::event::write_events;
 use crate::names::caller_name;
 use crate::refusal::write_refusal;
-use crate::spelling::{Quantity, write_spelled, write_word};
+use crate::spelling::{Quantity, write_comma, write_next, write_number, write_spelled, write_word};
 use market_model::{Entry, Event, Refusal, Reply, Setup, ViewRow};
 use order_kinds::Price;
-use serde::{Described, Serialize, Serializer};
-use std::alloc::Global;
+use std::alloc::{AllocError, Global};
 use zone_graph::{NoMemory, Text};
+
+// Room for a line of some length, so that most are written in one piece of memory.
+const ROOM: usize = 256;
 
 /// The line of an entry that stands at this place of the journal, counted from 1: JSON (RFC 8259)
 /// without spaces, the keys in the order of bytes, and a line feed. Quantities are printed in MW
@@ -24,8 +24,7 @@ use zone_graph::{NoMemory, Text};
 ///
 /// # Errors
 ///
-/// Want of memory. The writer of JSON does not state that it fails for no other reason; any error
-/// of it is given as want of memory.
+/// Want of memory.
 pub fn print_entry(
     alloc: Global,
     setup: &Setup,
@@ -36,166 +35,128 @@ pub fn print_entry(
     requires within { IsEntryIn setup.now entry.now }
     ensures line { IfOk result (λ text. text ≡ printed.entry_line setup.now place entry.now) }
 {
-    let line = Line {
-        setup,
-        place,
-        entry,
-    };
-    let mut text = match serde_json::to_vec(alloc, &line) {
-        Ok(text) => text,
-        Err(_) => return Err(NoMemory),
-    };
-    text.push(b'\n')?;
-    Ok(Text::from(text))
+    let mut out = Vec::with_capacity(alloc, ROOM)?;
+    write_entry(setup, place, entry, &mut out)?;
+    out.push(b'\n')?;
+    Ok(Text::from(out))
 }
 
 // An entry at its place of the journal, as an object.
-#[derive(Drop)]
-struct Line<'a> {
-    setup: &'a Setup,
+fn write_entry(
+    setup: &Setup,
     place: u64,
-    entry: &'a Entry,
-    ghost named: { IsNamed setup.now },
-    ghost within: { IsEntryIn setup.now entry.now } by { IsEntryIn-prop setup.now entry.now },
-}
-
-impl Described for Line<'_> {
-    ghost writes = { λ line. Sends
-        (braces (printed.entry_members line.setup.now line.place line.entry.now)) };
-}
-
-impl Serialize for Line<'_> {
-    fn serialize<S: Serializer>(&self, out: &mut S) -> Result<(), S::Error> {
-        let caller = caller_name(self.setup, self.entry.caller);
-        let nth = self.entry.nth;
-        match &self.entry.reply {
-            Reply::Done(events) => {
-                write_done(self.setup, caller, nth, self.place, events.as_slice(), out)
-            }
-            Reply::Seen(rows) => write_seen(caller, nth, self.place, rows.as_slice(), out),
-            Reply::Refused(refusal) => {
-                write_refused(self.setup, caller, nth, self.place, refusal, out)
-            }
-        }
+    entry: &Entry,
+    out: &mut Vec<u8>,
+) -> Result<(), AllocError>
+    requires named { IsNamed setup.now }
+    requires within { IsEntryIn setup.now entry.now }
+    ensures { OnOk result (out.new.items ≡ out.old.items ++ braces (printed.entry_members setup.now place entry.now)) }
+{
+    let caller = caller_name(setup, entry.caller);
+    let nth = entry.nth;
+    match &entry.reply {
+        Reply::Done(events) => write_done(setup, caller, nth, place, events.as_slice(), out),
+        Reply::Seen(rows) => write_seen(caller, nth, place, rows.as_slice(), out),
+        Reply::Refused(refusal) => write_refused(setup, caller, nth, place, refusal, out),
     }
 }
 
 // An entry with events.
-fn write_done<S: Serializer>(
+#[tactic(auto, unfolding(crate::specs::Json::quote, crate::specs::Json::braces))]
+fn write_done(
     setup: &Setup,
-    caller: &str,
+    caller: &[u8],
     nth: u32,
     place: u64,
     events: &[Event],
-    out: &mut S,
-) -> Result<(), S::Error>
-    requires plain { IsPlain caller.now }
+    out: &mut Vec<u8>,
+) -> Result<(), AllocError>
     requires named { IsNamed setup.now }
     requires within { All (IsEventIn setup.now) events.now }
-    ensures { OnOk result (Sends
-        (braces (printed.done_members caller.now nth place (printed.event_rows setup.now events.now)))
-        (S.written out.old) (S.written out.new)) }
+    ensures { OnOk result (out.new.items ≡ out.old.items ++ braces (printed.done_members caller.now nth place (printed.event_rows setup.now events.now))) }
 {
     begin_line(caller, nth, out)?;
-    out.key("done")?;
+    out.extend_from_slice(b",\"done\":")?;
     write_events(setup, events, out)?;
-    write_number_member("entry", place, out)?;
-    out.end_map()
+    out.extend_from_slice(b",\"entry\":")?;
+    write_number(place, out)?;
+    out.push(b'}')?;
+    Ok(())
 }
 
 // An entry with the rows of a view.
-fn write_seen<S: Serializer>(
-    caller: &str,
+#[tactic(auto, unfolding(crate::specs::Json::quote, crate::specs::Json::braces))]
+fn write_seen(
+    caller: &[u8],
     nth: u32,
     place: u64,
     rows: &[ViewRow],
-    out: &mut S,
-) -> Result<(), S::Error>
-    requires { IsPlain caller.now }
-    ensures { OnOk result (Sends
-        (braces (printed.seen_members caller.now nth place (printed.view_rows rows.now)))
-        (S.written out.old) (S.written out.new)) }
+    out: &mut Vec<u8>,
+) -> Result<(), AllocError>
+    ensures { OnOk result (out.new.items ≡ out.old.items ++ braces (printed.seen_members caller.now nth place (printed.view_rows rows.now))) }
 {
     begin_line(caller, nth, out)?;
-    write_number_member("entry", place, out)?;
-    out.key("rows")?;
+    out.extend_from_slice(b",\"entry\":")?;
+    write_number(place, out)?;
+    out.extend_from_slice(b",\"rows\":")?;
     write_view(rows, out)?;
-    out.end_map()
+    out.push(b'}')?;
+    Ok(())
 }
 
 // An entry with a refusal.
-fn write_refused<S: Serializer>(
+#[tactic(auto, unfolding(crate::specs::Json::quote, crate::specs::Json::braces))]
+fn write_refused(
     setup: &Setup,
-    caller: &str,
+    caller: &[u8],
     nth: u32,
     place: u64,
     refusal: &Refusal,
-    out: &mut S,
-) -> Result<(), S::Error>
-    requires plain { IsPlain caller.now }
-    requires named { IsNamed setup.now }
-    requires within { IsRefusalIn setup.now refusal.now }
-    ensures { OnOk result (Sends
-        (braces (printed.refused_members caller.now nth place
-        (printed.refusal_parts setup.now refusal.now)))
-        (S.written out.old) (S.written out.new)) }
+    out: &mut Vec<u8>,
+) -> Result<(), AllocError>
+    requires { IsRefusalIn setup.now refusal.now }
+    ensures { OnOk result (out.new.items ≡ out.old.items ++ braces (printed.refused_members caller.now nth place (printed.refusal_parts setup.now refusal.now))) }
 {
     begin_line(caller, nth, out)?;
-    write_number_member("entry", place, out)?;
-    out.key("refused")?;
+    out.extend_from_slice(b",\"entry\":")?;
+    write_number(place, out)?;
+    out.extend_from_slice(b",\"refused\":")?;
     write_refusal(setup, refusal, out)?;
-    out.end_map()
+    out.push(b'}')?;
+    Ok(())
 }
 
 // The first half of a line's object: the caller, and which of the caller's entries it is.
-fn begin_line<S: Serializer>(caller: &str, nth: u32, out: &mut S) -> Result<(), S::Error>
-    requires { IsPlain caller.now }
-    ensures { OnOk result (BeginsLine caller.now nth (S.written out.old) (S.written out.new)) }
+fn begin_line(caller: &[u8], nth: u32, out: &mut Vec<u8>) -> Result<(), AllocError>
+    ensures { OnOk result (out.new.items ≡ out.old.items ++ (codes "{\"caller\":" ++ (quote caller.now ++ (codes ",\"command\":" ++ decimal nth)))) }
 {
-    out.begin_map(Some(4))?;
-    write_text_member("caller", caller, out)?;
-    write_number_member("command", nth as u64, out)
-}
-
-// A member of an object whose value is a plain text.
-fn write_text_member<S: Serializer>(key: &str, text: &str, out: &mut S) -> Result<(), S::Error>
-    requires { IsPlain text.now }
-    ensures { OnOk result (SendsMember (key.now, quote text.now)
-        (S.written out.old) (S.written out.new)) }
-{
-    out.key(key)?;
-    write_word(text, out)
-}
-
-// A member of an object whose value is a number.
-fn write_number_member<S: Serializer>(key: &str, number: u64, out: &mut S) -> Result<(), S::Error>
-    ensures { OnOk result (SendsMember (key.now, decimal number)
-        (S.written out.old) (S.written out.new)) }
-{
-    out.key(key)?;
-    out.u64(number)
+    out.extend_from_slice(b"{\"caller\":")?;
+    write_word(caller, out)?;
+    out.extend_from_slice(b",\"command\":")?;
+    write_number(nth, out)
 }
 
 // The rows of a view, each as an array of price and quantity.
-fn write_view<S: Serializer>(rows: &[ViewRow], out: &mut S) -> Result<(), S::Error>
-    ensures { OnOk result (Sends (row (printed.view_rows rows.now))
-        (S.written out.old) (S.written out.new)) }
+fn write_view(rows: &[ViewRow], out: &mut Vec<u8>) -> Result<(), AllocError>
+    ensures { OnOk result (out.new.items ≡ out.old.items ++ row (printed.view_rows rows.now)) }
 {
-    out.begin_seq(Some(rows.len()))?;
-    for offer in rows {
+    out.push(b'[')?;
+    for (place, offer) in rows.iter().enumerate() {
+        write_comma(place, out)?;
         write_offer(offer.price, offer.lots, out)?;
     }
-    out.end_seq()
+    out.push(b']')?;
+    Ok(())
 }
 
 // One row of a view.
-fn write_offer<S: Serializer>(price: Price, lots: u32, out: &mut S) -> Result<(), S::Error>
-    ensures { OnOk result (Sends
-        (row (quote (price_text price) ∷ quote (printed.quantity_text lots) ∷ []))
-        (S.written out.old) (S.written out.new)) }
+#[tactic(auto, unfolding(crate::specs::Json::row))]
+fn write_offer(price: Price, lots: u32, out: &mut Vec<u8>) -> Result<(), AllocError>
+    ensures { OnOk result (out.new.items ≡ out.old.items ++ row (quote (price_text price) ∷ quote (printed.quantity_text lots) ∷ [])) }
 {
-    out.begin_seq(Some(2))?;
+    out.push(b'[')?;
     write_spelled(&price, out)?;
-    write_spelled(&Quantity(lots as u64), out)?;
-    out.end_seq()
+    write_next(&Quantity(lots as u64), out)?;
+    out.push(b']')?;
+    Ok(())
 }

@@ -1,50 +1,82 @@
-//! Numbers and names as short texts, which take no memory.
+//! Numbers and names, as they are put at the end of a line.
 
-ghost use Rattle.std.specs.Prelude.{◌≡◌, ◌+◌, ◌<◌, ◌≤◌, ℕ, List, [], ◌∷◌, ◌++◌, length, OnOk};
-ghost use Rattle.arrayvec.specs.ArrayString.{array_string_len};
+ghost use Rattle.std.specs.Prelude.{◌≡◌, ℕ, List, ◌∷◌, ◌++◌, OnOk, decimal};
 ghost use Rattle.order_kinds.specs.Contract.{hour_text, quarter_text, contract_text};
 ghost use Rattle.order_kinds.specs.Order.{name_text};
 ghost use Rattle.order_kinds.specs.Phase.{phase_text};
 ghost use Rattle.order_kinds.specs.Price.{price_text, cents_text};
-ghost use Rattle.journal_print.specs.Json.{IsPlain, quote};
+ghost use Rattle.journal_print.specs.Commas.{comma_before};
+ghost use Rattle.journal_print.specs.Json.{quote};
 ghost use Rattle.journal_print.specs.Line.{quantity_text};
-ghost use Rattle.journal_print.specs.Value.{Sends};
 
-use arrayvec::ArrayString;
 use itoa::{Buffer, Integer};
 use order_kinds::{Contract, OrderName, Part, Phase, Price, Quarter};
-use serde::Serializer;
-
-/// A text of at most 40 bytes, which takes no memory.
-pub(crate) type Spelling = ArrayString<40>;
+use std::alloc::AllocError;
 
 /// What has a short plain text of its own.
 pub(crate) trait Spelled {
     ghost spelling: { Self → List ℕ };
 
-    /// The text.
-    fn spell(&self) -> Spelling
-        ensures text { result.bytes ≡ spelling self.now }
-        ensures plain { IsPlain (spelling self.now) };
+    /// Puts the text at the end.
+    fn spell(&self, out: &mut Vec<u8>) -> Result<(), AllocError>
+        ensures { OnOk result (out.new.items ≡ out.old.items ++ spelling self.now) };
 }
 
 /// Writes such a text in quotation marks.
-pub(crate) fn write_spelled<T: Spelled, S: Serializer>(
-    value: &T,
-    out: &mut S,
-) -> Result<(), S::Error>
-    ensures { OnOk result (Sends (quote (T.Spelled.spelling value.now))
-        (S.written out.old) (S.written out.new)) }
+#[tactic(auto, unfolding(crate::specs::Json::quote))]
+pub(crate) fn write_spelled<T: Spelled>(value: &T, out: &mut Vec<u8>) -> Result<(), AllocError>
+    ensures { OnOk result (out.new.items ≡ out.old.items ++ quote (T.Spelled.spelling value.now)) }
 {
-    write_word(value.spell().as_str(), out)
+    out.push(b'"')?;
+    value.spell(out)?;
+    out.push(b'"')?;
+    Ok(())
+}
+
+/// Writes such a text behind a comma.
+#[tactic(auto, unfolding(crate::specs::Json::quote))]
+pub(crate) fn write_next<T: Spelled>(value: &T, out: &mut Vec<u8>) -> Result<(), AllocError>
+    ensures { OnOk result (out.new.items ≡ out.old.items ++ (44 ∷ quote (T.Spelled.spelling value.now))) }
+{
+    out.push(b',')?;
+    write_spelled(value, out)
+}
+
+/// Begins an array whose first part is a plain text.
+pub(crate) fn begin_row(word: &[u8], out: &mut Vec<u8>) -> Result<(), AllocError>
+    ensures { OnOk result (out.new.items ≡ out.old.items ++ (91 ∷ quote word.now)) }
+{
+    out.push(b'[')?;
+    write_word(word, out)
 }
 
 /// Writes a plain text in quotation marks.
-pub(crate) fn write_word<S: Serializer>(word: &str, out: &mut S) -> Result<(), S::Error>
-    requires { IsPlain word.now }
-    ensures { OnOk result (Sends (quote word.now) (S.written out.old) (S.written out.new)) }
+#[tactic(auto, unfolding(crate::specs::Json::quote))]
+pub(crate) fn write_word(word: &[u8], out: &mut Vec<u8>) -> Result<(), AllocError>
+    ensures { OnOk result (out.new.items ≡ out.old.items ++ quote word.now) }
 {
-    out.str(word)
+    out.push(b'"')?;
+    out.extend_from_slice(word)?;
+    out.push(b'"')?;
+    Ok(())
+}
+
+/// Writes the comma in front of an item of this place, counted from 0, but none in front of the first.
+pub(crate) fn write_comma(place: usize, out: &mut Vec<u8>) -> Result<(), AllocError>
+    ensures { OnOk result (out.new.items ≡ out.old.items ++ comma_before place) }
+{
+    if place == 0 {
+        return Ok(());
+    }
+    out.push(b',')?;
+    Ok(())
+}
+
+/// Writes the digits of a number.
+pub(crate) fn write_number<I: Integer>(number: I, out: &mut Vec<u8>) -> Result<(), AllocError>
+    ensures { OnOk result (out.new.items ≡ out.old.items ++ I.text number) }
+{
+    out.extend_from_slice(Buffer::new().format(number).as_bytes())
 }
 
 /// An hour of the delivery day, by its number.
@@ -54,39 +86,27 @@ pub(crate) struct Hour(pub u32);
 impl Spelled for Hour {
     ghost spelling = { λ hour. hour_text hour.0 };
 
-    fn spell(&self) -> Spelling {
-        spell_hour(self.0)
+    fn spell(&self, out: &mut Vec<u8>) -> Result<(), AllocError> {
+        write_hour(self.0, out)
     }
 }
 
 impl Spelled for Quarter {
     ghost spelling = { quarter_text };
 
-    fn spell(&self) -> Spelling {
-        let mut text = spell_hour(self.hour);
-        text.push_str("q");
-        add_number(&mut text, self.number);
-        text
+    fn spell(&self, out: &mut Vec<u8>) -> Result<(), AllocError> {
+        write_numbered(self.hour, b'q', self.number, out)
     }
 }
 
 impl Spelled for Contract {
     ghost spelling = { contract_text };
 
-    fn spell(&self) -> Spelling {
-        let mut text = spell_hour(self.hour);
+    fn spell(&self, out: &mut Vec<u8>) -> Result<(), AllocError> {
         match self.part {
-            Part::Hour => text,
-            Part::Quarter(number) => {
-                text.push_str("q");
-                add_number(&mut text, number);
-                text
-            }
-            Part::Half(number) => {
-                text.push_str("f");
-                add_number(&mut text, number);
-                text
-            }
+            Part::Hour => write_hour(self.hour, out),
+            Part::Quarter(number) => write_numbered(self.hour, b'q', number, out),
+            Part::Half(number) => write_numbered(self.hour, b'f', number, out),
         }
     }
 }
@@ -94,37 +114,33 @@ impl Spelled for Contract {
 impl Spelled for OrderName {
     ghost spelling = { name_text };
 
-    fn spell(&self) -> Spelling {
-        let mut text = spell_hour(self.hour);
-        text.push_str("#");
-        add_number(&mut text, self.number);
-        text
+    fn spell(&self, out: &mut Vec<u8>) -> Result<(), AllocError> {
+        write_numbered(self.hour, b'#', self.number, out)
     }
 }
 
 impl Spelled for Phase {
     ghost spelling = { phase_text };
 
-    fn spell(&self) -> Spelling {
-        let mut text = Spelling::new();
-        text.push_str(match self {
-            Phase::Open => "open",
-            Phase::Local => "local",
-            Phase::Closed => "closed",
-        });
-        text
+    fn spell(&self, out: &mut Vec<u8>) -> Result<(), AllocError> {
+        match self {
+            Phase::Open => out.extend_from_slice(b"open"),
+            Phase::Local => out.extend_from_slice(b"local"),
+            Phase::Closed => out.extend_from_slice(b"closed"),
+        }
     }
 }
 
 impl Spelled for Price {
     ghost spelling = { price_text };
 
-    fn spell(&self) -> Spelling {
+    fn spell(&self, out: &mut Vec<u8>) -> Result<(), AllocError> {
         let cents = self.0.unsigned_abs();
         if self.0 < 0 {
-            spell_cents("-", cents)
+            out.push(b'-')?;
+            write_cents(cents, out)
         } else {
-            spell_cents("", cents)
+            write_cents(cents, out)
         }
     }
 }
@@ -136,56 +152,38 @@ pub(crate) struct Quantity(pub u64);
 impl Spelled for Quantity {
     ghost spelling = { λ quantity. quantity_text quantity.0 };
 
-    fn spell(&self) -> Spelling {
-        let mut text = Spelling::new();
-        add_number(&mut text, self.0 / 10);
-        text.push_str(".");
-        add_digit(&mut text, (self.0 % 10) as u8);
-        text
+    fn spell(&self, out: &mut Vec<u8>) -> Result<(), AllocError> {
+        write_number(self.0 / 10, out)?;
+        out.push(b'.')?;
+        out.push(b'0' + (self.0 % 10) as u8)?;
+        Ok(())
     }
 }
 
-// Adds the digits of a number.
-fn add_number<I: Integer>(text: &mut Spelling, number: I)
-    requires { array_string_len text.old + I.MAX_STR_LEN ≤ 40 }
-    ensures bytes { text.new.bytes ≡ text.old.bytes ++ I.text number }
-    ensures few { array_string_len text.new ≤ array_string_len text.old + I.MAX_STR_LEN }
-{
-    text.push_str(Buffer::new().format(number));
-}
-
-// Adds one digit.
-#[tactic(auto, using(std::proofs::lemmas::Fmt::decimal_digit))]
-fn add_digit(text: &mut Spelling, digit: u8)
-    requires small { digit < 10 }
-    requires room { array_string_len text.old + 3 ≤ 40 }
-    ensures bytes { text.new.bytes ≡ text.old.bytes ++ (48 + digit) ∷ [] }
-    ensures few { array_string_len text.new ≤ array_string_len text.old + 3 }
-{
-    add_number(text, digit);
-}
-
 // An hour by its number.
-fn spell_hour(hour: u32) -> Spelling
-    ensures bytes { result.bytes ≡ hour_text hour }
-    ensures few { array_string_len result ≤ 11 }
+fn write_hour(hour: u32, out: &mut Vec<u8>) -> Result<(), AllocError>
+    ensures { OnOk result (out.new.items ≡ out.old.items ++ hour_text hour) }
 {
-    let mut text = Spelling::new();
-    text.push_str("h");
-    add_number(&mut text, hour);
-    text
+    out.push(b'h')?;
+    write_number(hour, out)
 }
 
-// An amount of cents behind a sign, with two digits after the point.
-fn spell_cents(sign: &str, cents: u32) -> Spelling
-    requires { length sign.now ≤ 1 }
-    ensures { result.bytes ≡ sign.now ++ cents_text cents }
+// An hour, and behind a mark the number of what is of it.
+fn write_numbered(hour: u32, mark: u8, number: u32, out: &mut Vec<u8>) -> Result<(), AllocError>
+    ensures { OnOk result (out.new.items ≡ out.old.items ++ (hour_text hour ++ (mark ∷ decimal number))) }
 {
-    let mut text = Spelling::new();
-    text.push_str(sign);
-    add_number(&mut text, cents / 100);
-    text.push_str(".");
-    add_digit(&mut text, (cents / 10 % 10) as u8);
-    add_digit(&mut text, (cents % 10) as u8);
-    text
+    write_hour(hour, out)?;
+    out.push(mark)?;
+    write_number(number, out)
+}
+
+// An amount of cents, with two digits after the point.
+fn write_cents(cents: u32, out: &mut Vec<u8>) -> Result<(), AllocError>
+    ensures { OnOk result (out.new.items ≡ out.old.items ++ cents_text cents) }
+{
+    write_number(cents / 100, out)?;
+    out.push(b'.')?;
+    out.push(b'0' + (cents / 10 % 10) as u8)?;
+    out.push(b'0' + (cents % 10) as u8)?;
+    Ok(())
 }

@@ -1,17 +1,14 @@
-use Rattle.std.proofs.Common.{rules}
-use Rattle.std.proofs.lemmas.Result.{on_ok_weaker}
-use Rattle.serde.proofs.Events.{WritesEach-more}
+use Rattle.std.proofs.Common.{rules, arith}
 use Rattle.journal_print.specs.Json.{row}
 use Rattle.journal_print.specs.Line as printed
-use Rattle.journal_print.specs.Value.{Sends}
-use Rattle.journal_print.proofs.Sent.{mapped-sent}
+use Rattle.journal_print.proofs.Joined.{joined-more, row-printed}
 use Rattle.journal_print.proofs.event.write_events.Goals as goal
 
-pub loop-event-preserved : goal.loop-event-preserved
-loop-event-preserved g c =
-    WritesEach-more (λ happened. Sends (row (printed.event_parts c.args.setup.now happened))) c.args.events.now c.loop-event.event-index _ _ _ _ (search rules) c.event-item.is c.loop-event.invariant c.in_ok-write_event.ensures
+pub loop-place-preserved : goal.loop-place-preserved
+loop-place-preserved c =
+    joined-more (λ happened. row (printed.event_parts c.args.setup.now happened)) c.args.events.now c.loop-place.place c.index-events-place.result _ _ _ _
+    c.loop-place-test.true c.loop-place.invariant c.in_ok-write_comma.ensures (search rules)
 
 pub returns : goal.returns
-returns g c =
-    on_ok_weaker c.end_seq.result (mapped-sent (λ happened. row (printed.event_parts c.args.setup.now happened)) c.args.events.now c.loop-event.event-index _ _ _ _ _ (search rules) (search rules)
-    c.in_ok-begin_seq.ensures c.loop-event.invariant) c.end_seq.ensures
+returns c =
+    row-printed (λ happened. row (printed.event_parts c.args.setup.now happened)) c.args.events.now c.loop-place.place _ _ _ _ (omega arith) c.in_ok-push.ensures.items c.loop-place.invariant c.in_ok-push-2.ensures.items

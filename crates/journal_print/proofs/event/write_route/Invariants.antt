@@ -1,11 +1,9 @@
-use Rattle.std.proofs.Common.{take}
-use Rattle.serde.specs.Event.{WritesEach}
+use Rattle.std.proofs.Common.{take, ◌≡◌, ◌++◌, map}
+use Rattle.std.specs.List.{join_with_byte}
 use Rattle.journal_print.specs.Json.{quote}
 use Rattle.journal_print.specs.Line as printed
-use Rattle.journal_print.specs.Value.{Sends}
 use Rattle.journal_print.proofs.event.write_route.Given as goal
 
-abbrev pub invariant-loop-arc : goal.invariant-loop-arc
-invariant-loop-arc g l =
-    WritesEach (λ arc. Sends (quote (printed.arc_text l.setup arc))) (take l.arc-index l.route)
-    (g.S.Serializer.written l.initial.out) (g.S.Serializer.written l.out)
+abbrev pub invariant-loop-place : goal.invariant-loop-place
+invariant-loop-place l =
+    l.out.items ≡ l.initial.out.items ++ join_with_byte 44 (map (λ arc. quote (printed.arc_text l.setup arc)) (take l.place l.route))

@@ -1,7 +1,9 @@
 use Rattle.std.proofs.lemmas.Result.{on_ok_weaker}
+use Rattle.journal_print.proofs.Joined.{line-begun}
 use Rattle.journal_print.proofs.line.begin_line.Goals as goal
 
 pub returns : goal.returns
-returns g c =
-    on_ok_weaker c.write_number_member.result (λ sent. (_, _, c.in_ok-begin_map.ensures, c.in_ok-write_text_member.ensures, sent))
-    c.write_number_member.ensures
+returns c =
+    on_ok_weaker c.write_number.result
+    (line-begun c.args.out.now.items c.args.caller.now _ _ _ _ _ c.in_ok-extend_from_slice.ensures.items c.in_ok-write_word.ensures c.in_ok-extend_from_slice-2.ensures.items)
+    c.write_number.ensures

@@ -1,10 +1,14 @@
-use Rattle.std.proofs.Common.{refl}
-use Rattle.std.proofs.lemmas.Result.{on_ok_weaker}
-use Rattle.journal_print.proofs.Sent.{braces-sent}
+use Rattle.std.proofs.Common.{◌++◌, ◌∷◌, []}
+use Rattle.std.specs.Prelude.{codes, decimal}
+use Rattle.journal_print.specs.Json.{braces, quote}
+use Rattle.journal_print.proofs.Joined.{IsBegun, ended, next_behind}
 use Rattle.journal_print.proofs.line.write_refused.Goals as goal
 
 pub returns : goal.returns
-returns g c =
-    let begun = c.in_ok-begin_line.ensures in
-    on_ok_weaker c.end_map.result (λ ended. braces-sent _ _ _ refl
-    (begun.0, _, begun.2, (begun.1, begun.3, (_, begun.4, (_, c.in_ok-write_number_member.ensures, (_, (_, c.in_ok-key.ensures, c.in_ok-write_refusal.ensures), refl)))), ended)) c.end_map.ensures
+unfolding braces quote
+returns c =
+    let members = (codes "\"caller\":" ++ quote c.args.caller.now) ∷ (codes "\"command\":" ++ decimal c.args.nth) ∷ [] in
+    let first : IsBegun 123 c.args.out.now.items members c.begin_line.new.out.items = record { text = c.in_ok-begin_line.ensures } in
+    let third = next_behind (codes "\"entry\":") _ _ _ first c.in_ok-extend_from_slice.ensures.items c.in_ok-write_number.ensures in
+    let last = next_behind (codes "\"refused\":") _ _ _ third c.in_ok-extend_from_slice-2.ensures.items c.in_ok-write_refusal.ensures in
+    ended 125 _ last c.in_ok-push.ensures.items

@@ -1,8 +1,13 @@
-use Rattle.std.proofs.Common.{refl}
-use Rattle.std.proofs.lemmas.Result.{on_ok_weaker}
-use Rattle.journal_print.proofs.Sent.{row-sent}
+use Rattle.std.proofs.Common.{◌∷◌, []}
+use Rattle.std.specs.Prelude.{codes}
+use Rattle.journal_print.specs.Json.{quote, row}
+use Rattle.journal_print.proofs.Joined.{IsBegun, ended, next, next_behind}
 use Rattle.journal_print.proofs.refusal.write_basket_unfilled.Goals as goal
 
 pub returns : goal.returns
-returns g c =
-    on_ok_weaker c.end_seq.result (λ ended. row-sent _ _ _ (_, _, c.in_ok-begin_seq.ensures, (_, c.in_ok-write_word.ensures, (_, c.in_ok-write_spelled.ensures, (_, c.in_ok-write_zones.ensures, (_, c.in_ok-write_spelled-2.ensures, refl)))), ended)) c.end_seq.ensures
+unfolding row
+returns c =
+    let name : IsBegun 91 c.args.out.now.items (quote (codes "BasketUnfilled") ∷ []) c.begin_row.new.out.items = record { text = c.in_ok-begin_row.ensures } in
+    let hour = next _ _ name c.in_ok-write_next.ensures in
+    let zones = next_behind [] _ _ _ hour c.in_ok-push.ensures.items c.in_ok-write_zones.ensures in
+    ended 93 _ (next _ _ zones c.in_ok-write_next-2.ensures) c.in_ok-push-2.ensures.items

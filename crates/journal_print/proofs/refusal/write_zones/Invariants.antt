@@ -1,11 +1,9 @@
-use Rattle.std.proofs.Common.{take}
-use Rattle.serde.specs.Event.{WritesEach}
+use Rattle.std.proofs.Common.{take, ◌≡◌, ◌++◌, map}
+use Rattle.std.specs.List.{join_with_byte}
 use Rattle.journal_print.specs.Json.{quote}
 use Rattle.journal_print.specs.Line as printed
-use Rattle.journal_print.specs.Value.{Sends}
 use Rattle.journal_print.proofs.refusal.write_zones.Given as goal
 
-abbrev pub invariant-loop-zone : goal.invariant-loop-zone
-invariant-loop-zone g l =
-    WritesEach (λ zone. Sends (quote (printed.zone_name l.setup zone))) (take l.zone-index l.zones)
-    (g.S.Serializer.written l.initial.out) (g.S.Serializer.written l.out)
+abbrev pub invariant-loop-place : goal.invariant-loop-place
+invariant-loop-place l =
+    l.out.items ≡ l.initial.out.items ++ join_with_byte 44 (map (λ zone. quote (printed.zone_name l.setup zone)) (take l.place l.zones))
