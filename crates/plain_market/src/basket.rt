@@ -90,8 +90,9 @@ fn unfilled_alone(
     ensures err { OnErr result (Grew events.old events.new) }
 {
     let before = events.as_slice().len();
-    let name = enter_and_take(alloc, grid, events, &mut HourSums::none(), caller, order)?;
-    let found = unfilled(alloc, grid, events, before + 1, name, order)?;
+    let mut sums = HourSums::none();
+    let name = enter_and_take(alloc, grid, events, &mut sums, caller, order)?;
+    let found = unfilled(alloc, grid, events, &mut sums, before + 1, name, order)?;
     cut_back(events, before);
     Ok(refuse(order.contract.hour, found))
 }

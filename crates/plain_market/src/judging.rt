@@ -14,7 +14,7 @@ ghost use Rattle.plain_orders.specs.Tallies.{AreSums};
 use event_history::History;
 use market_model::{Kind, NoMemory, Order, OrderName, Refusal, Zones};
 use plain_matching::{HourSums, cut_back};
-use plain_orders::{OrderSums, has_desk_room_over, left};
+use plain_orders::{OrderSums, has_desk_room_over, left, left_over};
 use plain_refusals::{bound, zones_in_reach};
 use std::alloc::Global;
 use zone_graph::Grid;
@@ -38,6 +38,7 @@ pub(crate) fn refusal_after(
 ) -> Result<Option<Refusal>, NoMemory>
     requires start { IsLegalOver grid.now (take entered events.old) }
     requires after { IsLegalOver grid.now events.old }
+    requires hour { name.hour ≡ order.now.contract.hour }
     requires summed { AreHourSums grid.now events.old name.hour sums.old }
     requires few { entered_count (take entered events.old) < 2 ^ 32 }
     requires part { contracts.is_known order.now.contract.part ≡ true }
@@ -48,7 +49,7 @@ pub(crate) fn refusal_after(
     ensures summed { AreHourSums grid.now events.old name.hour sums.new }
 {
     match order.kind {
-        Kind::Fok => match unfilled(alloc, grid, events, entered, name, order)? {
+        Kind::Fok => match unfilled(alloc, grid, events, sums, entered, name, order)? {
             Some(Certificate { zones, bound }) => Ok(Some(Refusal::Unfilled { zones, bound })),
             None => Ok(None),
         },
@@ -76,23 +77,27 @@ pub(crate) fn unfilled(
     alloc: Global,
     grid: &Grid,
     events: &mut History,
+    sums: &mut HourSums,
     entered: usize,
     name: OrderName,
     order: &Order,
 ) -> Result<Option<Certificate>, NoMemory>
     requires start { IsLegalOver grid.now (take entered events.old) }
     requires after { IsLegalOver grid.now events.old }
+    requires hour { name.hour ≡ order.now.contract.hour }
+    requires summed { AreHourSums grid.now events.old name.hour sums.old }
     requires few { entered_count (take entered events.old) < 2 ^ 32 }
     requires part { contracts.is_known order.now.contract.part ≡ true }
     requires zone { HasZone grid.now order.now.zone }
     ensures certificate { IfOk result (λ found. found ≡ judged.certificate grid.now (take entered events.old) events.old name order.now) }
     ensures kept { result ≡ Ok None → events.new ≡ events.old }
     ensures cut { IsCut entered events.old events.new }
+    ensures summed { AreHourSums grid.now events.old name.hour sums.new }
 {
-    if left(events, name) == 0 {
+    if left_over(alloc, events, &mut sums.orders, name)? == 0 {
         return Ok(None);
     }
-    let zones = zones_in_reach(alloc, grid, events, order)?;
+    let zones = zones_in_reach(alloc, grid, events, &mut sums.capacity, order)?;
     cut_back(events, entered);
     let bound = bound(alloc, grid, events, order, &zones)?;
     Ok(Some(Certificate { zones, bound }))

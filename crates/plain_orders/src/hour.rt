@@ -15,6 +15,9 @@ use event_history::History;
 use market_model::{Event, Events, NoMemory, OrderName};
 use std::alloc::Global;
 
+// For how many open orders there is room before a list of them grows.
+const FEW: usize = 64;
+
 /// The open orders that are named by an hour, in order of entry, as they stand.
 ///
 /// # Errors
@@ -67,7 +70,7 @@ fn list_open(
     requires sums { AreSumsOf events.now hour sums.now.tallies.items sums.now.orders.items sums.now.moment }
     ensures { IfOk result (λ made. made.items ≡ listed.open_orders events.now hour) }
 {
-    let mut standing = Vec::new(alloc);
+    let mut standing = Vec::with_capacity(alloc, FEW)?;
     for placed in sums.orders.as_slice() {
         let tally = sums.tallies[placed.name().number as usize];
         if tally.left > 0 {

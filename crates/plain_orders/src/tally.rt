@@ -1,6 +1,6 @@
 //! The sums of the orders and blocks of one hour, taken in one pass over the events.
 
-ghost use Rattle.std.specs.Prelude.{◌≡◌, ℕ, ◌+◌, ◌<◌, ◌≤◌, [], ◌∷◌, ◌++◌, IfOk, IfSome, OnOk, length, slice_index_or, take, if◌then◌else◌};
+ghost use Rattle.std.specs.Prelude.{◌≡◌, ◌≢◌, ℕ, ◌+◌, ◌<◌, ◌≤◌, true, [], ◌∷◌, ◌++◌, IfOk, IfSome, OnOk, length, slice_index_or, take, if◌then◌else◌};
 ghost use Rattle.event_history.specs.Near.{IsNear};
 ghost use Rattle.market_model.specs.History as history;
 ghost use Rattle.market_model.specs.Orders as orders;
@@ -12,7 +12,7 @@ ghost use Rattle.plain_orders.specs.Tallies as sums;
 
 use crate::placed::{PlacedOrder, order_given};
 use event_history::History;
-use market_model::{Event, Kind, NoMemory, OrderName};
+use market_model::{Event, Kind, Leg, NoMemory, OrderName};
 use std::alloc::Global;
 
 /// What the events so far come to of one order or block.
@@ -63,46 +63,33 @@ impl Tally {
         }
     }
 
-    // What it comes to after one more change.
+    // Lets one more change count.
     #[inline(always)]
-    fn after(self, change: Change) -> Tally
-        requires { sums.CanChange change self }
-        ensures { result ≡ sums.changed change self }
+    fn change(&mut self, change: Change)
+        requires { sums.CanChange change self.old }
+        ensures { self.new ≡ sums.changed change self.old }
     {
         match change {
-            Change::Enters(tally) => tally,
-            Change::Trades { lots, moment } => self.after_trade(lots, moment),
-            Change::Deals { lots } => Tally {
-                filled: self.filled + lots,
-                left: self.left - lots,
-                moment: self.moment,
-                kind: self.kind,
-            },
-            Change::Falls { lots } => Tally {
-                filled: self.filled,
-                left: self.left - lots,
-                moment: self.moment,
-                kind: self.kind,
-            },
+            Change::Enters(tally) => *self = tally,
+            Change::Trades { lots, moment } => self.trade(lots, moment),
+            Change::Deals { lots } => {
+                self.filled += lots;
+                self.left -= lots;
+            }
+            Change::Falls { lots } => self.left -= lots,
         }
     }
 
-    // What an order comes to after a leg: one that empties a peak of it gives it a new moment.
+    // Lets a leg of an order count: one that empties a peak of it gives it a new moment.
     #[inline(always)]
-    fn after_trade(self, lots: u32, moment: u64) -> Tally
-        requires { sums.CanTrade lots self }
-        ensures { result ≡ sums.traded lots moment self }
+    fn trade(&mut self, lots: u32, moment: u64)
+        requires { sums.CanTrade lots self.old }
+        ensures { self.new ≡ sums.traded lots moment self.old }
     {
-        let filled = self.filled + lots;
-        Tally {
-            filled,
-            left: self.left - lots,
-            moment: if ends_peak(self.kind, filled) {
-                moment
-            } else {
-                self.moment
-            },
-            kind: self.kind,
+        self.filled += lots;
+        self.left -= lots;
+        if ends_peak(self.kind, self.filled) {
+            self.moment = moment;
         }
     }
 }
@@ -204,9 +191,7 @@ fn sum_on(
         let event = &near[place];
         if touches(event, hour) {
             moment += 1;
-            make_place(&mut tallies, hour, event)?;
-            list(&mut orders, hour, event)?;
-            take_in(tallies.as_mut_slice(), hour, moment, event);
+            take_in(&mut tallies, &mut orders, hour, moment, event)?;
         }
     }
     Ok(OrderSums {
@@ -215,29 +200,6 @@ fn sum_on(
         moment,
         count: events.len(),
     })
-}
-
-// Makes a place for what an event enters by the hour.
-#[inline(always)]
-fn make_place(tallies: &mut Vec<Tally>, hour: u32, event: &Event) -> Result<(), NoMemory>
-    ensures { OnOk result (tallies.new.items ≡ sums.with_place hour event.now tallies.old.items) }
-{
-    if enters_in(event, hour) {
-        tallies.push(Tally::NOTHING)?;
-    }
-    Ok(())
-}
-
-// Puts the order that an event enters by the hour, if it does, behind others.
-#[inline(always)]
-fn list(orders: &mut Vec<PlacedOrder>, hour: u32, event: &Event) -> Result<(), NoMemory>
-    ensures { OnOk result (orders.new.items ≡ orders.old.items ++ filter_map (order_given hour) (event.now ∷ [])) }
-{
-    match order_given(event, hour) {
-        Some(order) => orders.push(order)?,
-        None => {}
-    }
-    Ok(())
 }
 
 /// How many orders and blocks entered that are named by an hour.
@@ -265,39 +227,95 @@ fn enters_in(event: &Event, hour: u32) -> bool
     }
 }
 
-// Takes in one event of the hour, which is the one of this place.
+// Takes in one event of the hour, which is the one of this place. What it enters by the hour gets a place,
+// and an order stands behind the others.
 #[inline(always)]
-fn take_in(tallies: &mut [Tally], hour: u32, moment: u64, event: &Event)
-    requires { sums.CanTakeIn hour event.now tallies.old }
-    ensures { (number : ℕ) (d : Tally) → number < length tallies.old → slice_index_or tallies.new number d ≡ sums.after_event (record { hour = hour; number = number }) moment event.now (slice_index_or tallies.old number d) }
+fn take_in(
+    tallies: &mut Vec<Tally>,
+    orders: &mut Vec<PlacedOrder>,
+    hour: u32,
+    moment: u64,
+    event: &Event,
+) -> Result<(), NoMemory>
+    requires own { history.touches hour event.now ≡ true }
+    requires can { sums.CanTakeIn hour event.now (sums.with_place hour event.now tallies.old.items) }
+    ensures size { OnOk result (length tallies.new.items ≡ length (sums.with_place hour event.now tallies.old.items)) }
+    ensures tallies { OnOk result ((number : ℕ) (d : Tally) → number < length (sums.with_place hour event.now tallies.old.items) → slice_index_or tallies.new.items number d ≡ sums.after_event (record { hour = hour; number = number }) moment event.now (slice_index_or (sums.with_place hour event.now tallies.old.items) number d)) }
+    ensures orders { OnOk result (orders.new.items ≡ orders.old.items ++ filter_map (order_given hour) (event.now ∷ [])) }
 {
     match event {
-        Event::Entered { name, order, .. } => {
+        Event::Leg { leg, .. } => take_leg(tallies.as_mut_slice(), hour, moment, leg),
+        Event::Entered {
+            name,
+            caller,
+            order,
+        } => {
             let entering = Tally::new(order.quantity.0, moment, order.kind);
-            apply(tallies, hour, *name, Change::Enters(entering));
+            enter(tallies, hour, *name, entering)?;
+            orders.push(PlacedOrder {
+                name: *name,
+                caller: *caller,
+                order: *order,
+            })?;
         }
         Event::EnteredBlock { name, order, .. } => {
             let entering = Tally::new(order.quantity.0, moment, Kind::Limit);
-            apply(tallies, hour, *name, Change::Enters(entering));
+            enter(tallies, hour, *name, entering)?;
         }
-        Event::Leg { leg, .. } => {
-            let trade = Change::Trades {
-                lots: leg.lots,
-                moment,
-            };
-            apply(tallies, hour, leg.taker, trade);
-            apply(tallies, hour, leg.maker, trade);
-        }
-        Event::BlockLeg { leg, .. } => {
-            let deal = Change::Deals { lots: leg.lots };
-            apply(tallies, hour, leg.taker, deal);
-            apply(tallies, hour, leg.maker, deal);
-        }
+        Event::BlockLeg { leg, .. } => take_block_leg(tallies.as_mut_slice(), hour, leg),
         Event::Withdrawn { name, lots } | Event::Reduced { name, by: lots } => {
-            apply(tallies, hour, *name, Change::Falls { lots: *lots });
+            let fall = Change::Falls { lots: *lots };
+            apply(tallies.as_mut_slice(), hour, *name, fall);
         }
         _ => {}
     }
+    Ok(())
+}
+
+// Makes the next place, and puts what enters by the hour at its number.
+#[inline(always)]
+fn enter(
+    tallies: &mut Vec<Tally>,
+    hour: u32,
+    name: OrderName,
+    entering: Tally,
+) -> Result<(), NoMemory>
+    requires { name.hour ≡ hour → name.number < length (tallies.old.items ++ sums.nothing ∷ []) }
+    ensures size { OnOk result (length tallies.new.items ≡ length (tallies.old.items ++ sums.nothing ∷ [])) }
+    ensures tallies { OnOk result ((number : ℕ) (d : Tally) → number < length (tallies.old.items ++ sums.nothing ∷ []) → slice_index_or tallies.new.items number d ≡ (if same_name name (record { hour = hour; number = number }) then entering else slice_index_or (tallies.old.items ++ sums.nothing ∷ []) number d)) }
+{
+    tallies.push(Tally::NOTHING)?;
+    apply(tallies.as_mut_slice(), hour, name, Change::Enters(entering));
+    Ok(())
+}
+
+// Takes in a leg of orders, which is the event of this place in the hour.
+#[inline(always)]
+fn take_leg(tallies: &mut [Tally], hour: u32, moment: u64, leg: &Leg)
+    requires apart { leg.now.taker ≢ leg.now.maker }
+    requires taker { sums.CanApply hour leg.now.taker (Change.Trades leg.now.lots moment) tallies.old }
+    requires maker { sums.CanApply hour leg.now.maker (Change.Trades leg.now.lots moment) tallies.old }
+    ensures { (number : ℕ) (d : Tally) → number < length tallies.old → slice_index_or tallies.new number d ≡ (if orders.names leg.now (record { hour = hour; number = number }) then sums.traded leg.now.lots moment (slice_index_or tallies.old number d) else slice_index_or tallies.old number d) }
+{
+    let trade = Change::Trades {
+        lots: leg.lots,
+        moment,
+    };
+    apply(tallies, hour, leg.taker, trade);
+    apply(tallies, hour, leg.maker, trade);
+}
+
+// Takes in a leg of blocks.
+#[inline(always)]
+fn take_block_leg(tallies: &mut [Tally], hour: u32, leg: &Leg)
+    requires apart { leg.now.taker ≢ leg.now.maker }
+    requires taker { sums.CanApply hour leg.now.taker (Change.Deals leg.now.lots) tallies.old }
+    requires maker { sums.CanApply hour leg.now.maker (Change.Deals leg.now.lots) tallies.old }
+    ensures { (number : ℕ) (d : Tally) → number < length tallies.old → slice_index_or tallies.new number d ≡ (if orders.names leg.now (record { hour = hour; number = number }) then sums.changed (Change.Deals leg.now.lots) (slice_index_or tallies.old number d) else slice_index_or tallies.old number d) }
+{
+    let deal = Change::Deals { lots: leg.lots };
+    apply(tallies, hour, leg.taker, deal);
+    apply(tallies, hour, leg.maker, deal);
 }
 
 // Changes what the order or block of a name comes to, where it is of the hour.
@@ -307,8 +325,7 @@ fn apply(tallies: &mut [Tally], hour: u32, name: OrderName, change: Change)
     ensures { (number : ℕ) (d : Tally) → number < length tallies.old → slice_index_or tallies.new number d ≡ (if same_name name (record { hour = hour; number = number }) then sums.changed change (slice_index_or tallies.old number d) else slice_index_or tallies.old number d) }
 {
     if name.hour == hour {
-        let place = name.number as usize;
-        tallies[place] = tallies[place].after(change);
+        tallies[name.number as usize].change(change);
     }
 }
 

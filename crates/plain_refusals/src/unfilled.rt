@@ -1,6 +1,6 @@
 //! The certificate of an order that is not filled.
 
-ghost use Rattle.std.specs.Prelude.{◌≡◌, ◌+◌, ◌*◌, ◌^◌, ◌<◌, ◌≤◌, true, All, IfOk, length};
+ghost use Rattle.std.specs.Prelude.{◌≡◌, ◌+◌, ◌*◌, ◌^◌, ◌<◌, ◌≤◌, true, All, IfOk, IfSome, length};
 ghost use Rattle.order_kinds.specs.Contract.{is_known};
 ghost use Rattle.order_kinds.specs.Period.{contract_quarters};
 ghost use Rattle.order_kinds.specs.Same.{same_side};
@@ -11,38 +11,43 @@ ghost use Rattle.market_model.specs.History.{entered_count};
 ghost use Rattle.market_model.specs.Lines as lines;
 ghost use Rattle.market_model.specs.Room as rooms;
 ghost use Rattle.market_model.specs.WellFormed.{IsLegalOver};
+ghost use Rattle.plain_capacity.specs.Sums.{AreCapacitySums};
 ghost use Rattle.plain_refusals.specs.Crossing as crossing;
 
 use crate::crossing::crossing_lots_inside;
 use cut_proof::{border_bound, reach};
 use event_history::History;
 use market_model::{NoMemory, Order, Side, Zones};
-use plain_capacity::contract_rooms;
+use plain_capacity::{CapacitySums, contract_rooms, contract_rooms_over};
 use plain_orders::{StandingOrder, line, open_orders};
 use std::alloc::Global;
 use zone_graph::Grid;
 
 /// The zones that an order's zone can still trade with after some events: those that a buy is reached
-/// from, those that a sell reaches.
+/// from, those that a sell reaches. The capacity of the order's hour is summed up where there is none yet,
+/// or takes in the events that have come since, and stays for the next call.
 ///
 /// # Errors
 ///
-/// [`NoMemory`], where there is no memory for the rooms or for the zones.
+/// [`NoMemory`], where there is no memory for the capacity of the hour, for the rooms or for the zones.
 pub fn zones_in_reach(
     alloc: Global,
     grid: &Grid,
     events: &History,
+    capacity: &mut Option<CapacitySums>,
     order: &Order,
 ) -> Result<Zones, NoMemory>
     requires legal { IsLegalOver grid.now events.now }
     requires part { is_known order.now.contract.part ≡ true }
     requires zone { HasZone grid.now order.now.zone }
+    requires summed { IfSome capacity.old (AreCapacitySums grid.now events.now order.now.contract.hour) }
     ensures zones { IfOk result (λ zones. zones ≡ certificates.zones_in_reach grid.now (rooms.room events.now (contract_quarters order.now.contract)) order.now.side order.now.zone) }
     ensures within { IfOk result (λ zones. All (HasZone grid.now) zones) }
+    ensures summed { IfSome capacity.new (AreCapacitySums grid.now events.now order.now.contract.hour) }
 {
     let count = grid.zones();
     prove!(count <= 64);
-    let rooms = contract_rooms(alloc, grid, events, order.contract)?;
+    let rooms = contract_rooms_over(alloc, grid, events, capacity, order.contract)?;
     reach(alloc, grid, &rooms, order.zone, is_buy(order.side))
 }
 

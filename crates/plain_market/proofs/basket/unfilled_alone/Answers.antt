@@ -47,4 +47,4 @@ returns-clause-kept c =
     (ap length c.as_slice-before.ensures) c.in_ok-name.ensures.name c.in_ok-name.ensures.ok) c.unfilled.ensures.cut
 
 pub enter_and_take-requires-clause-summed : goal.enter_and_take-requires-clause-summed
-enter_and_take-requires-clause-summed c = c.none.ensures c.args.grid.now c.args.events.now c.args.order.now.contract.hour
+enter_and_take-requires-clause-summed c = c.none-sums.ensures c.args.grid.now c.args.events.now c.args.order.now.contract.hour

@@ -1,17 +1,17 @@
 use Rattle.std.proofs.Common.{◌∙◌, ◌≡◌, ◌+◌, ◌++◌, [], ◌∷◌, inl, Global, Vec, ap, arith, length, refl, subst, sym, take, true, false}
-use Rattle.std.proofs.lemmas.List.{take_all, with_items_is}
+use Rattle.std.proofs.lemmas.List.{take_all}
 use Rattle.std.proofs.lemmas.List.Elements.{filter_map-append}
 use Rattle.std.specs.List.{filter_map}
 use Rattle.market_model.specs.History.{of_hour, touches}
 use Rattle.plain_orders.specs.Listed.{order_given}
 use Rattle.plain_orders.specs.declared.placed.PlacedOrder.{PlacedOrder}
 use Rattle.plain_orders.specs.declared.tally.Tally.{Tally}
-use Rattle.plain_orders.specs.Tallies.{AreTallies, CanTakeIn, entered_in, with_place}
+use Rattle.plain_orders.specs.Tallies.{AreTallies, entered_in, with_place}
 use Rattle.plain_orders.proofs.Listing.{listed-same, order-elsewhere}
 use Rattle.plain_orders.proofs.Taken.{count-more, count-same, hour-few}
 use Rattle.plain_orders.proofs.Near.{near-agree, near-at, near-can, near-entered, near-orders, near-passed, near-placed_more, near-size, near-size_same, near-taken, near-tallies}
 use Rattle.plain_orders.proofs.tally.sum_on.Goals as goal
-use Rattle.plain_orders.proofs.tally.sum_on.Goals.{then-touches+in_ok-make_place+in_ok-list, else-touches}
+use Rattle.plain_orders.proofs.tally.sum_on.Goals.{then-touches+in_ok-take_in, else-touches}
 
 pub overflow_add-moment : goal.overflow_add-moment
 overflow_add-moment c =
@@ -19,47 +19,41 @@ overflow_add-moment c =
     let is = c.loop-place.invariant.moment_is in
     omega (arith, few, is)
 
-pub take_in-requires : goal.take_in-requires
-take_in-requires c =
+pub take_in-requires-clause-can : goal.take_in-requires-clause-can
+take_in-requires-clause-can c =
     let here = near-at c.args.hour c.args.events.now c.args.near.now c.requires.history c.requires.near c.loop-place.place c.index-near-place.result
     c.loop-place-test.true c.index-near-place.is in
-    let made : c.as_mut_slice.result.now ≡ with_place c.args.hour c.index-near-place.result c.loop-place.tallies.items = c.as_mut_slice.ensures.value ∙ c.in_ok-make_place.ensures in
-    subst (CanTakeIn c.args.hour c.index-near-place.result) (sym made)
-    (near-can c.args.hour c.args.events.now c.args.near.now c.loop-place.place c.index-near-place.result here
+    near-can c.args.hour c.args.events.now c.args.near.now c.loop-place.place c.index-near-place.result here
     (with_place c.args.hour c.index-near-place.result c.loop-place.tallies.items)
     (near-placed_more c.args.hour c.args.events.now c.args.near.now c.loop-place.place c.index-near-place.result here c.loop-place.tallies.items
     c.loop-place.invariant.size c.loop-place.invariant.tell)
     (near-size c.args.hour c.args.events.now c.args.near.now c.loop-place.place c.index-near-place.result here c.loop-place.tallies.items
-    c.loop-place.invariant.size))
+    c.loop-place.invariant.size)
 
 pub loop-place-preserved : goal.loop-place-preserved
 loop-place-preserved c =
     let here = near-at c.args.hour c.args.events.now c.args.near.now c.requires.history c.requires.near c.loop-place.place c.index-near-place.result
     c.loop-place-test.true c.index-near-place.is in
     elim c.if-touches.branch [
-      | then-touches+in_ok-make_place+in_ok-list w ↦
+      | then-touches+in_ok-take_in w ↦
           let touch : touches c.args.hour c.index-near-place.result ≡ true = sym c.touches.ensures ∙ w.if-touches.true in
           let was = c.loop-place.invariant.moment_is in
-          let made : w.as_mut_slice.result.now ≡ with_place c.args.hour c.index-near-place.result c.loop-place.tallies.items = w.as_mut_slice.ensures.value ∙ w.in_ok-make_place.ensures in
-          let tell : AreTallies (take c.loop-place.place c.args.near.now) c.args.hour w.as_mut_slice.result.now =
-          subst (AreTallies (take c.loop-place.place c.args.near.now) c.args.hour) (sym made)
-          (near-placed_more c.args.hour c.args.events.now c.args.near.now c.loop-place.place c.index-near-place.result here c.loop-place.tallies.items
-          c.loop-place.invariant.size c.loop-place.invariant.tell) in
-          let items : c.if-touches.tallies.items ≡ w.take_in.new.tallies =
-          ap (λ (ts : Vec Tally Global). ts.items) w.tallies-is
-          ∙ with_items_is w.make_place.new.tallies w.take_in.new.tallies (w.take_in.auto.tallies ∙ w.as_mut_slice.ensures.len) in
+          let tell = near-placed_more c.args.hour c.args.events.now c.args.near.now c.loop-place.place c.index-near-place.result here c.loop-place.tallies.items
+          c.loop-place.invariant.size c.loop-place.invariant.tell in
+          let items : c.if-touches.tallies.items ≡ w.take_in.new.tallies.items = ap (λ (ts : Vec Tally Global). ts.items) w.tallies-is in
           record {
-            orders_are = ap (λ (os : Vec PlacedOrder Global). os.items) w.orders-is ∙ w.in_ok-list.ensures ∙ ap (λ os. os ++ filter_map (order_given c.args.hour) (c.index-near-place.result ∷ [])) c.loop-place.invariant.orders_are
+            orders_are = ap (λ (os : Vec PlacedOrder Global). os.items) w.orders-is ∙ w.in_ok-take_in.ensures.orders ∙ ap (λ os. os ++ filter_map (order_given c.args.hour) (c.index-near-place.result ∷ [])) c.loop-place.invariant.orders_are
                 ∙ sym (filter_map-append (order_given c.args.hour) (take c.loop-place.place c.args.near.now) (c.index-near-place.result ∷ []))
                 ∙ ap (filter_map (order_given c.args.hour)) (sym here.more);
             moment_is = w.moment-is ∙ ap (λ n. n + 1) was
                 ∙ sym (count-more c.args.hour (take c.loop-place.place c.args.near.now) c.index-near-place.result touch)
                 ∙ ap (λ es. length (of_hour c.args.hour es)) (sym here.more);
-            size = ap length items ∙ w.take_in.auto.tallies ∙ ap length made
+            size = ap length items ∙ w.in_ok-take_in.ensures.size
                 ∙ near-size c.args.hour c.args.events.now c.args.near.now c.loop-place.place c.index-near-place.result here c.loop-place.tallies.items c.loop-place.invariant.size;
             tell = subst (AreTallies (take (c.loop-place.place + 1) c.args.near.now) c.args.hour) (sym items)
                 (near-taken c.args.hour c.args.events.now c.args.near.now c.loop-place.place c.index-near-place.result here (c.loop-place.moment + 1)
-                w.as_mut_slice.result.now w.take_in.new.tallies touch (ap (λ n. n + 1) was) w.take_in.auto.tallies w.take_in.ensures tell);
+                (with_place c.args.hour c.index-near-place.result c.loop-place.tallies.items) w.take_in.new.tallies.items touch (ap (λ n. n + 1) was)
+                w.in_ok-take_in.ensures.size w.in_ok-take_in.ensures.tallies tell);
           }
       | else-touches w ↦
           let touch : touches c.args.hour c.index-near-place.result ≡ false = sym c.touches.ensures ∙ w.if-touches.false in
