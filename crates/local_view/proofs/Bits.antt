@@ -1,7 +1,7 @@
 -- Sets of zones as numbers: bit z stands for zone z.
-use Rattle.std.proofs.Common.{◌≡◌, ◌∙◌, ℕ, zero, suc, ◌+◌, ◌-◌, ◌*◌, ◌/◌, ◌%◌, ◌^◌, ◌<◌, ◌==◌, ◌&&◌, ◌||◌, ◌⊎◌, Bool, true, false, cond, List, ◌∷◌, filter, inl, inr, length, max, min, refl, sym, ap, arith}
+use Rattle.std.proofs.Common.{◌≡◌, ◌∙◌, ℕ, zero, suc, ◌+◌, ◌-◌, ◌*◌, ◌/◌, ◌%◌, ◌^◌, ◌<◌, ◌==◌, ◌&&◌, ◌||◌, ◌⊎◌, Bool, true, false, cond, List, ◌∷◌, filter, inl, inr, length, max, min, not, refl, sym, ap, arith}
 use Rattle.std.proofs.lemmas.Bool.{cases_lt, true≢false}
-use Rattle.std.proofs.lemmas.Nat.Bits.{bit_at-lt, bit_at-suc, bit_at-trailing_zeros, bit_at-zero, bit_at_and, bit_at_lowest, bit_at_not, bit_at_ones, bit_at_or, bit_at_set_same, same_from_bits}
+use Rattle.std.proofs.lemmas.Nat.Bits.{bit_at-lt, bit_at_above, bit_at-suc, bit_at-trailing_zeros, bit_at-zero, bit_at_and, bit_at_lowest, bit_at_not, bit_at_ones, bit_at_or, bit_at_set_same, same_from_bits}
 use Rattle.std.proofs.lemmas.Nat.{and_le_l, le_or_l, ones_le_self}
 use lib.Count.{ones_step}
 use Rattle.std.specs.Int.{bit_at, trailing_zeros, w64}
@@ -142,3 +142,17 @@ more_set asked zone small none = elim (cases_lt asked (bit_or asked (1 * 2 ^ zon
 
 pub smaller : (old new : ℕ) → old < new → old < 2 ^ 64 → 2 ^ 64 - new < 2 ^ 64 - old
 smaller old new more fits = omega (arith, more, fits)
+
+-- a zone is in what one set has beyond another one where it is in the first alone
+pub holds-without : (a b zone : ℕ) → a < 2 ^ 64 → b < 2 ^ 64 → holds (bit_and a (18446744073709551615 - b)) zone ≡ (holds a zone && not (holds b zone))
+holds-without a b zone a_fits b_fits = holds-and a (18446744073709551615 - b) zone ∙ elim (cases_lt zone 64) [
+  | inl small ↦ ap (λ bit. holds a zone && bit) (ap (λ n. n == 1) (bit_at_not w64 b zone b_fits small) ∙ by (bit_at b zone) (bit_at-lt b zone))
+  | inr past ↦
+      let none : holds a zone ≡ false = ap (λ n. n == 1) (bit_at_above a 64 zone a_fits past) in
+      ap (λ bit. bit && holds (18446744073709551615 - b) zone) none ∙ sym (ap (λ bit. bit && not (holds b zone)) none)
+]
+  where
+    by : (bit : ℕ) → bit < 2 → (1 - bit == 1) ≡ not (bit == 1)
+    by zero less = refl
+    by (suc zero) less = refl
+    by (suc (suc b)) less = absurd (omega (arith, less))

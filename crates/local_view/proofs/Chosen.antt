@@ -11,7 +11,7 @@ use Rattle.market_model.specs.declared.reply.ViewRow.{ViewRow}
 use Rattle.market_model.specs.Board.{BoardState}
 use Rattle.local_view.specs.Boards.{view_of}
 use Rattle.local_view.specs.Rows.{LineRows, chosen, chosen_at, of_zones}
-use Rattle.local_view.specs.Works.{AreComputed, HasMade}
+use Rattle.local_view.specs.Works.{AreComputed, HasMade, row_made}
 
 abbrev get_or_empty : List (List ViewRow) → ℕ → List ViewRow
 get_or_empty lists zone = get_or lists zone []
@@ -36,24 +36,31 @@ past_chosen computed kept next new zone size same past = none_past new zone (ome
     by true = sym (none_past next zone (omega (arith, same, past)))
     by false = sym (none_past kept zone past)
 
--- the next rows are computed or kept
-pub made_of : (zones computed : ℕ) (board : BoardState) (part : ℕ) (side : Side) (kept next : List (List ViewRow)) (was : List (List ViewRow)) (line : LineRows) → zones ≡ zone_count board.grid
-    → was ≡ of_zones zones kept → AreComputed computed board part side next → line.next ≡ Some (chosen zones computed kept next) → HasMade computed board part side was line
-made_of zones computed board part side kept next was line count are made is = record {
-  rows = chosen zones computed kept next;
+-- the next rows are computed or kept, though some that were to be computed are kept
+pub made_of_some : (zones computed made : ℕ) (board : BoardState) (part : ℕ) (side : Side) (kept next : List (List ViewRow)) (was : List (List ViewRow)) (line : LineRows) → zones ≡ zone_count board.grid
+    → was ≡ of_zones zones kept → ((zone : ℕ) → HasZone board.grid zone → chosen_at made kept next zone ≡ row_made computed board part side kept zone)
+    → line.next ≡ Some (chosen zones made kept next) → HasMade computed board part side was line
+made_of_some zones computed made board part side kept next was line count are each is = record {
+  rows = chosen zones made kept next;
   is = is;
   size = many ∙ sym (ap length are ∙ length-map-range_with_len (λ zone. get_or kept zone []) 0 zones);
   made = λ zone less.
       let within : zone < zones = omega (arith, less, many) in
-      get_or-map-range_with_len (chosen_at computed kept next) 0 zones zone zone [] within (omega arith)
-      ∙ by zone (omega (arith, within, count)) (holds computed zone) refl
+      get_or-map-range_with_len (chosen_at made kept next) 0 zones zone zone [] within (omega arith)
+      ∙ each zone (omega (arith, within, count))
       ∙ ap (λ rows. if holds computed zone then view_of board part side zone else rows)
       (sym (ap (λ lists. get_or lists zone []) are ∙ get_or-map-range_with_len (λ k. get_or kept k []) 0 zones zone zone [] within (omega arith)));
 }
   where
-    many : length (chosen zones computed kept next) ≡ zones
-    many = length-map-range_with_len (chosen_at computed kept next) 0 zones
+    many : length (chosen zones made kept next) ≡ zones
+    many = length-map-range_with_len (chosen_at made kept next) 0 zones
 
+-- they are where all that were to be computed are
+pub made_of : (zones computed : ℕ) (board : BoardState) (part : ℕ) (side : Side) (kept next : List (List ViewRow)) (was : List (List ViewRow)) (line : LineRows) → zones ≡ zone_count board.grid
+    → was ≡ of_zones zones kept → AreComputed computed board part side next → line.next ≡ Some (chosen zones computed kept next) → HasMade computed board part side was line
+made_of zones computed board part side kept next was line count are made is =
+    made_of_some zones computed computed board part side kept next was line count are (λ zone there. by zone there (holds computed zone) refl) is
+  where
     by : (zone : ℕ) → HasZone board.grid zone → (b : Bool) → holds computed zone ≡ b
         → (if b then get_or next zone [] else get_or kept zone []) ≡ (if b then view_of board part side zone else get_or kept zone [])
     by zone there true e = made zone there e
@@ -72,6 +79,12 @@ pub listed_at : (zones : ℕ) (lists now : List (List ViewRow)) (zone : ℕ) →
 listed_at zones lists now zone are less =
     sym (get_or-map-range_with_len (λ k. get_or lists k []) 0 zones zone zone [] (let size = zones_are zones (length now) lists now are refl in omega (arith, size, less)) (omega arith))
     ∙ ap (λ rows. get_or rows zone []) are
+
+-- lists of which so many zones' are the same
+pub listed_same : (zones : ℕ) (new old : List (List ViewRow)) → of_zones zones new ≡ of_zones zones old → (zone : ℕ) → zone < zones → get_or new zone [] ≡ get_or old zone []
+listed_same zones new old same zone less =
+    let within : zone < length (of_zones zones old) = let size = length-map-range_with_len (λ k. get_or old k []) 0 zones in omega (arith, size, less) in
+    listed_at zones new (of_zones zones old) zone same within ∙ sym (listed_at zones old (of_zones zones old) zone refl within)
 
 -- the lists of a line that has none are empty
 pub empty_line : (zones : ℕ) (lists : List (List ViewRow)) → lists ≡ [] → of_zones zones lists ≡ replicate zones []

@@ -4,7 +4,9 @@ mod Certificates
 mod Chosen
 mod Drafting
 mod Cutting
+mod Footings
 mod Hours
+mod Keeping
 mod Leading
 mod Spreading
 mod Joining
@@ -12,11 +14,13 @@ mod LineMakers
 mod Lines
 mod Listed
 mod Made
+mod Moving
 mod NearHours
 mod NearViews
 mod Nearing
 mod Parts
 mod Reading
+mod Resting
 mod Standing
 mod Sums
 mod Takers

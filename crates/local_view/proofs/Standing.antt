@@ -1,5 +1,5 @@
 -- Cuts that a flow certifies.
-use Rattle.std.proofs.Common.{◌≡◌, ◌∙◌, ℕ, ◌+◌, ◌<◌, ◌≤◌, ◌==◌, inl, inr, List, get_or, length, min, sum_by, take, refl, sym, ap, subst, arith}
+use Rattle.std.proofs.Common.{◌≡◌, ◌∙◌, ℕ, suc, ◌+◌, ◌<◌, ◌≤◌, ◌==◌, inl, inr, List, get_or, length, min, sum_by, take, refl, sym, ap, subst, arith}
 use Rattle.std.proofs.lemmas.Bool.{ne_eqb}
 use Rattle.std.proofs.lemmas.Bool.Decides.{eqb_tells}
 use Rattle.std.proofs.lemmas.List.{take_all}
@@ -25,9 +25,10 @@ use Rattle.laws_of_market.proofs.LineSums.{sum-map}
 use Rattle.route_choice.specs.Flow.{sent_out, taken_in}
 use Rattle.local_view.specs.declared.cuts.Cuts.{Cuts}
 use Rattle.local_view.specs.Certified.{IsCertified, lots_from, lots_to}
-use Rattle.local_view.specs.Cuts.{AreAlong, AreWide, IsStanding, cut_by, flow_beside, given_by, leaving, room_out}
+use Rattle.local_view.specs.Cuts.{AreAlong, AreWide, IsStanding, cut_by, flow_beside, given_by, last_by, leaving, room_out}
 use Rattle.local_view.specs.Drafts.{AreKept}
 use Rattle.local_view.specs.Ways.{PassesOn}
+use Rattle.local_view.proofs.Certificates.{shown-more}
 use Rattle.local_view.proofs.Joining.{no_neighbour}
 
 -- ---- one neighbour after the other
@@ -135,7 +136,10 @@ module _ (graph : Graph) (rooms left : List (ℕ × ℕ)) (kept : AreKept rooms 
         let other_one = ne_eqb other zone apart in
         passes side other (given_by cuts other) (omega (arith, here.passed other_one, here.few other_one, widths other there));
     before = λ other there. along.before other (omega (arith, there, grid.few_zones));
-    behind = λ other there. along.behind other (omega (arith, there, grid.few_zones));
+    behind = λ other there.
+        let here = each other there in
+        let most = along.behind other (omega (arith, there, grid.few_zones)) here.none_left in
+        omega (arith, most, shown-more line (suc (last_by cuts other)) (suc (cut_by cuts other)) other (omega (arith, here.none_behind)));
     own = omega (arith, own);
     closed = λ arc known spare.
         no_later side (cut_by cuts) grid.is_graph (λ other there. (each other there).closed) arc known (has_left arc spare);

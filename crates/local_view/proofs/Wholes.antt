@@ -155,6 +155,9 @@ module _ (board : BoardState) (none : board.hand ≡ None) (part : ℕ) (side : 
       subst (λ (o : LineOrder). HasZone board.grid o.zone) (sym from.2)
       (line-zones board.grid board.hour board.events read.is_board.stands part side from.0 (subst (IsIn from.0) rests from.1))
 
+  pub zones-resting : (order : Standing) → IsIn order (resting_line board part side) → HasZone board.grid order.order.zone
+  zones-resting order i = line-zones board.grid board.hour board.events read.is_board.stands part side order (subst (IsIn order) rests i)
+
   -- what is taken of them is the view
   pub taken-view : (zone : ℕ) (rooms : List (ℕ × ℕ)) → AreRoomsOf board part rooms
       → rows_taken board.grid side zone (room_of rooms) 4294967295 whole.orders.items ≡ view_of board part side zone

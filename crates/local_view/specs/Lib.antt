@@ -3,8 +3,10 @@ pub mod Boards
 pub mod Certified
 pub mod Cuts
 pub mod Drafts
+pub mod Footing
 pub mod Insides
 pub mod Kept
+pub mod Moved
 pub mod Nearness
 pub mod Poured
 pub mod Rows

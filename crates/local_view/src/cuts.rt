@@ -1,105 +1,117 @@
 //! Rows that a flow and cuts certify.
 
-ghost use Rattle.std.specs.Prelude.{◌≡◌, ◌⊎◌, ◌<◌, ◌≤◌, ◌+◌, ◌-◌, ◌^◌, ℕ, IfOk, IsTrue, List, [], length, map, min, slice_index_or, slice_set, if◌then◌else◌};
+ghost use Rattle.std.specs.Prelude.{◌≡◌, ◌<◌, ◌≤◌, ◌-◌, ◌^◌, ℕ, IfSome, IsTrue, List, OnOk, length, map, min, slice_index_or, slice_set};
 ghost use Rattle.zone_graph.specs.Graph.{HasZone, border_count};
 ghost use Rattle.zone_graph.specs.Rooms.{room_of};
-ghost use Rattle.cut_proof.specs.Carrying.{FitTogether};
-ghost use Rattle.cut_proof.specs.ZoneSet.{holds};
 ghost use Rattle.market_model.specs.Orders.{Standing};
-ghost use Rattle.local_view.specs.Cuts.{AreAlong, AreWide, IsStanding, Tested, cut_by, flow_beside, given_by, leaving, room_out};
+ghost use Rattle.local_view.specs.Cuts.{AreAlong, AreWide, IsLowered, IsStanding, Tested, cut_by, flow_beside, given_by, leaving, rest_by, room_out};
 ghost use Rattle.zone_graph.specs.Route.{IsIn};
 ghost use Rattle.local_view.specs.declared.whole.LineOrder.{LineOrder as ALineOrder};
 ghost use Rattle.local_view.specs.Certified.{IsCertified};
 ghost use Rattle.local_view.specs.Drafts.{AreKept};
-ghost use Rattle.local_view.specs.Whole.{all_shown, in_line};
+ghost use Rattle.local_view.specs.Whole.{in_line};
 
-use crate::draft::Draft;
+use crate::draft::reached_from;
 use crate::filling::is_set;
 use crate::listing::add_row;
+use crate::nearness::first_zones;
 use crate::whole::LineOrder;
 use market_model::{NoMemory, Side, ViewRow};
 use zone_graph::{Arc, Grid, MOST_ZONES, Rooms};
 
-/// What the orders of each zone give, and where it ends: the place in the line of the first that does not give all that it
-/// shows, or the end of the line.
+/// What the orders of each zone give, one after the other, and where that ends.
 #[derive(Drop)]
 pub(crate) struct Cuts {
-    /// What the orders of each zone give together, in lots.
-    pub(crate) given: [u32; MOST_ZONES],
-    /// The place of each zone's cut.
+    // What the orders of each zone are to give together, in lots, and what of it none of them has given.
+    given: [u32; MOST_ZONES],
+    rest: [u32; MOST_ZONES],
+    // The place in the line of the last order of each zone that gives something.
+    last: [usize; MOST_ZONES],
+    /// The place of each zone's cut: no order of the zone before it gives less than all that it shows.
     pub(crate) places: [usize; MOST_ZONES],
 }
 
 impl Cuts {
-    /// Goes along a line as a draft has its orders give, and writes their rows behind others.
+    /// Cuts that no line was gone along for.
+    pub(crate) fn new() -> Cuts {
+        Cuts {
+            given: [0; MOST_ZONES],
+            rest: [0; MOST_ZONES],
+            last: [0; MOST_ZONES],
+            places: [0; MOST_ZONES],
+        }
+    }
+
+    /// Goes along a line whose zones give so many lots each, and writes the rows of its orders. Each zone has its cut at its
+    /// first order that gives less than it shows, or at the end of the line.
     ///
     /// # Errors
     ///
     /// [`NoMemory`], where there is no memory for a row.
     pub(crate) fn along(
-        grid: &Grid,
-        draft: &mut Draft,
-        left: &mut Rooms,
+        &mut self,
+        given: &[u32; MOST_ZONES],
         orders: &[LineOrder],
         rows: &mut Vec<ViewRow>,
-    ) -> Result<Cuts, NoMemory>
+    ) -> Result<(), NoMemory>
         ghost line: { List Standing }
         requires orders { orders.now ≡ map in_line line }
-        requires zones { (order : ALineOrder) → IsIn order orders.now → HasZone grid.now order.zone }
-        requires few { all_shown line ≤ 4294967295 }
-        requires size { length left.old ≡ border_count grid.now }
-        requires fit { FitTogether grid.now (room_of left.old) }
-        requires rows { rows.old.items ≡ [] }
-        ensures along { IfOk result (λ cuts. AreAlong line cuts rows.new.items) }
-        ensures size { length left.new ≡ border_count grid.now }
-        ensures kept { AreKept left.old left.new }
+        requires zones { (order : ALineOrder) → IsIn order orders.now → order.zone < 64 }
+        ensures along { OnOk result (AreAlong line self.new rows.new.items) }
     {
-        let _ = grid.zones();
-        let mut cuts = Cuts {
-            given: [0; MOST_ZONES],
+        rows.clear();
+        *self = Cuts {
+            given: *given,
+            rest: *given,
+            last: [0; MOST_ZONES],
             places: [orders.len(); MOST_ZONES],
         };
         for (place, order) in orders.iter().enumerate() {
-            if place < cuts.places[order.zone as usize] {
-                let lots = cuts.take_of(grid, draft, left, order, place);
-                add_row(rows, order.price, lots)?;
-            }
+            let lots = self.take_of(order, place);
+            add_row(rows, order.price, lots)?;
         }
-        Ok(cuts)
+        Ok(())
     }
 
-    // Takes of the order at a place what a draft obtains of it. Where that is not all, its zone has its cut there, and the
-    // zones from which nothing more comes have theirs there too.
-    fn take_of(
-        &mut self,
-        grid: &Grid,
-        draft: &mut Draft,
-        left: &mut Rooms,
-        order: &LineOrder,
-        place: usize,
-    ) -> u32
-        requires zone { HasZone grid.now order.now.zone }
-        requires known { order.now.zone < 64 }
-        requires free { place < cut_by self.old order.now.zone }
-        requires fits { given_by self.old order.now.zone + order.now.lots ≤ 4294967295 }
-        requires size { length left.old ≡ border_count grid.now }
-        requires fit { FitTogether grid.now (room_of left.old) }
-        ensures most { result ≤ order.now.lots }
-        ensures given { self.new.given ≡ slice_set self.old.given order.now.zone (given_by self.old order.now.zone + result) }
-        ensures own { result < order.now.lots → cut_by self.new order.now.zone ≡ place }
-        ensures cuts { (zone : ℕ) → zone < 64 → (cut_by self.new zone ≡ cut_by self.old zone) ⊎ (cut_by self.new zone ≡ min (cut_by self.old zone) place) }
-        ensures size { length left.new ≡ border_count grid.now }
-        ensures kept { AreKept left.old left.new }
+    // Takes of the order at a place what it gives.
+    fn take_of(&mut self, order: &LineOrder, place: usize) -> u32
+        requires zone { order.now.zone < 64 }
+        ensures lots { result ≡ min order.now.lots (rest_by self.old order.now.zone) }
+        ensures given { self.new.given ≡ self.old.given }
+        ensures rest { self.new.rest ≡ slice_set self.old.rest order.now.zone (rest_by self.old order.now.zone - result) }
+        ensures some { 0 < result → self.new.last ≡ slice_set self.old.last order.now.zone place }
+        ensures none { result ≡ 0 → self.new.last ≡ self.old.last }
+        ensures part { result < order.now.lots → self.new.places ≡ slice_set self.old.places order.now.zone (min (cut_by self.old order.now.zone) place) }
+        ensures all { order.now.lots ≤ result → self.new.places ≡ self.old.places }
     {
         let zone = order.zone as usize;
-        let share = draft.obtain(grid, left, order.zone, order.lots);
-        let lots = share.lots.min(order.lots);
-        self.given[zone] += lots;
+        let rest = self.rest[zone];
+        let lots = order.lots.min(rest);
+        self.rest[zone] = rest - lots;
+        if lots > 0 {
+            self.last[zone] = place;
+        }
         if lots < order.lots {
-            self.places[zone] = place;
-            cut_no_later(&mut self.places, share.shut, place);
+            self.places[zone] = self.places[zone].min(place);
         }
         lots
+    }
+
+    /// Cuts the zones to which more of a zone's lots can be passed on no later than that one.
+    pub(crate) fn lower(&mut self, leads: &[u64; MOST_ZONES], zones: u32, end: usize)
+        requires { zones ≤ 64 }
+        ensures { IsLowered self.old self.new }
+    {
+        let mut open = first_zones(zones);
+        for _ in 0..zones {
+            let Some(first) = first_cut(&self.places, open, zones, end) else {
+                break;
+            };
+            let reached = reached_from(leads, first, open);
+            let place = self.places[first as usize];
+            cut_no_later(&mut self.places, reached, place);
+            open &= !reached;
+        }
     }
 
     /// Whether the flow that leaves some of the rooms certifies them: what each zone gives goes out of it, but for the zone that
@@ -150,6 +162,9 @@ impl Cuts {
         let neighbours = grid.neighbours(zone);
         let cut = self.places[zone as usize];
         let mut lots = self.given[zone as usize];
+        if self.rest[zone as usize] > 0 || self.last[zone as usize] > cut {
+            return false;
+        }
         for neighbour in neighbours {
             let spare = room_out_over(left, side, neighbour.arc);
             lots = lots.saturating_add(spare);
@@ -197,13 +212,34 @@ pub(crate) fn room_out_over(rooms: &Rooms, side: Side, arc: Arc) -> u32
     })
 }
 
-// The zones of a set have their cuts at a place, where they have none before it.
-fn cut_no_later(cuts: &mut [usize], zones: u64, place: usize)
-    ensures cuts { (zone : ℕ) → slice_index_or cuts.new zone 0 ≡ (if holds zones zone then min (slice_index_or cuts.old zone 0) place else slice_index_or cuts.old zone 0) }
+// Of a set of so many zones the one that has its cut first, before the end of the line.
+fn first_cut(places: &[usize; MOST_ZONES], open: u64, zones: u32, end: usize) -> Option<u32>
+    requires { zones ≤ 64 }
+    ensures { IfSome result (λ zone. zone < 64) }
 {
-    for (zone, cut) in cuts.iter_mut().enumerate() {
-        if is_set(zones, zone) {
-            *cut = (*cut).min(place);
+    let mut least = end;
+    let mut first = None;
+    for zone in 0..zones {
+        let place = places[zone as usize];
+        if place < least && is_set(open, zone as usize) {
+            least = place;
+            first = Some(zone);
         }
+    }
+    first
+}
+
+// The zones of a set have their cuts at a place, where they have none before it.
+fn cut_no_later(places: &mut [usize; MOST_ZONES], zones: u64, place: usize)
+    ensures { (zone : ℕ) → slice_index_or places.new zone 0 ≤ slice_index_or places.old zone 0 }
+{
+    let mut left = zones;
+    for _ in 0..MOST_ZONES {
+        if left == 0 {
+            break;
+        }
+        let cut = &mut places[left.trailing_zeros() as usize];
+        *cut = (*cut).min(place);
+        left &= left - 1;
     }
 }

@@ -1,23 +1,29 @@
 //! Drafts of what comes to a zone from the orders of a line: a flow, mended until nothing better is found. Nothing rests on
 //! a draft, since what it says is tested.
 
-ghost use Rattle.std.specs.Prelude.{◌≡◌, ◌+◌, ◌<◌, ◌≤◌, ◌^◌, IfSome, length};
+ghost use Rattle.std.specs.Prelude.{◌≡◌, ◌+◌, ◌-◌, ◌<◌, ◌≤◌, ◌^◌, IfSome, length};
 ghost use Rattle.zone_graph.specs.Graph.{HasArc, HasZone, border_count};
 ghost use Rattle.zone_graph.specs.Pour.{opposite_arc};
 ghost use Rattle.zone_graph.specs.Rooms.{room_of};
+ghost use Rattle.zone_graph.specs.Route.{IsIn};
+ghost use Rattle.zone_graph.specs.declared.route.Arc.{Arc as AnArc};
 ghost use Rattle.cut_proof.specs.Carrying.{FitTogether};
 ghost use Rattle.local_view.specs.Drafts.{AreKept};
+ghost use Rattle.local_view.specs.declared.whole.LineOrder.{LineOrder as ALineOrder};
 
-use crate::cuts::room_out_over;
 use crate::filling::is_set;
+use crate::whole::LineOrder;
 use market_model::Side;
 use zone_graph::{Arc, Grid, MOST_ZONES, Rooms};
 
 // Over how many ways lots are sent before the rest of them is given up.
 const MOST_WAYS: usize = 64;
 
-/// What flows over each border, over its forward arc and over its backward one, in lots.
-pub(crate) type Flow = Vec<(u32, u32)>;
+// More lots than these are taken for less than none.
+const MOST_LOTS: u32 = u32::MAX / 2;
+
+/// What flows over each arc, in lots: a number for each, as rooms have.
+pub(crate) type Flow = Rooms;
 
 /// A draft of what comes to a zone from the orders of a side. The rooms that its flow leaves stand beside it. Lots that sells
 /// give go along arcs, those that buys give come against them. Of a set of zones bit z stands for zone z.
@@ -26,10 +32,10 @@ pub(crate) struct Draft {
     side: Side,
     // The zone that lots come to.
     zone: u32,
-    // For each zone those that it can pass more lots on to.
-    leads: [u64; MOST_ZONES],
-    // What comes from each zone for orders that have not given yet.
-    rest: [u32; MOST_ZONES],
+    /// For each zone those that it can pass more lots on to.
+    pub(crate) leads: [u64; MOST_ZONES],
+    /// What comes from each zone.
+    pub(crate) given: [u32; MOST_ZONES],
     // The zones from which something does, and the one that lots come to.
     giving: u64,
     // From which zone the last search came to each.
@@ -38,79 +44,129 @@ pub(crate) struct Draft {
     pub(crate) is_other: bool,
 }
 
-/// What comes of an order, and, where not all of it does, the zones from which nothing more comes.
-#[derive(Clone, Copy)]
-pub(crate) struct Share {
-    /// What comes, in lots.
-    pub(crate) lots: u32,
-    /// The zones.
-    pub(crate) shut: u64,
-}
-
 impl Draft {
-    /// Begins with a flow to a zone, as far as the rooms of a part are wide enough for it, and tells what is left of them.
-    pub(crate) fn over(
+    /// A draft that has not begun.
+    pub(crate) fn new() -> Draft {
+        Draft {
+            side: Side::Buy,
+            zone: 0,
+            leads: [0; MOST_ZONES],
+            given: [0; MOST_ZONES],
+            giving: 0,
+            before: [0; MOST_ZONES],
+            is_other: false,
+        }
+    }
+
+    /// Begins with a flow to a zone, as far as the rooms of a part are wide enough for it, and tells what is left of them. Then
+    /// each zone gives what its orders show and no more, as far as it comes.
+    pub(crate) fn begin(
+        &mut self,
         grid: &Grid,
         of_part: &Rooms,
-        wide: &[u32; MOST_ZONES],
         left: &mut Rooms,
         side: Side,
         zone: u32,
-        flow: &[(u32, u32)],
-    ) -> Draft
+        flow: &Flow,
+        shown: &[u32; MOST_ZONES],
+    )
         requires size { length of_part.now ≡ border_count grid.now }
         requires fit { FitTogether grid.now (room_of of_part.now) }
         requires left { length left.old ≡ border_count grid.now }
+        requires flow { length flow.now ≡ border_count grid.now }
         ensures left { length left.new ≡ border_count grid.now }
         ensures kept { AreKept of_part.now left.new }
     {
-        let is_other = lay(grid, of_part, left, flow);
-        let mut draft = Draft {
-            side,
-            zone,
-            leads: [0; MOST_ZONES],
-            rest: [0; MOST_ZONES],
-            giving: bit(zone),
-            before: [0; MOST_ZONES],
-            is_other,
-        };
-        draft.tell(grid, wide, left);
-        draft
+        self.side = side;
+        self.zone = zone;
+        self.lay(grid, of_part, left, flow);
+        self.pass_on(grid, left);
+        self.bring(grid, left, shown);
     }
 
-    // Tells from the rooms what comes from each zone and where more could go. What comes to a zone and stays there is sent on.
-    fn tell(&mut self, grid: &Grid, wide: &[u32; MOST_ZONES], left: &mut Rooms)
+    // Tells the rooms that a flow leaves of others, as far as these are wide enough for it, what goes out of each zone beyond
+    // what comes in, and to which zones more could go.
+    fn lay(&mut self, grid: &Grid, of_part: &Rooms, left: &mut Rooms, flow: &Flow)
+        requires size { length of_part.now ≡ border_count grid.now }
+        requires fit { FitTogether grid.now (room_of of_part.now) }
+        requires left { length left.old ≡ border_count grid.now }
+        requires flow { length flow.now ≡ border_count grid.now }
+        ensures left { length left.new ≡ border_count grid.now }
+        ensures kept { AreKept of_part.now left.new }
+    {
+        left.copy_from(of_part);
+        self.leads = [0; MOST_ZONES];
+        self.given = [0; MOST_ZONES];
+        self.is_other = false;
+        for border in 0..grid.borders() {
+            let arc = Arc {
+                border,
+                forward: true,
+            };
+            let (out, back) = (flow.at(arc), flow.at(arc.opposite()));
+            let (forward, backward) = (of_part.at(arc), of_part.at(arc.opposite()));
+            self.is_other = self.is_other || out > forward || back > backward;
+            let (out, back) = (out.min(forward), back.min(backward));
+            let (forward, backward) = (forward - out + back, backward - back + out);
+            left.set(arc, forward);
+            left.set(arc.opposite(), backward);
+            self.flow_over(grid, arc, out.wrapping_sub(back), forward > 0, backward > 0);
+        }
+    }
+
+    // Notes what flows over a border, and in which directions more could.
+    fn flow_over(&mut self, grid: &Grid, arc: Arc, lots: u32, forward: bool, backward: bool)
+        requires { HasArc grid.now arc }
+    {
+        let zones = grid.zones();
+        let (start, end) = grid.ends(arc);
+        let (from, to) = match self.side {
+            Side::Sell => (start, end),
+            Side::Buy => (end, start),
+        };
+        prove!(from < zones && to < zones);
+        self.given[from as usize] = self.given[from as usize].wrapping_add(lots);
+        self.given[to as usize] = self.given[to as usize].wrapping_sub(lots);
+        if forward {
+            self.leads[from as usize] |= bit(to);
+        }
+        if backward {
+            self.leads[to as usize] |= bit(from);
+        }
+    }
+
+    // What comes to a zone and stays there is sent on to those that give.
+    fn pass_on(&mut self, grid: &Grid, left: &mut Rooms)
         requires size { length left.old ≡ border_count grid.now }
         requires fit { FitTogether grid.now (room_of left.old) }
         ensures size { length left.new ≡ border_count grid.now }
         ensures kept { AreKept left.old left.new }
     {
+        self.giving = bit(self.zone);
         let zones = grid.zones();
         let mut staying: u64 = 0;
         for zone in 0..zones {
-            let place = zone as usize;
-            let (spare, leads) = around(grid, left, self.side, zone);
-            self.leads[place] = leads;
-            self.rest[place] = wide[place].abs_diff(spare);
-            if wide[place] > spare {
-                self.giving |= bit(zone);
-            } else if wide[place] < spare && zone != self.zone {
+            let lots = self.given[zone as usize];
+            if lots > MOST_LOTS {
                 staying |= bit(zone);
+            } else if lots > 0 {
+                self.giving |= bit(zone);
             }
         }
+        staying &= !bit(self.zone);
         if staying != 0 {
             for zone in 0..zones {
                 if is_set(staying, zone as usize) {
-                    let lots = self.rest[zone as usize];
-                    self.rest[zone as usize] = 0;
+                    let lots = self.given[zone as usize].wrapping_neg();
+                    self.given[zone as usize] = 0;
                     self.send(grid, left, zone, self.giving, lots);
                 }
             }
         }
     }
 
-    /// Has each zone give what its orders show and no more, as far as it comes.
-    pub(crate) fn bring(&mut self, grid: &Grid, left: &mut Rooms, shown: &[u32; MOST_ZONES])
+    // Has each zone give what its orders show and no more, as far as it comes.
+    fn bring(&mut self, grid: &Grid, left: &mut Rooms, shown: &[u32; MOST_ZONES])
         requires size { length left.old ≡ border_count grid.now }
         requires fit { FitTogether grid.now (room_of left.old) }
         ensures size { length left.new ≡ border_count grid.now }
@@ -119,20 +175,20 @@ impl Draft {
         let zones = grid.zones();
         let mut short: u64 = 0;
         for zone in 0..zones {
-            let (given, most) = (self.rest[zone as usize], shown[zone as usize]);
+            let (given, most) = (self.given[zone as usize], shown[zone as usize]);
             if zone == self.zone {
-                self.rest[zone as usize] = most;
+                self.given[zone as usize] = most;
             } else if given > most {
                 self.send(grid, left, self.zone, bit(zone), given - most);
             } else if given < most {
                 short |= bit(zone);
             }
         }
-        short &= self.can_reach(zones);
         if short != 0 {
+            short &= self.can_reach(zones);
             for zone in 0..zones {
                 if is_set(short, zone as usize) {
-                    let (given, most) = (self.rest[zone as usize], shown[zone as usize]);
+                    let (given, most) = (self.given[zone as usize], shown[zone as usize]);
                     let (sent, _) = self.send(
                         grid,
                         left,
@@ -140,7 +196,7 @@ impl Draft {
                         bit(self.zone),
                         most.saturating_sub(given),
                     );
-                    self.rest[zone as usize] = given.saturating_add(sent);
+                    self.given[zone as usize] = given.saturating_add(sent);
                     self.mark(zone);
                 }
             }
@@ -166,8 +222,25 @@ impl Draft {
         reaching
     }
 
-    /// What comes of the next order of a zone. What it lacks is taken from orders that have not given yet.
-    pub(crate) fn obtain(&mut self, grid: &Grid, left: &mut Rooms, zone: u32, lots: u32) -> Share
+    /// Has the orders of a line give one after the other: what one lacks is taken from those behind it.
+    pub(crate) fn exchange(&mut self, grid: &Grid, left: &mut Rooms, orders: &[LineOrder])
+        requires orders { (order : ALineOrder) → IsIn order orders.now → HasZone grid.now order.zone }
+        requires size { length left.old ≡ border_count grid.now }
+        requires fit { FitTogether grid.now (room_of left.old) }
+        ensures size { length left.new ≡ border_count grid.now }
+        ensures kept { AreKept left.old left.new }
+    {
+        let mut closed: u64 = 0;
+        for order in orders {
+            if !is_set(closed, order.zone as usize) {
+                closed |= self.obtain(grid, left, order.zone, order.lots);
+            }
+        }
+    }
+
+    // Has the next order of a zone give its lots. What it lacks is taken from orders that have not given yet. Where they have not
+    // enough, answers the zones from which nothing more comes.
+    fn obtain(&mut self, grid: &Grid, left: &mut Rooms, zone: u32, lots: u32) -> u64
         requires zone { HasZone grid.now zone }
         requires size { length left.old ≡ border_count grid.now }
         requires fit { FitTogether grid.now (room_of left.old) }
@@ -176,28 +249,20 @@ impl Draft {
     {
         // It shows that the grid has no more than 64 zones.
         let _ = grid.zones();
-        let rest = self.rest[zone as usize];
-        if rest > lots {
-            self.rest[zone as usize] = rest - lots;
-            return Share { lots, shut: 0 };
-        }
-        self.rest[zone as usize] = 0;
+        let rest = self.given[zone as usize];
+        self.given[zone as usize] = rest.saturating_sub(lots);
         self.mark(zone);
-        if rest == lots {
-            return Share { lots, shut: 0 };
+        if rest >= lots {
+            return 0;
         }
-        let (sent, shut) = self.send(grid, left, zone, self.giving, lots - rest);
-        Share {
-            lots: rest.saturating_add(sent),
-            shut,
-        }
+        self.send(grid, left, zone, self.giving, lots - rest).1
     }
 
     // Notes whether something comes from a zone.
     fn mark(&mut self, zone: u32)
         requires { zone < 64 }
     {
-        if self.rest[zone as usize] > 0 || zone == self.zone {
+        if self.given[zone as usize] > 0 || zone == self.zone {
             self.giving |= bit(zone);
         } else {
             self.giving &= !bit(zone);
@@ -225,12 +290,12 @@ impl Draft {
             let most = if is_end {
                 more
             } else {
-                more.min(self.rest[target as usize])
+                more.min(self.given[target as usize])
             };
             let sent = self.carry(grid, left, from, target, most);
             more -= sent;
             if !is_end {
-                self.rest[target as usize] -= sent;
+                self.given[target as usize] -= sent;
                 self.mark(target);
             }
         }
@@ -273,7 +338,7 @@ impl Draft {
         ensures size { length left.new ≡ border_count grid.now }
         ensures kept { AreKept left.old left.new }
         ensures most { result ≤ most }
-        ensures rest { self.new.rest ≡ self.old.rest }
+        ensures given { self.new.given ≡ self.old.given }
     {
         let mut lots = most;
         let mut zone = to;
@@ -326,7 +391,7 @@ impl Draft {
         requires to { to < 64 }
         ensures size { length left.new ≡ length left.old }
         ensures kept { AreKept left.old left.new }
-        ensures rest { self.new.rest ≡ self.old.rest }
+        ensures given { self.new.given ≡ self.old.given }
     {
         let spare = left.at(arc);
         let lots = lots.min(spare);
@@ -342,21 +407,19 @@ impl Draft {
     }
 }
 
-// What is left of the rooms over which lots leave a zone, and to which zones something is.
-fn around(grid: &Grid, left: &Rooms, side: Side, zone: u32) -> (u32, u64)
-    requires zone { HasZone grid.now zone }
-    requires size { length left.now ≡ border_count grid.now }
-{
-    let mut spare: u32 = 0;
-    let mut leads = 0;
-    for neighbour in grid.neighbours(zone) {
-        let lots = room_out_over(left, side, neighbour.arc);
-        spare = spare.saturating_add(lots);
-        if lots > 0 {
-            leads |= bit(neighbour.zone);
+/// The zones of a set that are reached from one of them.
+pub(crate) fn reached_from(leads: &[u64; MOST_ZONES], from: u32, within: u64) -> u64 {
+    let mut reached = bit(from);
+    let mut new = reached;
+    for _ in 0..MOST_ZONES {
+        if new == 0 {
+            break;
         }
+        let more = leads[new.trailing_zeros() as usize] & within & !reached;
+        new = (new & (new - 1)) | more;
+        reached |= more;
     }
-    (spare, leads)
+    reached
 }
 
 // The set of one zone.
@@ -364,51 +427,21 @@ fn bit(zone: u32) -> u64 {
     if zone < 64 { 1 << zone } else { 0 }
 }
 
-// Tells the rooms that a flow leaves of others, where these are wide enough for it, and answers whether some are not.
-fn lay(grid: &Grid, of_part: &Rooms, left: &mut Rooms, flow: &[(u32, u32)]) -> bool
-    requires size { length of_part.now ≡ border_count grid.now }
-    requires fit { FitTogether grid.now (room_of of_part.now) }
-    requires left { length left.old ≡ border_count grid.now }
-    ensures left { length left.new ≡ border_count grid.now }
-    ensures kept { AreKept of_part.now left.new }
-{
-    left.copy_from(of_part);
-    let borders = grid.borders() as usize;
-    let mut is_other = false;
-    for (border, (out, back)) in flow.iter().enumerate() {
-        if border < borders && (*out > 0 || *back > 0) {
-            let arc = Arc {
-                border: border as u32,
-                forward: true,
-            };
-            let (forward, backward) = (of_part.at(arc), of_part.at(arc.opposite()));
-            is_other = is_other || *out > forward || *back > backward;
-            let (out, back) = ((*out).min(forward), (*back).min(backward));
-            left.set(arc, forward - out + back);
-            left.set(arc.opposite(), backward - back + out);
-        }
-    }
-    is_other
-}
-
-/// Writes down what flows over each border, where rooms are left of others.
-pub(crate) fn note(grid: &Grid, of_part: &Rooms, left: &Rooms, flow: &mut [(u32, u32)])
+/// Writes down what flows over each arc, where rooms are left of others.
+pub(crate) fn note(grid: &Grid, of_part: &Rooms, left: &Rooms, flow: &mut Flow)
     requires size { length of_part.now ≡ border_count grid.now }
     requires left { length left.now ≡ border_count grid.now }
-    ensures { length flow.new ≡ length flow.old }
+    requires flow { length flow.old ≡ border_count grid.now }
+    ensures size { length flow.new ≡ border_count grid.now }
+    ensures flow { (arc : AnArc) → HasArc grid.now arc → room_of flow.new arc ≡ room_of of_part.now arc - room_of left.now arc }
 {
-    let borders = grid.borders() as usize;
-    for (border, kept) in flow.iter_mut().enumerate() {
-        if border < borders {
-            let arc = Arc {
-                border: border as u32,
-                forward: true,
-            };
-            let back = arc.opposite();
-            *kept = (
-                of_part.at(arc).saturating_sub(left.at(arc)),
-                of_part.at(back).saturating_sub(left.at(back)),
-            );
-        }
+    for border in 0..grid.borders() {
+        let arc = Arc {
+            border,
+            forward: true,
+        };
+        let back = arc.opposite();
+        flow.set(arc, of_part.at(arc).saturating_sub(left.at(arc)));
+        flow.set(back, of_part.at(back).saturating_sub(left.at(back)));
     }
 }

@@ -1,14 +1,22 @@
 //! The lists of rows of one part and side, for each zone.
 
-ghost use Rattle.std.specs.Prelude.{◌≡◌, ◌<◌, ℕ, [], IfOk, IfSome, IsTrue, None, OnOk, get_or, length};
+ghost use Rattle.std.specs.Prelude.{◌≡◌, ◌⊎◌, ◌&&◌, not, ◌<◌, ℕ, [], IfOk, IfSome, IsTrue, List, None, OnErr, OnOk, get_or, length, false, true};
 ghost use Rattle.cut_proof.specs.ZoneSet.{holds};
+ghost use Rattle.market_model.specs.declared.reply.ViewRow.{ViewRow as AViewRow};
 ghost use Rattle.market_model.specs.Board.{BoardState};
-ghost use Rattle.zone_graph.specs.Graph.{HasZone, zone_count};
+ghost use Rattle.zone_graph.specs.declared.route.Arc.{Arc as AnArc};
+ghost use Rattle.zone_graph.specs.Graph.{HasArc, HasZone, border_count, zone_count};
+ghost use Rattle.local_view.specs.Cuts.{flow_beside};
+ghost use Rattle.local_view.specs.Footing.{AreFilled, AreListed, AreMadeOver, IsDrafted, IsFootingAfter, IsFoundedAt, IsOver, IsSized, RestOnWork, certificate_at};
+ghost use Rattle.local_view.specs.Moved.{flow_in};
+ghost use Rattle.zone_graph.specs.Grid.{IsGrid};
 ghost use Rattle.local_view.specs.Boards.{view_of};
+ghost use Rattle.local_view.specs.Drafts.{AreKept};
 ghost use Rattle.local_view.specs.Works.{AreComputed, BoardLine, IsLineWork, IsSound, IsWork};
 
-use crate::cuts::{Cuts, widths};
-use crate::draft::{Draft, Flow, note};
+use crate::cuts::widths;
+use crate::draft::note;
+use crate::footing::{Certificate, Footing, make_footing};
 use crate::listing::{Line, list_rows};
 use crate::work::{Work, make_work};
 use market_model::{Board, NoMemory, Rows, ViewRow};
@@ -16,12 +24,13 @@ use std::alloc::Global;
 use std::mem;
 use zone_graph::Grid;
 
-/// Makes the list of rows of each zone of a set. Of the other lists nothing is said.
+/// Makes the lists of rows of those zones of a set whose kept rows do not rest on the footing once it is moved to the line, and
+/// answers for which zones it made them.
 ///
 /// # Errors
 ///
-/// [`NoMemory`], where there is no memory for a row.
-pub(crate) fn fill_lists<B: Board>(
+/// [`NoMemory`], where there is no memory for a row or a footing.
+pub(crate) fn fill_next<B: Board>(
     alloc: Global,
     board: &B,
     grid: &Grid,
@@ -29,21 +38,62 @@ pub(crate) fn fill_lists<B: Board>(
     line: Line,
     computed: u64,
     lists: &mut [Rows],
-    flows: &mut Vec<Flow>,
-) -> Result<(), NoMemory>
+    footing: &mut Option<Footing>,
+) -> Result<u64, NoMemory>
     requires grid { grid.now ≡ (B.state board.now).grid }
     requires hand { (B.state board.now).hand ≡ None }
     requires part { line.part < (B.state board.now).parts }
     requires work { IfSome kept.old IsSound }
     requires zones { length lists.old ≡ zone_count grid.now }
-    ensures lists { OnOk result (AreComputed computed (B.state board.now) line.part line.side lists.new) }
+    requires sized { IfSome footing.old (IsSized (zone_count grid.now)) }
+    ensures made { IfOk result (AreMadeOver grid.now (B.state board.now) line.part line.side computed footing.old footing.new lists.new) }
+    ensures failed { OnErr result ((zone : ℕ) (rows : List AViewRow) → HasZone grid.now zone → IsFoundedAt (zone_count grid.now) footing.old zone rows → IsFoundedAt (zone_count grid.now) footing.new zone rows) }
+    ensures sized { IfSome footing.new (IsSized (zone_count grid.now)) }
+    ensures size { length lists.new ≡ length lists.old }
+    ensures work { IfSome kept.new IsSound }
+{
+    make_footing(alloc, grid, line.side, footing)?;
+    match footing {
+        Some(on) => {
+            let made = fill_lists(alloc, board, grid, kept, line, computed, lists, on)?;
+            on.resting |= made.resting;
+            Ok(made.lists)
+        }
+        None => Ok(0),
+    }
+}
+
+// Makes the list of rows of each zone of a set, but for those whose kept rows rest on the footing still, and answers which
+// were made.
+fn fill_lists<B: Board>(
+    alloc: Global,
+    board: &B,
+    grid: &Grid,
+    kept: &mut Option<Work>,
+    line: Line,
+    computed: u64,
+    lists: &mut [Rows],
+    footing: &mut Footing,
+) -> Result<Made, NoMemory>
+    requires grid { grid.now ≡ (B.state board.now).grid }
+    requires hand { (B.state board.now).hand ≡ None }
+    requires part { line.part < (B.state board.now).parts }
+    requires work { IfSome kept.old IsSound }
+    requires zones { length lists.old ≡ zone_count grid.now }
+    requires footing { IsOver grid.now line.side footing.old }
+    ensures filled { IfOk result (AreFilled grid.now (B.state board.now) line.part line.side computed footing.old footing.new lists.new) }
+    ensures footing { IsOver grid.now line.side footing.new }
+    ensures after { IsFootingAfter (zone_count grid.now) footing.old footing.new }
     ensures size { length lists.new ≡ length lists.old }
     ensures work { IfSome kept.new IsSound }
 {
     make_work(alloc, grid, kept)?;
     match kept {
-        Some(work) => fill_over(alloc, board, grid, work, line, computed, lists, flows),
-        None => Ok(()),
+        Some(work) => fill_over(alloc, board, grid, work, line, computed, lists, footing),
+        None => Ok(Made {
+            lists: 0,
+            resting: 0,
+        }),
     }
 }
 
@@ -56,8 +106,8 @@ fn fill_over<B: Board>(
     line: Line,
     computed: u64,
     lists: &mut [Rows],
-    flows: &mut Vec<Flow>,
-) -> Result<(), NoMemory>
+    footing: &mut Footing,
+) -> Result<Made, NoMemory>
     ghost of_board: { BoardState }
     requires board { of_board ≡ B.state board.now }
     requires grid { grid.now ≡ of_board.grid }
@@ -65,14 +115,61 @@ fn fill_over<B: Board>(
     requires part { line.part < of_board.parts }
     requires work { IsWork grid.now work.old }
     requires zones { length lists.old ≡ zone_count grid.now }
-    ensures lists { OnOk result (AreComputed computed of_board line.part line.side lists.new) }
+    requires footing { IsOver grid.now line.side footing.old }
+    ensures filled { IfOk result (AreFilled grid.now of_board line.part line.side computed footing.old footing.new lists.new) }
+    ensures footing { IsOver grid.now line.side footing.new }
+    ensures after { IsFootingAfter (zone_count grid.now) footing.old footing.new }
     ensures size { length lists.new ≡ length lists.old }
     ensures work { IsWork grid.now work.new }
 {
     board.rooms(line.part, &mut work.of_part);
     work.whole.read(board, grid, line)?;
     work.wide = widths(grid, &work.of_part, line.side);
-    list_zones(alloc, grid, work, line, computed, lists, flows)
+    fill_zones(alloc, grid, work, line, computed, lists, footing)
+}
+
+// Makes the lists of those zones whose rows do not rest on the footing once it is moved to the line and the rooms.
+fn fill_zones(
+    alloc: Global,
+    grid: &Grid,
+    work: &mut Work,
+    line: Line,
+    computed: u64,
+    lists: &mut [Rows],
+    footing: &mut Footing,
+) -> Result<Made, NoMemory>
+    ghost of: { BoardLine }
+    requires grid { grid.now ≡ of.board.grid }
+    requires part { line.part ≡ of.part }
+    requires side { line.side ≡ of.side }
+    requires work { IsLineWork of.board of.part of.side work.old }
+    requires zones { length lists.old ≡ zone_count grid.now }
+    requires footing { IsOver grid.now line.side footing.old }
+    ensures filled { IfOk result (AreFilled grid.now of.board of.part of.side computed footing.old footing.new lists.new) }
+    ensures footing { IsOver grid.now line.side footing.new }
+    ensures after { IsFootingAfter (zone_count grid.now) footing.old footing.new }
+    ensures size { length lists.new ≡ length lists.old }
+    ensures work { IsLineWork of.board of.part of.side work.new }
+{
+    footing.rest_where(work.whole.fits);
+    let orders = work.whole.orders.as_slice();
+    footing.move_to(grid, orders, &work.of_part)?;
+    let made = without(computed, footing.resting);
+    let certificates = footing.certificates.as_mut_slice();
+    let resting = list_zones(alloc, grid, work, line, made, lists, certificates)?;
+    Ok(Made {
+        lists: made,
+        resting,
+    })
+}
+
+/// Of which zones lists were made, and of which of these the rows rest on the footing. Bit z stands for zone z.
+#[derive(Clone, Copy)]
+pub(crate) struct Made {
+    /// The zones whose lists were made.
+    pub(crate) lists: u64,
+    /// Those whose rows rest on the footing.
+    pub(crate) resting: u64,
 }
 
 /// Clears all lists. The memory that they have stays.
@@ -102,46 +199,62 @@ fn list_zones(
     grid: &Grid,
     work: &mut Work,
     line: Line,
-    computed: u64,
+    made: u64,
     lists: &mut [Rows],
-    flows: &mut Vec<Flow>,
-) -> Result<(), NoMemory>
+    certificates: &mut [Certificate],
+) -> Result<u64, NoMemory>
     ghost board: { BoardState }
     requires grid { grid.now ≡ board.grid }
     requires work { IsLineWork board line.part line.side work.old }
     requires zones { length lists.old ≡ zone_count grid.now }
-    ensures lists { OnOk result (AreComputed computed board line.part line.side lists.new) }
+    requires certificates { length certificates.old ≡ zone_count grid.now }
+    requires flows { (zone : ℕ) → HasZone grid.now zone → length (certificate_at certificates.old zone).flow ≡ border_count grid.now }
+    ensures lists { OnOk result (AreComputed made board line.part line.side lists.new) }
     ensures size { length lists.new ≡ length lists.old }
     ensures work { IsLineWork board line.part line.side work.new }
+    ensures same { (work.new.of_part ≡ work.old.of_part) × (work.new.whole ≡ work.old.whole) }
+    ensures certificates { length certificates.new ≡ zone_count grid.now }
+    ensures flows { (zone : ℕ) → HasZone grid.now zone → length (certificate_at certificates.new zone).flow ≡ border_count grid.now }
+    ensures others { (zone : ℕ) → holds made zone ≡ false → certificate_at certificates.new zone ≡ certificate_at certificates.old zone }
+    ensures rest { IfOk result (λ resting. AreListed grid.now work.new line.side made resting certificates.new lists.new) }
 {
-    make_flows(alloc, grid, flows)?;
-    let flows = flows.as_mut_slice();
     let whole = work.whole.comes_to(grid, &work.of_part, line.side);
     let zones = grid.zones();
+    let mut resting: u64 = 0;
     for (zone, list) in lists.iter_mut().enumerate() {
         prove!(zone < zones as usize);
-        if is_set(computed, zone) {
-            let flow = flows[zone].as_mut_slice();
+        if is_set(made, zone) {
+            let certificate = &mut certificates[zone];
             let is_whole = is_set(whole, zone);
-            make_list(alloc, grid, work, line, zone as u32, is_whole, list, flow)?;
+            let is = make_list(
+                alloc,
+                grid,
+                work,
+                line,
+                zone as u32,
+                is_whole,
+                list,
+                certificate,
+            )?;
+            resting = with_zone(resting, zone, is);
         }
     }
-    Ok(())
+    Ok(resting)
 }
 
-// Makes a flow to each zone of a grid, none over any border, where there are not as many.
-fn make_flows(alloc: Global, grid: &Grid, flows: &mut Vec<Flow>) -> Result<(), NoMemory>
-    ensures { OnOk result (length flows.new.items ≡ zone_count grid.now) }
+/// Those zones of a set that are not in another one. Bit z stands for zone z.
+pub(crate) fn without(zones: u64, others: u64) -> u64
+    ensures { (zone : ℕ) → holds result zone ≡ (holds zones zone && not (holds others zone)) }
 {
-    let zones = grid.zones();
-    if flows.len() != zones as usize {
-        let mut made = Vec::with_capacity(alloc, zones as usize)?;
-        for _ in 0..zones {
-            made.push(vec![in alloc; (0, 0); grid.borders() as usize]?)?;
-        }
-        *flows = made;
-    }
-    Ok(())
+    zones & !others
+}
+
+// A set, with a zone where that is said.
+fn with_zone(zones: u64, zone: usize, is: bool) -> u64
+    requires { zone < 64 }
+    ensures { (other : ℕ) → holds result other ≡ true → (holds zones other ≡ true) ⊎ ((other ≡ zone) × (is ≡ true)) }
+{
+    if is { zones | (1 << zone) } else { zones }
 }
 
 // Makes the rows of a zone: those of the whole line, where that is its view.
@@ -153,21 +266,25 @@ fn make_list(
     zone: u32,
     is_whole: bool,
     list: &mut Rows,
-    flow: &mut [(u32, u32)],
-) -> Result<(), NoMemory>
+    certificate: &mut Certificate,
+) -> Result<bool, NoMemory>
     ghost board: { BoardState }
     requires grid { grid.now ≡ board.grid }
     requires zone { HasZone grid.now zone }
     requires whole { IsTrue is_whole → work.old.whole.rows.items ≡ view_of board line.part line.side zone }
     requires work { IsLineWork board line.part line.side work.old }
+    requires flow { length certificate.old.flow ≡ border_count grid.now }
     ensures list { OnOk result (list.new ≡ view_of board line.part line.side zone) }
     ensures work { IsLineWork board line.part line.side work.new }
+    ensures same { (work.new.of_part ≡ work.old.of_part) × (work.new.whole ≡ work.old.whole) }
+    ensures flow { length certificate.new.flow ≡ border_count grid.now }
+    ensures rest { IfOk result (λ is. IsTrue is → RestOnWork grid.now work.new line.side zone certificate.new list.new) }
 {
     if is_whole {
-        copy_rows(alloc, work.whole.rows.as_slice(), list)
-    } else {
-        fill_list(alloc, grid, work, line, zone, list, flow)
+        copy_rows(alloc, work.whole.rows.as_slice(), list)?;
+        return Ok(false);
     }
+    fill_list(alloc, grid, work, line, zone, list, certificate)
 }
 
 // Puts rows in place of those of a list.
@@ -201,31 +318,37 @@ fn fill_list(
     line: Line,
     zone: u32,
     list: &mut Rows,
-    flow: &mut [(u32, u32)],
-) -> Result<(), NoMemory>
+    certificate: &mut Certificate,
+) -> Result<bool, NoMemory>
     ghost board: { BoardState }
     requires grid { grid.now ≡ board.grid }
     requires zone { HasZone grid.now zone }
     requires work { IsLineWork board line.part line.side work.old }
+    requires flow { length certificate.old.flow ≡ border_count grid.now }
     ensures list { OnOk result (list.new ≡ view_of board line.part line.side zone) }
     ensures work { IsLineWork board line.part line.side work.new }
+    ensures same { (work.new.of_part ≡ work.old.of_part) × (work.new.whole ≡ work.old.whole) }
+    ensures flow { length certificate.new.flow ≡ border_count grid.now }
+    ensures rest { IfOk result (λ is. IsTrue is → RestOnWork grid.now work.new line.side zone certificate.new list.new) }
 {
     let mut rows = mem::replace(list, Rows::new(alloc)).into_vec();
-    rows.clear();
-    if !list_certified(grid, work, line, zone, flow, &mut rows)? {
-        list_rows(
-            work.whole.orders.as_slice(),
-            grid,
-            &work.of_part,
-            &mut work.walk,
-            line.side,
-            zone,
-            &mut rows,
-        )?;
-        note(grid, &work.of_part, &work.walk.rooms, flow);
+    if list_certified(grid, work, line, zone, certificate, &mut rows)? {
+        *list = Rows::from(rows);
+        return Ok(true);
     }
+    list_rows(
+        work.whole.orders.as_slice(),
+        grid,
+        &work.of_part,
+        &mut work.walk,
+        line.side,
+        zone,
+        &mut rows,
+    )?;
+    let flow = &mut certificate.flow;
+    note(grid, &work.of_part, &work.walk.rooms, flow);
     *list = Rows::from(rows);
-    Ok(())
+    Ok(false)
 }
 
 // Writes the rows of a zone that a draft tells, and answers whether they are certified.
@@ -234,7 +357,7 @@ fn list_certified(
     work: &mut Work,
     line: Line,
     zone: u32,
-    flow: &mut [(u32, u32)],
+    certificate: &mut Certificate,
     rows: &mut Vec<ViewRow>,
 ) -> Result<bool, NoMemory>
     ghost of: { BoardLine }
@@ -243,21 +366,75 @@ fn list_certified(
     requires side { line.side ≡ of.side }
     requires rooms { work.old.of_part ≡ of.rooms }
     requires work { IsLineWork of.board of.part of.side work.old }
-    requires rows { rows.old.items ≡ [] }
+    requires flow { length certificate.old.flow ≡ border_count grid.now }
     ensures rows { IfOk result (λ is. IsTrue is → rows.new.items ≡ view_of of.board of.part of.side zone) }
     ensures work { IsLineWork of.board of.part of.side work.new }
-    ensures size { length flow.new ≡ length flow.old }
+    ensures same { (work.new.of_part ≡ work.old.of_part) × (work.new.whole ≡ work.old.whole) }
+    ensures flow { length certificate.new.flow ≡ border_count grid.now }
+    ensures rest { IfOk result (λ is. IsTrue is → RestOnWork grid.now work.new line.side zone certificate.new rows.new.items) }
 {
     if !work.whole.fits {
         return Ok(false);
     }
-    let orders = work.whole.orders.as_slice();
-    let left = &mut work.walk.rooms;
-    let mut draft = Draft::over(grid, &work.of_part, &work.wide, left, line.side, zone, flow);
-    draft.bring(grid, left, &work.whole.shown);
-    let cuts = Cuts::along(grid, &mut draft, left, orders, rows)?;
-    if draft.is_other {
-        note(grid, &work.of_part, left, flow);
+    let (of_part, left) = (&work.of_part, &mut work.walk.rooms);
+    let (flow, shown) = (&certificate.flow, &work.whole.shown);
+    work.draft
+        .begin(grid, of_part, left, line.side, zone, flow, shown);
+    if list_draft(grid, work, line, zone, rows)? {
+        note_draft(grid, work, certificate);
+        return Ok(true);
     }
-    Ok(cuts.are_certified(grid, left, &work.wide, line.side, zone, orders.len()))
+    let (of_part, left) = (&work.of_part, &mut work.walk.rooms);
+    let (orders, shown) = (work.whole.orders.as_slice(), &work.whole.shown);
+    let flow = &mut certificate.flow;
+    work.draft.exchange(grid, left, orders);
+    note(grid, of_part, left, flow);
+    work.draft
+        .begin(grid, of_part, left, line.side, zone, flow, shown);
+    let is = list_draft(grid, work, line, zone, rows)?;
+    note_draft(grid, work, certificate);
+    Ok(is)
+}
+
+// Notes the flow and the cuts of a draft.
+fn note_draft(grid: &Grid, work: &Work, certificate: &mut Certificate)
+    requires work { IsWork grid.now work.now }
+    requires flow { length certificate.old.flow ≡ border_count grid.now }
+    ensures flow { length certificate.new.flow ≡ border_count grid.now }
+    ensures flows { (arc : AnArc) → HasArc grid.now arc → flow_in certificate.new.flow arc ≡ flow_beside work.now.of_part work.now.walk.rooms arc }
+    ensures cuts { certificate.new.cuts ≡ work.now.cuts.value.places }
+{
+    note(grid, &work.of_part, &work.walk.rooms, &mut certificate.flow);
+    certificate.cuts = work.cuts.places;
+}
+
+// Writes the rows of what a draft has each zone give, in place of others, and answers whether they are certified.
+fn list_draft(
+    grid: &Grid,
+    work: &mut Work,
+    line: Line,
+    zone: u32,
+    rows: &mut Vec<ViewRow>,
+) -> Result<bool, NoMemory>
+    ghost of: { BoardLine }
+    requires grid { grid.now ≡ of.board.grid }
+    requires zone { HasZone grid.now zone }
+    requires side { line.side ≡ of.side }
+    requires rooms { work.old.of_part ≡ of.rooms }
+    requires fits { work.old.whole.fits ≡ true }
+    requires kept { AreKept of.rooms work.old.walk.rooms }
+    requires work { IsLineWork of.board of.part of.side work.old }
+    ensures rows { IfOk result (λ is. IsTrue is → rows.new.items ≡ view_of of.board of.part of.side zone) }
+    ensures work { IsLineWork of.board of.part of.side work.new }
+    ensures drafted { IfOk result (λ is. IsTrue is → IsDrafted grid.now of zone work.new rows.new.items) }
+    ensures same { (work.new.of_part ≡ work.old.of_part) × (work.new.walk ≡ work.old.walk) × (work.new.whole ≡ work.old.whole) }
+    ensures grid { IsGrid grid.now }
+{
+    let zones = grid.zones();
+    let orders = work.whole.orders.as_slice();
+    let cuts = &mut *work.cuts;
+    cuts.along(&work.draft.given, orders, rows)?;
+    cuts.lower(&work.draft.leads, zones, orders.len());
+    let (left, end) = (&work.walk.rooms, orders.len());
+    Ok(cuts.are_certified(grid, left, &work.wide, line.side, zone, end))
 }

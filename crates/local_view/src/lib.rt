@@ -5,10 +5,13 @@
 mod cuts;
 mod draft;
 mod filling;
+mod footing;
 mod laws;
 mod listing;
 mod nearness;
 mod part_views;
+mod replacing;
+mod still_standing;
 mod taker;
 mod views;
 mod walk;
@@ -16,5 +19,7 @@ mod ways;
 mod whole;
 mod work;
 
-pub use laws::{certified_rows_are_views, whole_lines_are_views};
+pub use laws::{
+    certified_rows_are_views, replaced_orders_behind_cuts_change_nothing, whole_lines_are_views,
+};
 pub use views::LocalViews;

@@ -32,8 +32,8 @@ pub(crate) fn near_zones(grid: &Grid, rooms: &Rooms, side: Side, touched: u64) -
     near
 }
 
-// So many zones, the first ones.
-fn first_zones(zones: u32) -> u64
+/// So many zones, the first ones.
+pub(crate) fn first_zones(zones: u32) -> u64
     requires { zones ≤ 64 }
     ensures { result ≡ 2 ^ zones - 1 }
 {

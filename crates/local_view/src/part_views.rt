@@ -9,8 +9,8 @@ ghost use Rattle.local_view.specs.Kept.{AreNext, IsSized, adopted, empty_part, e
 ghost use Rattle.local_view.specs.Rows.{HaveLists, chosen_at, of_zones};
 ghost use Rattle.local_view.specs.Works.{HasMade, IsSound};
 
-use crate::draft::Flow;
-use crate::filling::{clear_lists, fill_lists, is_set};
+use crate::filling::{clear_lists, fill_next, is_set};
+use crate::footing::{Footing, take_off};
 use crate::listing::Line;
 use crate::work::Work;
 use market_model::{Board, NoMemory, Rows, Side, ViewRow};
@@ -27,20 +27,21 @@ pub(crate) struct LineViews {
     zones: u32,
     kept: Vec<Rows>,
     next: Vec<Rows>,
-    // What flowed to each zone when its rows were computed last, where that was noted.
-    flows: Vec<Flow>,
+    // What the rows rest on that are next, or kept where they are not computed.
+    footing: Option<Footing>,
     computed: u64,
     is_next: bool,
 }
 
 impl Model for LineViews {
-    ghost use Rattle.local_view.specs.Rows.{HaveLists, LineRows, chosen, of_zones, rows_if};
+    ghost use Rattle.local_view.specs.Rows.{LineRows, chosen, of_zones, rows_if};
+    ghost use Rattle.local_view.specs.Footing.{IsLine};
 
     ghost Value = { LineRows };
 
     ghost view = { λ line. record { kept = of_zones line.zones line.kept.items; next = rows_if line.is_next (chosen line.zones line.computed line.kept.items line.next.items) } };
 
-    ghost invariant = { λ line. HaveLists line.zones line.kept.items line.next.items };
+    ghost invariant = { λ line. IsLine line.zones line.kept.items line.next.items line.computed line.is_next line.footing };
 }
 
 impl LineViews {
@@ -52,7 +53,7 @@ impl LineViews {
             zones,
             kept: Vec::new(alloc),
             next: Vec::new(alloc),
-            flows: Vec::new(alloc),
+            footing: None,
             computed: 0,
             is_next: false,
         }
@@ -85,7 +86,10 @@ impl LineViews {
     pub(crate) fn forget(&mut self)
         ensures { self.new ≡ forgotten self.old }
     {
-        self.is_next = false;
+        if self.is_next {
+            take_off(&mut self.footing, self.computed);
+            self.is_next = false;
+        }
     }
 
     /// Makes the next rows of each zone: those of a set of zones from the board, and the others are the
@@ -113,26 +117,18 @@ impl LineViews {
         ensures work { IfSome work.new IsSound }
         ensures board { IsBoard (B.state board.now) }
     {
-        self.is_next = false;
+        self.forget();
         if board.first(line.part, line.side).is_none() {
             clear_lists(alloc, self.next.as_mut_slice());
+            self.footing = None;
             self.computed = computed;
             self.is_next = true;
             return Ok(());
         }
         make_lists(alloc, self.zones, &mut self.kept, &mut self.next)?;
         let lists = self.next.as_mut_slice();
-        fill_lists(
-            alloc,
-            board,
-            grid,
-            work,
-            line,
-            computed,
-            lists,
-            &mut self.flows,
-        )?;
-        self.computed = computed;
+        let footing = &mut self.footing;
+        self.computed = fill_next(alloc, board, grid, work, line, computed, lists, footing)?;
         self.is_next = true;
         Ok(())
     }

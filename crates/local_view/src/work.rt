@@ -3,6 +3,8 @@
 ghost use Rattle.std.specs.Prelude.{IfOk, IfSome, OnOk};
 ghost use Rattle.local_view.specs.Works.{IsSound, IsThere, IsWork};
 
+use crate::cuts::Cuts;
+use crate::draft::Draft;
 use crate::walk::Walk;
 use crate::whole::WholeLine;
 use std::alloc::Global;
@@ -21,6 +23,10 @@ pub(crate) struct Work {
     pub(crate) whole: WholeLine,
     /// For each zone the room over which lots of the line's side can leave it.
     pub(crate) wide: [u32; MOST_ZONES],
+    /// What a list drafts.
+    pub(crate) draft: Box<Draft>,
+    /// Where the orders of its zones end to give.
+    pub(crate) cuts: Box<Cuts>,
 }
 
 impl Work {
@@ -34,6 +40,8 @@ impl Work {
             walk: Walk::over(grid)?,
             whole: WholeLine::new(alloc),
             wide: [0; MOST_ZONES],
+            draft: Box::new(alloc, Draft::new())?,
+            cuts: Box::new(alloc, Cuts::new())?,
         })
     }
 }

@@ -1,5 +1,5 @@
 use Rattle.local_view.proofs.filling.fill_over.Given as goal
 
 -- of the same board
-abbrev pub ghost-list_zones : goal.ghost-list_zones
-ghost-list_zones g a = g.of_board
+abbrev pub ghost-fill_zones : goal.ghost-fill_zones
+ghost-fill_zones g a = record { board = g.of_board; part = a.line.part; side = a.line.side; rooms = a.work.now.of_part }

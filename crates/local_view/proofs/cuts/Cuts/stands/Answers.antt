@@ -39,6 +39,8 @@ loop-neighbour-preserved c =
 
 pub returns-then-is_end : goal.returns-then-is_end
 returns-then-is_end c = λ is_end. record {
+  none_left = omega (arith, c.if-self-zone-gt0.false);
+  none_behind = c.if-self-zone.false;
   closed =
       all_closed c.args.grid.now (room_of c.args.left.now) c.args.side c.args.self.now.places c.args.zone c.loop-neighbour.neighbour-index (cut_by c.args.self.now c.args.zone)
       c.neighbours-neighbours.result.now c.neighbours-neighbours.ensures.neighbours c.loop-neighbour-test.false c.loop-neighbour.invariant.closed;
@@ -52,6 +54,8 @@ returns-then-lots-wide c = λ less.
     let out = room_to_all c.args.grid.now (room_of c.args.left.now) c.args.side c.args.zone c.loop-neighbour.neighbour-index c.neighbours-neighbours.result.now
     c.neighbours-neighbours.ensures.neighbours c.loop-neighbour-test.false in
     record {
+      none_left = omega (arith, c.if-self-zone-gt0.false);
+      none_behind = c.if-self-zone.false;
       closed =
           all_closed c.args.grid.now (room_of c.args.left.now) c.args.side c.args.self.now.places c.args.zone c.loop-neighbour.neighbour-index (cut_by c.args.self.now c.args.zone)
           c.neighbours-neighbours.result.now c.neighbours-neighbours.ensures.neighbours c.loop-neighbour-test.false c.loop-neighbour.invariant.closed;

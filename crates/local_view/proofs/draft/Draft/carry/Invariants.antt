@@ -10,5 +10,5 @@ abbrev pub invariant-loop-2 : goal.invariant-loop-2
 invariant-loop-2 l = record {
   size : length l.left ≡ border_count l.grid;
   kept : AreKept l.fn.left l.left;
-  rest : l.self.rest ≡ l.fn.self.rest;
+  rest : l.self.given ≡ l.fn.self.given;
 }

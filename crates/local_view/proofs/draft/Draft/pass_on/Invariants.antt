@@ -1,10 +1,8 @@
 use Rattle.std.proofs.Common.{◌≡◌, length}
 use Rattle.zone_graph.specs.Graph.{border_count}
 use Rattle.local_view.specs.Drafts.{AreKept}
-use Rattle.local_view.proofs.draft.Draft.tell.Given as goal
+use Rattle.local_view.proofs.draft.Draft.pass_on.Given as goal
 
+-- what is left so far keeps the sums
 abbrev pub invariant-loop-zone-then-staying-ne0 : goal.invariant-loop-zone-then-staying-ne0
-invariant-loop-zone-then-staying-ne0 l = record {
-  size : length l.left ≡ border_count l.grid;
-  kept : AreKept l.fn.left l.left;
-}
+invariant-loop-zone-then-staying-ne0 l = record { size : length l.left ≡ border_count l.grid; kept : AreKept l.fn.left l.left }

@@ -1,0 +1,368 @@
+-- What rows rest on, moved to another line and to other rooms.
+use Rattle.std.proofs.Common.{Global, Vec, ◌≡◌, ◌≢◌, ◌∙◌, ◌⊎◌, ℕ, ◌+◌, ◌*◌, ◌%◌, ◌^◌, ◌<◌, ◌≤◌, ◌==◌, ◌&&◌, Bool, not, true, false, List, [], inl, inr, length, map, None, Option, Some, refl, set, slice_index_or, ap, subst, sym, arith}
+use Rattle.std.proofs.lemmas.Bool.{true≢false}
+use Rattle.std.proofs.lemmas.Bool.Decides.{eqb_tells}
+use Rattle.std.proofs.lemmas.List.{get_or-set_other, get_or-set_same, length-set}
+use Rattle.std.proofs.lemmas.Nat.Bits.{bit_at_set_other}
+use Rattle.std.specs.Int.{w64}
+use Rattle.std.specs.Int.RustNames.{bit_or}
+use Rattle.cut_proof.specs.ZoneSet.{holds}
+use Rattle.order_kinds.specs.declared.side.Side.{Side}
+use Rattle.order_kinds.specs.declared.side.Side.TheVariants.{Buy, Sell}
+use Rattle.zone_graph.specs.declared.route.Arc.{Arc}
+use Rattle.zone_graph.specs.Graph.{Graph, HasZone, arc_ends, border_count, most_zones, zone_count}
+use Rattle.zone_graph.specs.Pour.{opposite_arc}
+use Rattle.zone_graph.specs.Rooms.{room_of}
+use Rattle.zone_graph.specs.Route.{IsIn}
+use Rattle.zone_graph.proofs.Membership.{from_map}
+use Rattle.market_model.specs.declared.reply.ViewRow.{ViewRow}
+use Rattle.market_model.specs.Board.{BoardState, resting_line}
+use Rattle.market_model.specs.Orders.{Standing}
+use Rattle.local_view.specs.declared.footing.Certificate.{Certificate}
+use Rattle.local_view.specs.declared.footing.Footing.{Footing}
+use Rattle.local_view.specs.declared.whole.LineOrder.{LineOrder}
+use Rattle.local_view.specs.Certified.{IsCertified, lots_from, lots_to}
+use Rattle.local_view.specs.Footing.{AreFilled, AreMadeOver, IsFootingAfter, IsFoundedAt, IsOver, Rest, RestOn, certificate_at}
+use Rattle.local_view.specs.Moved.{AreBehindCuts, IsMoved, IsReplaced, StandOver, StandsOn, cut_in, flow_in}
+use Rattle.local_view.specs.Whole.{IsRead, in_line}
+use Rattle.local_view.specs.declared.whole.WholeLine.{WholeLine}
+use Rattle.local_view.specs.Boards.{AreRoomsOf, view_of}
+use Rattle.local_view.specs.declared.filling.Made.{Made}
+use Rattle.local_view.proofs.Bits.{holds-or, holds-zero, one_true}
+use Rattle.local_view.proofs.Certificates.{certified_view}
+use Rattle.local_view.proofs.Moving.{replaced_stand}
+use Rattle.local_view.proofs.Wholes.{zones-resting}
+
+-- what stands over other rooms certifies the same there
+over_rooms : (graph : Graph) (old new : Arc → ℕ) (side : Side) (zone : ℕ) (line : List Standing) (flow : Arc → ℕ) (taken cut : ℕ → ℕ) → StandOver graph old new side flow cut
+    → IsCertified graph old side zone line flow taken cut → IsCertified graph new side zone line flow taken cut
+over_rooms graph old new side zone line flow taken cut stand certified = record {
+  within = λ arc there. elim (stand arc there) [
+    | inl same ↦ subst (λ room. flow arc ≤ room + flow (opposite_arc arc)) (sym same) (certified.within arc there)
+    | inr stands ↦ stands.within
+  ];
+  balanced = certified.balanced;
+  before = certified.before;
+  behind = certified.behind;
+  own = certified.own;
+  closed = λ arc there spare. elim (stand arc there) [
+    | inl same ↦ certified.closed arc there (subst (λ room. flow arc < room + flow (opposite_arc arc)) same spare)
+    | inr stands ↦ stands.closed spare
+  ];
+}
+
+-- arcs lead where their borders do, whatever the zones are called
+module _ (graph other : Graph) (same : other.borders ≡ graph.borders) where
+  same-ends : (border : ℕ) (forward : Bool) → arc_ends other (record { border = border; forward = forward }) ≡ arc_ends graph (record { border = border; forward = forward })
+  same-ends border true = ap (λ borders. slice_index_or borders border (0, 0)) same
+  same-ends border false = ap (λ borders. ((slice_index_or borders border (0, 0)).1, (slice_index_or borders border (0, 0)).0)) same
+
+  same-to : (side : Side) (arc : Arc) → lots_to graph side arc ≡ lots_to other side arc
+  same-to Sell arc = sym (ap (λ (ends : ℕ × ℕ). ends.1) (same-ends arc.border arc.forward))
+  same-to Buy arc = sym (ap (λ (ends : ℕ × ℕ). ends.0) (same-ends arc.border arc.forward))
+
+  same-from : (side : Side) (arc : Arc) → lots_from graph side arc ≡ lots_from other side arc
+  same-from Sell arc = sym (ap (λ (ends : ℕ × ℕ). ends.0) (same-ends arc.border arc.forward))
+  same-from Buy arc = sym (ap (λ (ends : ℕ × ℕ). ends.1) (same-ends arc.border arc.forward))
+
+  same_stand : (old new : Arc → ℕ) (side : Side) (flow : Arc → ℕ) (cut : ℕ → ℕ) → StandOver graph old new side flow cut → StandOver other old new side flow cut
+  same_stand old new side flow cut stand = λ arc there. elim (stand arc (subst (λ borders. arc.border < length borders) same there)) [
+    | inl alike ↦ inl alike
+    | inr stands ↦ inr (record {
+      within = stands.within;
+      closed = λ spare. subst (λ to. cut to ≤ cut (lots_from other side arc)) (same-to side arc) (subst (λ from. cut (lots_to graph side arc) ≤ cut from) (same-from side arc) (stands.closed spare));
+    })
+  ]
+
+-- rows that rest on a line and rooms rest on others, where the certificate stands over the rooms and its cuts are moved to
+-- where they are in the new line
+pub moved_rest : (graph : Graph) (old_rooms new_rooms : List (ℕ × ℕ)) (side : Side) (old new : List LineOrder) (line : List Standing) (certificate moved : Certificate) (first last next : ℕ)
+    → zone_count graph ≤ most_zones
+    → new ≡ map in_line line → ((order : Standing) → IsIn order line → HasZone graph order.order.zone)
+    → IsReplaced old new first last next → AreBehindCuts old first last (cut_in certificate.cuts) → AreBehindCuts new first next (cut_in certificate.cuts)
+    → StandOver graph (room_of old_rooms) (room_of new_rooms) side (flow_in certificate.flow) (cut_in certificate.cuts)
+    → ((other : ℕ) → other < most_zones → IsMoved first last next (cut_in certificate.cuts other) (cut_in moved.cuts other))
+    → moved.flow ≡ certificate.flow → (zone : ℕ) (rows : List ViewRow)
+    → RestOn (zone_count graph) graph.borders old_rooms side zone old certificate rows → RestOn (zone_count graph) graph.borders new_rooms side zone new moved rows
+moved_rest graph old_rooms new_rooms side old new line certificate moved first last next few orders zones replaced old_behind new_behind stand cuts flow zone rows rest = record {
+  graph = rest.graph;
+  is_graph = rest.is_graph;
+  zones_are = rest.zones_are;
+  borders_are = rest.borders_are;
+  has_zone = rest.has_zone;
+  line = line;
+  orders_are = orders;
+  in_zones = in_zones;
+  taken = rest.taken;
+  certified = subst (λ f. IsCertified rest.graph (room_of new_rooms) side zone line (flow_in f) rest.taken (cut_in moved.cuts)) (sym flow) stood.certified;
+  rows_are = rest.rows_are ∙ sym stood.rows;
+}
+  where
+    in_zones : (order : Standing) → IsIn order line → HasZone rest.graph order.order.zone
+    in_zones order i = let there = zones order i in let same = rest.zones_are in omega (arith, there, same)
+
+    stood : StandsOn rest.graph (room_of new_rooms) side zone rest.line line (flow_in certificate.flow) rest.taken (cut_in moved.cuts)
+    stood =
+        replaced_stand rest.graph (room_of new_rooms) side zone rest.line line (flow_in certificate.flow) rest.taken (cut_in certificate.cuts) (cut_in moved.cuts) first last next rest.is_graph
+        rest.has_zone rest.in_zones in_zones
+        (over_rooms rest.graph (room_of old_rooms) (room_of new_rooms) side zone rest.line (flow_in certificate.flow) rest.taken (cut_in certificate.cuts)
+        (same_stand graph rest.graph rest.borders_are (room_of old_rooms) (room_of new_rooms) side (flow_in certificate.flow) (cut_in certificate.cuts) stand) rest.certified)
+        (subst (λ list. IsReplaced list (map in_line line) first last next) rest.orders_are (subst (λ list. IsReplaced old list first last next) orders replaced))
+        (subst (λ list. AreBehindCuts list first last (cut_in certificate.cuts)) rest.orders_are old_behind) (subst (λ list. AreBehindCuts list first next (cut_in certificate.cuts)) orders new_behind)
+        (λ other there. cuts other (let same = rest.zones_are in omega (arith, there, same, few)))
+
+-- the orders that views see are of the zones of a line
+pub seen_within : (graph : Graph) (line : List Standing) → ((order : Standing) → IsIn order line → HasZone graph order.order.zone)
+    → (order : LineOrder) → IsIn order (map in_line line) → HasZone graph order.zone
+seen_within graph line zones order i = let from = from_map in_line order line i in subst (λ (o : LineOrder). HasZone graph o.zone) (sym from.2) (zones from.0 from.1)
+
+-- what certifies over a graph does so over another one with the same borders and as many zones
+renamed : (names others : List (List ℕ)) (borders : List (ℕ × ℕ)) (room : Arc → ℕ) (side : Side) (zone : ℕ) (line : List Standing) (flow : Arc → ℕ) (taken cut : ℕ → ℕ) → length names ≡ length others
+    → IsCertified (record { zones = names; borders = borders }) room side zone line flow taken cut → IsCertified (record { zones = others; borders = borders }) room side zone line flow taken cut
+renamed names others borders room side zone line flow taken cut same certified = record {
+  within = certified.within;
+  balanced = λ other there. certified.balanced other (omega (arith, same, there));
+  before = λ other there. certified.before other (omega (arith, same, there));
+  behind = λ other there. certified.behind other (omega (arith, same, there));
+  own = certified.own;
+  closed = certified.closed;
+}
+
+-- rows that rest on the line of a board and the rooms of its part are its view
+pub rest_view : (board : BoardState) → board.hand ≡ None → (part : ℕ) (side : Side) (zone : ℕ) → HasZone board.grid zone → (rooms : List (ℕ × ℕ)) → AreRoomsOf board part rooms
+    → (whole : WholeLine) → IsRead board part side whole → whole.fits ≡ true → (certificate : Certificate) (rows : List ViewRow)
+    → RestOn (zone_count board.grid) board.grid.borders rooms side zone whole.orders.items certificate rows → rows ≡ view_of board part side zone
+rest_view board none part side zone known rooms of whole read fits certificate rows rest =
+    rest.rows_are
+    ∙ sym stood.rows
+    ∙ certified_view board none read.is_board part side zone known rooms of (flow_in certificate.flow) rest.taken (cut_in certificate.cuts)
+    (renamed rest.graph.zones board.grid.zones board.grid.borders (room_of rooms) side zone line (flow_in certificate.flow) rest.taken (cut_in certificate.cuts) rest.zones_are
+    (subst (λ borders. IsCertified (record { zones = rest.graph.zones; borders = borders }) (room_of rooms) side zone line (flow_in certificate.flow) rest.taken (cut_in certificate.cuts)) rest.borders_are
+    stood.certified))
+    (read.few fits)
+  where
+    line : List Standing
+    line = resting_line board part side
+
+    same : map in_line rest.line ≡ map in_line line
+    same = sym rest.orders_are ∙ read.orders
+
+    stood : StandsOn rest.graph (room_of rooms) side zone rest.line line (flow_in certificate.flow) rest.taken (cut_in certificate.cuts)
+    stood =
+        replaced_stand rest.graph (room_of rooms) side zone rest.line line (flow_in certificate.flow) rest.taken (cut_in certificate.cuts) (cut_in certificate.cuts) 0 0 0 rest.is_graph rest.has_zone
+        rest.in_zones (λ order i. let there = zones-resting board none part side whole read order i in let count = rest.zones_are in omega (arith, there, count))
+        rest.certified
+        (record { in_old = (omega arith, omega arith); in_new = (omega arith, omega arith); before = refl; behind = same })
+        (record { each = λ place early less. absurd (omega (arith, less)) })
+        (record { each = λ place early less. absurd (omega (arith, less)) })
+        (λ other there. record { early = λ less. absurd (omega (arith, less)); between = λ early less. absurd (omega (arith, less)); late = λ later. refl })
+
+-- ---- the certificates of a footing, moved one after the other
+
+module _ (zones : ℕ) (base : Footing) (rooms : List (ℕ × ℕ)) (orders : List LineOrder) where
+  -- what rests on the certificate of a zone there rests on one here
+  pub record Stands (zone : ℕ) (certificate : Certificate) : Type 0 where
+    pub had : holds base.resting zone ≡ true
+    pub rest : (rows : List ViewRow) → Rest zones base zone rows → RestOn zones base.ends.items rooms base.side zone orders certificate rows
+
+  pub stands_by : (zone : ℕ) (borders : List (ℕ × ℕ)) (old : List LineOrder) (own certificate : Certificate) → base.ends.items ≡ borders → old ≡ base.orders.items
+      → own ≡ certificate_at base.certificates.items zone → holds base.resting zone ≡ true
+      → ((rows : List ViewRow) → RestOn zones borders base.rooms base.side zone old own rows → RestOn zones borders rooms base.side zone orders certificate rows) → Stands zone certificate
+  stands_by zone borders old own certificate ends_are orders_are own_is had moves = record {
+    had = had;
+    rest = λ rows rest.
+        subst (λ ends. RestOn zones ends rooms base.side zone orders certificate rows) (sym ends_are)
+        (moves rows
+        (subst (λ ends. RestOn zones ends base.rooms base.side zone old own rows) ends_are
+        (subst (λ list. RestOn zones base.ends.items base.rooms base.side zone list own rows) (sym orders_are)
+        (subst (λ c. RestOn zones base.ends.items base.rooms base.side zone base.orders.items c rows) (sym own_is) rest))));
+  }
+
+  -- the first certificates are moved, some of which stand, and the others are as they were
+  pub record AreMoved (count still : ℕ) (certificates : List Certificate) : Type 0 where
+    pub size : length certificates ≡ length base.certificates.items
+    pub below : (zone : ℕ) → holds still zone ≡ true → zone < count
+    pub flows : (zone : ℕ) → (certificate_at certificates zone).flow ≡ (certificate_at base.certificates.items zone).flow
+    pub kept : (zone : ℕ) → count ≤ zone → certificate_at certificates zone ≡ certificate_at base.certificates.items zone
+    pub stand : (zone : ℕ) → holds still zone ≡ true → Stands zone (certificate_at certificates zone)
+
+  -- the next one too, and a zone of those that stand is one of the earlier ones or its own
+  next_moved : (count still next : ℕ) (certificates : List Certificate) (certificate : Certificate) → count < length certificates
+      → certificate.flow ≡ (certificate_at certificates count).flow → ((zone : ℕ) → holds next zone ≡ true → holds still zone ≡ true ⊎ ((zone ≡ count) × Stands count certificate))
+      → AreMoved count still certificates → AreMoved (count + 1) next (set certificates count certificate)
+  next_moved count still next certificates certificate there flow stands are = record {
+    size = length-set certificates count certificate ∙ are.size;
+    below = λ zone held. elim (stands zone held) [
+      | inl earlier ↦ let less = are.below zone earlier in omega (arith, less)
+      | inr own ↦ let same = own.0 in omega (arith, same)
+    ];
+    flows = λ zone. elim (eqb_tells zone count) [
+      | inl same ↦
+          subst (λ z. (certificate_at (set certificates count certificate) z).flow ≡ (certificate_at base.certificates.items z).flow) (sym same.1)
+          (ap (λ (c : Certificate). c.flow) here ∙ flow ∙ are.flows count)
+      | inr apart ↦ ap (λ (c : Certificate). c.flow) (other zone apart.1) ∙ are.flows zone
+    ];
+    kept = λ zone past. other zone (λ same. omega (arith, past, same)) ∙ are.kept zone (omega (arith, past));
+    stand = λ zone held. elim (stands zone held) [
+      | inl earlier ↦ let less = are.below zone earlier in subst (Stands zone) (sym (other zone (λ same. omega (arith, less, same)))) (are.stand zone earlier)
+      | inr own ↦ subst (λ z. Stands z (certificate_at (set certificates count certificate) z)) (sym own.0) (subst (Stands count) (sym here) own.1)
+    ];
+  }
+    where
+      here : certificate_at (set certificates count certificate) count ≡ certificate
+      here = get_or-set_same certificates count certificate (record { flow = []; cuts = [] }) there
+
+      other : (zone : ℕ) → zone ≢ count → certificate_at (set certificates count certificate) zone ≡ certificate_at certificates zone
+      other zone apart = get_or-set_other certificates count zone certificate (record { flow = []; cuts = [] }) apart
+
+  -- where it stands
+  pub one_moved : (count still : ℕ) (certificates : List Certificate) (certificate : Certificate) → count < length certificates → count < 64
+      → certificate.flow ≡ (certificate_at certificates count).flow → Stands count certificate
+      → AreMoved count still certificates → AreMoved (count + 1) (bit_or still (1 * 2 ^ count % 2 ^ 64)) (set certificates count certificate)
+  one_moved count still certificates certificate there few flow stands are =
+      next_moved count still (bit_or still (1 * 2 ^ count % 2 ^ 64)) certificates certificate there flow
+      (λ zone held. elim (eqb_tells zone count) [
+        | inl same ↦ inr (same.1, stands)
+        | inr apart ↦ inl (sym (ap (λ n. n == 1) (bit_at_set_other w64 still count few zone apart.1)) ∙ held)
+      ])
+      are
+
+  -- and where it does not
+  pub none_moved : (count still : ℕ) (certificates : List Certificate) (certificate : Certificate) → count < length certificates
+      → certificate.flow ≡ (certificate_at certificates count).flow
+      → AreMoved count still certificates → AreMoved (count + 1) still (set certificates count certificate)
+  none_moved count still certificates certificate there flow are = next_moved count still still certificates certificate there flow (λ zone held. inl held) are
+
+-- ---- lists made and kept
+
+-- one footing after the other
+pub after_on : (zones : ℕ) (first next last : Footing) → IsFootingAfter zones first next → IsFootingAfter zones next last → IsFootingAfter zones first last
+after_on zones first next last one two = record {
+  had = λ zone held. one.had zone (two.had zone held);
+  rest = λ zone rows less held rest. two.rest zone rows less held (one.rest zone rows less (two.had zone held) rest);
+}
+
+-- a footing on which fewer rows rest
+module _ (old new : Footing) (same : new ≡ record old { resting = new.resting }) where
+  pub after_fewer : (zones : ℕ) → ((zone : ℕ) → holds new.resting zone ≡ true → holds old.resting zone ≡ true) → IsFootingAfter zones old new
+  after_fewer zones had = record { had = had; rest = λ zone rows less held rest. subst (λ f. Rest zones f zone rows) (sym same) rest }
+
+  pub over_fewer : (graph : Graph) (side : Side) → IsOver graph side old → IsOver graph side new
+  over_fewer graph side over = subst (IsOver graph side) (sym same) (record {
+    side_is = over.side_is;
+    ends_are = over.ends_are;
+    sized = record { rooms_are = over.sized.rooms_are; count = over.sized.count; flows = over.sized.flows; orders_in = over.sized.orders_in };
+  })
+
+-- a footing with other certificates of a set of zones whose rows do not rest on it
+module _ (zones : ℕ) (old : Footing) (certificates : Vec Certificate Global) (list : List Certificate) (are : certificates.items ≡ list) (made : ℕ)
+    (others : (zone : ℕ) → holds made zone ≡ false → certificate_at list zone ≡ certificate_at old.certificates.items zone)
+    (apart : (zone : ℕ) → zone < zones → holds old.resting zone ≡ true → holds made zone ≡ false) where
+  abbrev new : Footing
+  new = record old { certificates = certificates }
+
+  pub after_listed : IsFootingAfter zones old new
+  after_listed = record {
+    had = λ zone held. held;
+    rest = λ zone rows less held rest.
+        subst (λ certificate. RestOn zones old.ends.items old.rooms old.side zone old.orders.items certificate rows)
+        (sym (ap (λ l. certificate_at l zone) are ∙ others zone (apart zone less held))) rest;
+  }
+
+  pub over_listed : (graph : Graph) (side : Side) → length list ≡ zone_count graph → ((zone : ℕ) → HasZone graph zone → length (certificate_at list zone).flow ≡ border_count graph)
+      → IsOver graph side old → IsOver graph side new
+  over_listed graph side size flows over = record {
+    side_is = over.side_is;
+    ends_are = over.ends_are;
+    sized = record {
+      rooms_are = over.sized.rooms_are;
+      count = ap length are ∙ size;
+      flows = λ zone less. ap (λ l. length (certificate_at l zone).flow) are ∙ flows zone less ∙ sym (ap length over.ends_are);
+      orders_in = over.sized.orders_in;
+    };
+  }
+
+-- what is in one set and not in another one
+only_first : (a b c : Bool) → c ≡ (a && not b) → c ≡ true → (a ≡ true) × (b ≡ false)
+only_first true true c e is = absurd (true≢false (sym is ∙ e))
+only_first true false c e is = (refl, refl)
+only_first false b c e is = absurd (true≢false (sym is ∙ e))
+
+in_second : (a b c : Bool) → c ≡ (a && not b) → a ≡ true → c ≡ false → b ≡ true
+in_second true true c e is none = refl
+in_second true false c e is none = absurd (true≢false (sym e ∙ none))
+in_second false b c e is none = absurd (true≢false (sym is))
+
+not_left : (a b c : Bool) → c ≡ (a && not b) → b ≡ true → c ≡ false
+not_left true true c e is = e
+not_left true false c e is = absurd (true≢false (sym is))
+not_left false b c e is = e
+
+-- of a set of zones those are listed whose rows do not rest on a footing once it is moved
+module _ (graph : Graph) (first fewer moved : Footing) (may : Bool) (same : fewer ≡ record first { resting = fewer.resting })
+    (had : (zone : ℕ) → holds fewer.resting zone ≡ true → (may ≡ true) × (holds first.resting zone ≡ true)) (after : IsFootingAfter (zone_count graph) fewer moved) (computed made : ℕ)
+    (are_made : (zone : ℕ) → holds made zone ≡ (holds computed zone && not (holds moved.resting zone))) where
+  pub after_moved : IsFootingAfter (zone_count graph) first moved
+  after_moved = after_on (zone_count graph) first fewer moved (after_fewer first fewer same (zone_count graph) (λ zone held. (had zone held).1)) after
+
+  pub resting_apart : (zone : ℕ) → HasZone graph zone → holds moved.resting zone ≡ true → holds made zone ≡ false
+  resting_apart zone there held = not_left (holds computed zone) (holds moved.resting zone) (holds made zone) (are_made zone) held
+
+  pub made_within : (zone : ℕ) → HasZone graph zone → holds made zone ≡ true → holds computed zone ≡ true
+  made_within zone there held = (only_first (holds computed zone) (holds moved.resting zone) (holds made zone) (are_made zone) held).0
+
+  pub kept_rests : (zone : ℕ) → HasZone graph zone → holds computed zone ≡ true → holds made zone ≡ false
+      → (may ≡ true) × (holds first.resting zone ≡ true) × ((rows : List ViewRow) → Rest (zone_count graph) first zone rows → Rest (zone_count graph) moved zone rows)
+  kept_rests zone there is none =
+      let held = in_second (holds computed zone) (holds moved.resting zone) (holds made zone) (are_made zone) is none in
+      let had_it = had zone (after.had zone held) in
+      (had_it.0, had_it.1, λ rows rest. after_moved.rest zone rows there held rest)
+
+-- rows rest on what a footing holds
+pub held_by : (zones : ℕ) (footing : Footing) (ends rooms : List (ℕ × ℕ)) (side : Side) (orders : List LineOrder) (certificate : Certificate) (zone : ℕ) (rows : List ViewRow)
+    → footing.ends.items ≡ ends → footing.rooms ≡ rooms → footing.side ≡ side → footing.orders.items ≡ orders
+    → RestOn zones footing.ends.items footing.rooms footing.side zone footing.orders.items certificate rows → RestOn zones ends rooms side zone orders certificate rows
+held_by zones footing ends rooms side orders certificate zone rows ends_are rooms_are side_is orders_are rest =
+    subst (λ list. RestOn zones ends rooms side zone list certificate rows) orders_are
+    (subst (λ s. RestOn zones ends rooms s zone footing.orders.items certificate rows) side_is
+    (subst (λ list. RestOn zones ends list footing.side zone footing.orders.items certificate rows) rooms_are
+    (subst (λ list. RestOn zones list footing.rooms footing.side zone footing.orders.items certificate rows) ends_are rest)))
+
+pub holds_it : (zones : ℕ) (footing : Footing) (ends rooms : List (ℕ × ℕ)) (side : Side) (orders : List LineOrder) (certificate : Certificate) (zone : ℕ) (rows : List ViewRow)
+    → footing.ends.items ≡ ends → footing.rooms ≡ rooms → footing.side ≡ side → footing.orders.items ≡ orders
+    → RestOn zones ends rooms side zone orders certificate rows → RestOn zones footing.ends.items footing.rooms footing.side zone footing.orders.items certificate rows
+holds_it zones footing ends rooms side orders certificate zone rows ends_are rooms_are side_is orders_are rest =
+    subst (λ list. RestOn zones footing.ends.items footing.rooms footing.side zone list certificate rows) (sym orders_are)
+    (subst (λ s. RestOn zones footing.ends.items footing.rooms s zone orders certificate rows) (sym side_is)
+    (subst (λ list. RestOn zones footing.ends.items list side zone orders certificate rows) (sym rooms_are)
+    (subst (λ list. RestOn zones list rooms side zone orders certificate rows) (sym ends_are) rest)))
+
+-- ---- what lists were made over a footing
+
+module _ (graph : Graph) (board : BoardState) (part : ℕ) (side : Side) (computed : ℕ) (old : Option Footing) (base filled : Footing) (same : (Some base ≡ old) ⊎ (base.resting ≡ 0))
+    (after : IsFootingAfter (zone_count graph) base filled) where
+  -- where its rows rested they do on the footing that was there
+  based : (zone : ℕ) (rows : List ViewRow) → IsFoundedAt (zone_count graph) old zone rows → holds base.resting zone ≡ true → Rest (zone_count graph) base zone rows
+  based zone rows founded held = elim same [
+    | inl is ↦ subst (λ o. IsFoundedAt (zone_count graph) o zone rows) (sym is) founded held
+    | inr none ↦ absurd (true≢false (sym held ∙ ap (λ n. holds n zone) none ∙ holds-zero zone))
+  ]
+
+  pub still_founded : (zone : ℕ) (rows : List ViewRow) → HasZone graph zone → IsFoundedAt (zone_count graph) old zone rows → IsFoundedAt (zone_count graph) (Some filled) zone rows
+  still_founded zone rows there founded held = after.rest zone rows there held (based zone rows founded (after.had zone held))
+
+  pub made_over : (lists : List (List ViewRow)) (made : Made) → AreFilled graph board part side computed base filled lists made
+      → AreMadeOver graph board part side computed old (Some (record filled { resting = bit_or filled.resting made.resting })) lists made.lists
+  made_over lists made are = record {
+    within = are.within;
+    views = are.views;
+    kept = λ zone rows there is none founded. let kept = are.kept zone there is none in kept.1 rows (based zone rows founded kept.0);
+    own = λ zone there listed held. elim (one_true (holds filled.resting zone) (holds made.resting zone) (sym (holds-or filled.resting made.resting zone) ∙ held)) [
+      | inl was ↦ absurd (true≢false (sym listed ∙ are.apart zone there was))
+      | inr is ↦ are.rest zone there is
+    ];
+    rest = λ zone rows there none founded held. elim (one_true (holds filled.resting zone) (holds made.resting zone) (sym (holds-or filled.resting made.resting zone) ∙ held)) [
+      | inl was ↦ still_founded zone rows there founded was
+      | inr is ↦ absurd (true≢false (sym (are.own zone there is) ∙ none))
+    ];
+  }

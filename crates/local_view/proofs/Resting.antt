@@ -1,0 +1,127 @@
+-- Rows that rest on a line and rooms, where a draft of them is certified.
+use Rattle.std.proofs.Common.{◌≡◌, ◌≢◌, ◌∙◌, ◌⊎◌, ◌+◌, ◌<◌, ◌≤◌, ℕ, Bool, true, false, IsTrue, List, [], inl, inr, get_or, get_or-set_other, get_or-set_same, length, set, refl, sym, ap, subst, arith}
+use Rattle.std.proofs.lemmas.Bool.{cases_lt, true≢false}
+use Rattle.std.proofs.lemmas.Bool.Decides.{eqb_tells}
+use Rattle.std.proofs.lemmas.List.{get_or_past, length-set}
+use Rattle.cut_proof.specs.ZoneSet.{holds}
+use Rattle.order_kinds.specs.declared.side.Side.{Side}
+use Rattle.zone_graph.specs.declared.route.Arc.{Arc}
+use Rattle.zone_graph.specs.Graph.{Graph, HasArc, HasZone, border_count, zone_count}
+use Rattle.zone_graph.specs.Grid.{IsGrid}
+use Rattle.zone_graph.specs.Rooms.{part_of, room_of}
+use Rattle.market_model.specs.declared.reply.ViewRow.{ViewRow}
+use Rattle.market_model.specs.Board.{resting_line}
+use Rattle.market_model.specs.Orders.{Standing}
+use Rattle.local_view.specs.declared.footing.Certificate.{Certificate}
+use Rattle.local_view.specs.declared.work.Work.{Work}
+use Rattle.local_view.specs.Certified.{IsCertified}
+use Rattle.local_view.specs.Cuts.{cut_by, flow_beside, given_by}
+use Rattle.local_view.specs.Footing.{IsDrafted, RestOnWork, certificate_at}
+use Rattle.local_view.specs.Moved.{cut_in, flow_in}
+use Rattle.local_view.specs.Works.{BoardLine, IsLineWork}
+use Rattle.local_view.proofs.Wholes.{zones-resting}
+
+-- behind the last border there is no room
+none_past : (rooms : List (ℕ × ℕ)) (arc : Arc) → length rooms ≤ arc.border → room_of rooms arc ≡ 0
+none_past rooms arc past = ap (part_of arc.forward) (get_or_past rooms arc.border (0, 0) past) ∙ none arc.forward
+  where
+    none : (forward : Bool) → part_of forward (0, 0) ≡ 0
+    none true = refl
+    none false = refl
+
+module _ (graph : Graph) (is : IsGrid graph) (of : BoardLine) (same_grid : graph ≡ of.board.grid) (zone : ℕ) (known : HasZone graph zone) (work : Work) (of_line : IsLineWork of.board of.part of.side work)
+    (rooms_are : work.of_part ≡ of.rooms) where
+  abbrev line : List Standing
+  line = resting_line of.board of.part of.side
+
+  size : length of.rooms ≡ border_count graph
+  size = ap length (sym rooms_are) ∙ of_line.sized.sound.of_part ∙ of_line.sized.borders ∙ ap border_count (sym same_grid)
+
+  -- rows of a draft that are certified rest on its line and rooms, where what certifies them is noted
+  pub rest-drafted : (rows : List ViewRow) (certificate : Certificate) → IsDrafted graph of zone work rows → length certificate.flow ≡ border_count graph
+      → ((arc : Arc) → HasArc graph arc → flow_in certificate.flow arc ≡ flow_beside work.of_part work.walk.rooms arc) → certificate.cuts ≡ work.cuts.value.places
+      → RestOnWork graph work of.side zone certificate rows
+  rest-drafted rows certificate drafted flow_size flows cuts = record {
+    graph = graph;
+    is_graph = is.is_graph;
+    zones_are = refl;
+    borders_are = refl;
+    has_zone = known;
+    line = line;
+    orders_are = of_line.read.orders;
+    in_zones = λ order i.
+        subst (λ (g : Graph). HasZone g order.order.zone) (sym same_grid) (zones-resting of.board of_line.hand of.part of.side work.whole of_line.read order i);
+    taken = given_by work.cuts.value;
+    certified =
+        subst (λ (rooms : List (ℕ × ℕ)). IsCertified graph (room_of rooms) of.side zone line (flow_in certificate.flow) (given_by work.cuts.value) (cut_in certificate.cuts)) (sym rooms_are)
+        (subst (λ (cuts : List ℕ). IsCertified graph (room_of of.rooms) of.side zone line (flow_in certificate.flow) (given_by work.cuts.value) (cut_in cuts)) (sym cuts)
+        (subst (λ (flow : Arc → ℕ). IsCertified graph (room_of of.rooms) of.side zone line flow (given_by work.cuts.value) (cut_by work.cuts.value)) (λ i. λ arc. sym (same arc) i) drafted.certified));
+    rows_are = drafted.rows_are;
+  }
+    where
+      same : (arc : Arc) → flow_in certificate.flow arc ≡ flow_beside of.rooms work.walk.rooms arc
+      same arc = elim (cases_lt arc.border (border_count graph)) [
+        | inl has ↦ flows arc has ∙ ap (λ (rooms : List (ℕ × ℕ)). flow_beside rooms work.walk.rooms arc) rooms_are
+        | inr past ↦
+            let none = none_past of.rooms arc (omega (arith, past, size)) in
+            none_past certificate.flow arc (omega (arith, past, flow_size)) ∙ sym (omega (arith, none))
+      ]
+
+-- ---- one zone after the other
+
+-- what stands for a certificate where there is none
+abbrev pub no_certificate : Certificate
+no_certificate = record { flow = []; cuts = [] }
+
+-- so many first zones are gone along: of a set of them lists were made
+pub record AreMade (graph : Graph) (work : Work) (side : Side) (made count : ℕ) (first certificates : List Certificate) (lists : List (List ViewRow)) (resting : ℕ) : Type 0 where
+  pub size : length certificates ≡ zone_count graph
+  pub flows : (zone : ℕ) → HasZone graph zone → length (certificate_at certificates zone).flow ≡ border_count graph
+  pub others : (zone : ℕ) → holds made zone ≡ false → certificate_at certificates zone ≡ certificate_at first zone
+  pub within : (zone : ℕ) → holds resting zone ≡ true → (zone < count) × (holds made zone ≡ true)
+  pub rest : (zone : ℕ) → holds resting zone ≡ true → RestOnWork graph work side zone (certificate_at certificates zone) (get_or lists zone [])
+
+module _ (graph : Graph) (work : Work) (side : Side) (made count : ℕ) (first certificates : List Certificate) (lists : List (List ViewRow)) (resting : ℕ)
+    (are : AreMade graph work side made count first certificates lists resting) where
+  -- one more, of which the list is made
+  pub one_made : (row : List ViewRow) (new : Certificate) (is : Bool) (more : ℕ) → count < length lists → HasZone graph count → holds made count ≡ true → length new.flow ≡ border_count graph
+      → (IsTrue is → RestOnWork graph work side count new row) → ((other : ℕ) → holds more other ≡ true → (holds resting other ≡ true) ⊎ ((other ≡ count) × (is ≡ true)))
+      → AreMade graph work side made (count + 1) first (set certificates count new) (set lists count row) more
+  one_made row new is more within known is_made flow rest either = record {
+    size = length-set certificates count new ∙ are.size;
+    flows = λ zone has. elim (eqb_tells zone count) [
+      | inl same ↦
+          ap (λ (c : Certificate). length c.flow) (ap (certificate_at (set certificates count new)) same.1 ∙ get_or-set_same certificates count new no_certificate (omega (arith, known, are.size))) ∙ flow
+      | inr apart ↦ ap (λ (c : Certificate). length c.flow) (get_or-set_other certificates count zone new no_certificate apart.1) ∙ are.flows zone has
+    ];
+    others = λ zone none. elim (eqb_tells zone count) [
+      | inl same ↦ absurd (true≢false (sym is_made ∙ ap (holds made) (sym same.1) ∙ none))
+      | inr apart ↦ get_or-set_other certificates count zone new no_certificate apart.1 ∙ are.others zone none
+    ];
+    within = λ zone held. elim (either zone held) [
+      | inl before ↦ (let less = (are.within zone before).0 in omega (arith, less), (are.within zone before).1)
+      | inr here ↦ (omega (arith, here.0), ap (holds made) here.0 ∙ is_made)
+    ];
+    rest = λ zone held. elim (either zone held) [
+      | inl before ↦
+          let apart : zone ≢ count = λ e. let less = (are.within zone before).0 in absurd (omega (arith, less, e)) in
+          subst (λ (c : Certificate). RestOnWork graph work side zone c (get_or (set lists count row) zone [])) (sym (get_or-set_other certificates count zone new no_certificate apart))
+          (subst (RestOnWork graph work side zone (certificate_at certificates zone)) (sym (get_or-set_other lists count zone row [] apart)) (are.rest zone before))
+      | inr here ↦
+          subst (λ z. RestOnWork graph work side z (certificate_at (set certificates count new) z) (get_or (set lists count row) z [])) (sym here.0)
+          (subst (λ (c : Certificate). RestOnWork graph work side count c (get_or (set lists count row) count [])) (sym (get_or-set_same certificates count new no_certificate (omega (arith, known, are.size))))
+          (subst (RestOnWork graph work side count new) (sym (get_or-set_same lists count row [] within)) (rest here.1)))
+    ];
+  }
+
+  -- one more, of which it is not
+  pub none_made : (row : List ViewRow) → AreMade graph work side made (count + 1) first certificates (set lists count row) resting
+  none_made row = record {
+    size = are.size;
+    flows = are.flows;
+    others = are.others;
+    within = λ zone held. (let less = (are.within zone held).0 in omega (arith, less), (are.within zone held).1);
+    rest = λ zone held.
+        let apart : zone ≢ count = λ e. let less = (are.within zone held).0 in absurd (omega (arith, less, e)) in
+        subst (RestOnWork graph work side zone (certificate_at certificates zone)) (sym (get_or-set_other lists count zone row [] apart)) (are.rest zone held);
+  }

@@ -1,0 +1,237 @@
+//! What rows of views rest on, so that they need not be made anew.
+
+ghost use Rattle.std.specs.Prelude.{◌≡◌, ◌⊎◌, ◌<◌, ◌≤◌, ℕ, IfOk, IfSome, IsTrue, List, OnErr, OnOk, false, length, map, true};
+ghost use Rattle.cut_proof.specs.ZoneSet.{holds};
+ghost use Rattle.market_model.specs.declared.reply.ViewRow.{ViewRow as AViewRow};
+ghost use Rattle.market_model.specs.Orders.{Standing};
+ghost use Rattle.zone_graph.specs.Graph.{HasZone, border_count, zone_count};
+ghost use Rattle.zone_graph.specs.Route.{IsIn};
+ghost use Rattle.local_view.specs.declared.whole.LineOrder.{LineOrder as ALineOrder};
+ghost use Rattle.local_view.specs.Footing.{IsFootingAfter, IsFoundedAt, IsOver, IsSized, IsThereOver, Rest, RestOn, certificate_at};
+ghost use Rattle.local_view.specs.Moved.{IsReplaced};
+ghost use Rattle.local_view.specs.Whole.{in_line};
+
+use crate::draft::Flow;
+use crate::filling::{is_set, without};
+use crate::replacing::{Replaced, are_behind, find_replaced, move_cuts};
+use crate::still_standing::{are_borders, note_borders, stand_over};
+use crate::taker::is_sell;
+use crate::whole::LineOrder;
+use market_model::{NoMemory, Side};
+use std::alloc::Global;
+use zone_graph::{Grid, MOST_ZONES, Rooms};
+
+/// What certifies the rows of a zone.
+#[derive(Drop)]
+pub(crate) struct Certificate {
+    /// What flows to it over each arc.
+    pub(crate) flow: Flow,
+    /// The place in the line of each zone's cut.
+    pub(crate) cuts: [usize; MOST_ZONES],
+}
+
+/// What the rows of the zones of a line rest on: its orders and the rooms of its part, as they were, and for each zone a flow
+/// and cuts.
+#[derive(Drop)]
+pub(crate) struct Footing {
+    /// The side of the orders.
+    pub(crate) side: Side,
+    /// The two zones of each border.
+    pub(crate) ends: Vec<(u32, u32)>,
+    /// The rooms.
+    pub(crate) rooms: Rooms,
+    /// The orders, in priority.
+    pub(crate) orders: Vec<LineOrder>,
+    /// What certifies the rows of each zone, where they rest on this.
+    pub(crate) certificates: Vec<Certificate>,
+    /// The zones whose rows rest on this. Bit z stands for zone z.
+    pub(crate) resting: u64,
+}
+
+impl Footing {
+    // A footing over a grid, on which no rows rest.
+    fn over(alloc: Global, grid: &Grid, side: Side) -> Result<Footing, NoMemory>
+        ensures over { IfOk result (IsOver grid.now side) }
+        ensures none { IfOk result (λ made. made.resting ≡ 0) }
+    {
+        let mut ends = Vec::new(alloc);
+        note_borders(grid, &mut ends)?;
+        Ok(Footing {
+            side,
+            ends,
+            rooms: Rooms::new(grid)?,
+            orders: Vec::new(alloc),
+            certificates: certificates_over(alloc, grid)?,
+            resting: 0,
+        })
+    }
+
+    /// Has no rows rest on this any more, unless they may.
+    pub(crate) fn rest_where(&mut self, may: bool)
+        ensures same { self.new ≡ record self.old { resting = self.new.resting } }
+        ensures resting { (zone : ℕ) → holds self.new.resting zone ≡ true → (may ≡ true) × (holds self.old.resting zone ≡ true) }
+    {
+        if !may {
+            self.resting = 0;
+        }
+    }
+
+    /// Has the rows that rest on this rest on another line and on other rooms, as far as what certifies them stands there.
+    ///
+    /// # Errors
+    ///
+    /// [`NoMemory`], where there is no memory for an order. No rows rest on this then.
+    pub(crate) fn move_to(
+        &mut self,
+        grid: &Grid,
+        orders: &[LineOrder],
+        rooms: &Rooms,
+    ) -> Result<(), NoMemory>
+        ghost line: { List Standing }
+        requires over { IsOver grid.now self.old.side self.old }
+        requires orders { orders.now ≡ map in_line line }
+        requires zones { (order : Standing) → IsIn order line → HasZone grid.now order.order.zone }
+        requires rooms { length rooms.now ≡ border_count grid.now }
+        ensures over { IsOver grid.now self.old.side self.new }
+        ensures orders { OnOk result (self.new.orders.items ≡ orders.now) }
+        ensures rooms { OnOk result (self.new.rooms ≡ rooms.now) }
+        ensures after { IsFootingAfter (zone_count grid.now) self.old self.new }
+    {
+        let still = self.still_certified(grid, orders, rooms);
+        self.resting = 0;
+        self.orders.clear();
+        if self.orders.extend_from_slice(orders).is_err() {
+            self.orders.clear();
+            return Err(NoMemory);
+        }
+        self.rooms.copy_from(rooms);
+        self.resting = still;
+        Ok(())
+    }
+
+    // Whether this is of a side and over a grid of as many zones.
+    fn is_over(&self, grid: &Grid, side: Side) -> bool
+        requires { IsSized (zone_count grid.now) self.now }
+        ensures { IsTrue result → IsOver grid.now side self.now }
+    {
+        is_sell(self.side) == is_sell(side) && are_borders(grid, self.ends.as_slice())
+    }
+
+    // Moves what certifies the rows that rest on this to another line and to other rooms, and answers for which zones it stands
+    // there.
+    fn still_certified(&mut self, grid: &Grid, orders: &[LineOrder], rooms: &Rooms) -> u64
+        ghost line: { List Standing }
+        requires over { IsOver grid.now self.old.side self.old }
+        requires orders { orders.now ≡ map in_line line }
+        requires zones { (order : Standing) → IsIn order line → HasZone grid.now order.order.zone }
+        requires rooms { length rooms.now ≡ border_count grid.now }
+        ensures same { self.new ≡ record self.old { certificates = self.new.certificates } }
+        ensures over { IsOver grid.now self.old.side self.new }
+        ensures had { (zone : ℕ) → holds result zone ≡ true → holds self.old.resting zone ≡ true }
+        ensures rest { (zone : ℕ) (rows : List AViewRow) → HasZone grid.now zone → holds result zone ≡ true → Rest (zone_count grid.now) self.old zone rows
+            → RestOn (zone_count grid.now) self.old.ends.items rooms.now self.old.side zone orders.now (certificate_at self.new.certificates.items zone) rows }
+    {
+        // It shows that the grid has no more than 64 zones.
+        let _ = grid.zones();
+        let old = self.orders.as_slice();
+        let replaced = find_replaced(old, orders);
+        let mut still: u64 = 0;
+        for (zone, certificate) in self.certificates.iter_mut().enumerate() {
+            if is_set(self.resting, zone)
+                && certificate.moves(
+                    grid,
+                    self.side,
+                    replaced,
+                    (old, &self.rooms),
+                    (orders, rooms),
+                )
+            {
+                still |= 1 << zone;
+            }
+        }
+        still
+    }
+}
+
+impl Certificate {
+    // Moves the cuts from a line to another one, and answers whether what this certified there over the rooms of its part it
+    // certifies here over others. Where it does not, it certifies nothing.
+    fn moves(
+        &mut self,
+        grid: &Grid,
+        side: Side,
+        replaced: Replaced,
+        old: (&[LineOrder], &Rooms),
+        new: (&[LineOrder], &Rooms),
+    ) -> bool
+        ghost line: { List Standing }
+        requires few { zone_count grid.now ≤ 64 }
+        requires replaced { IsReplaced old.0.now new.0.now replaced.first replaced.last replaced.next }
+        requires old_rooms { length old.1.now ≡ border_count grid.now }
+        requires old_zones { (order : ALineOrder) → IsIn order old.0.now → HasZone grid.now order.zone }
+        requires orders { new.0.now ≡ map in_line line }
+        requires zones { (order : Standing) → IsIn order line → HasZone grid.now order.order.zone }
+        requires rooms { length new.1.now ≡ border_count grid.now }
+        requires flow { length self.old.flow ≡ border_count grid.now }
+        ensures flow { self.new.flow ≡ self.old.flow }
+        ensures rest { IsTrue result → (zone : ℕ) (rows : List AViewRow) → RestOn (zone_count grid.now) grid.now.borders old.entry.1.now side zone old.entry.0.now self.old rows
+            → RestOn (zone_count grid.now) grid.now.borders new.entry.1.now side zone new.entry.0.now self.new rows }
+    {
+        are_behind(&self.cuts, old.0, replaced.first, replaced.last)
+            && are_behind(&self.cuts, new.0, replaced.first, replaced.next)
+            && stand_over(grid, old.1, new.1, &self.flow, &self.cuts, side)
+            && move_cuts(&mut self.cuts, replaced)
+    }
+}
+
+// Certificates of no rows, for each zone of a grid.
+fn certificates_over(alloc: Global, grid: &Grid) -> Result<Vec<Certificate>, NoMemory>
+    ensures count { IfOk result (λ certificates. length certificates.items ≡ zone_count grid.now) }
+    ensures flows { IfOk result (λ certificates. (zone : ℕ) → HasZone grid.now zone → length (certificate_at certificates.items zone).flow ≡ border_count grid.now) }
+{
+    let zones = grid.zones();
+    let mut made = Vec::with_capacity(alloc, zones as usize)?;
+    for _ in 0..zones {
+        made.push(Certificate {
+            flow: Rooms::new(grid)?,
+            cuts: [0; MOST_ZONES],
+        })?;
+    }
+    Ok(made)
+}
+
+/// Makes a footing of a side over a grid, on which no rows rest, where there is none that is over it.
+///
+/// # Errors
+///
+/// [`NoMemory`] where memory runs out.
+pub(crate) fn make_footing(
+    alloc: Global,
+    grid: &Grid,
+    side: Side,
+    footing: &mut Option<Footing>,
+) -> Result<(), NoMemory>
+    requires { IfSome footing.old (IsSized (zone_count grid.now)) }
+    ensures over { OnOk result (IsThereOver grid.now side footing.new) }
+    ensures same { (footing.new ≡ footing.old) ⊎ IfSome footing.new (λ new. new.resting ≡ 0) }
+    ensures failed { OnErr result (footing.new ≡ footing.old) }
+{
+    let is_over = match footing {
+        Some(old) => old.is_over(grid, side),
+        None => false,
+    };
+    if !is_over {
+        *footing = Some(Footing::over(alloc, grid, side)?);
+    }
+    Ok(())
+}
+
+/// Has the rows of a set of zones rest on a footing no more. Bit z stands for zone z.
+pub(crate) fn take_off(footing: &mut Option<Footing>, zones: u64)
+    ensures sized { (count : ℕ) → IfSome footing.old (IsSized count) → IfSome footing.new (IsSized count) }
+    ensures rest { (count zone : ℕ) (rows : List AViewRow) → (holds zones zone ≡ false → IsFoundedAt count footing.old zone rows) → IsFoundedAt count footing.new zone rows }
+{
+    if let Some(on) = footing {
+        on.resting = without(on.resting, zones);
+    }
+}

@@ -1,0 +1,123 @@
+//! Whether a flow and cuts that certified rows over some rooms and borders stand over others.
+
+ghost use Rattle.std.specs.Prelude.{◌≡◌, ◌⊎◌, ◌+◌, ◌<◌, ◌≤◌, IsTrue, OnOk, length};
+ghost use Rattle.zone_graph.specs.Graph.{HasArc, border_count};
+ghost use Rattle.zone_graph.specs.Rooms.{room_of};
+ghost use Rattle.zone_graph.specs.Pour.{opposite_arc};
+ghost use Rattle.local_view.specs.Certified.{lots_from, lots_to};
+ghost use Rattle.local_view.specs.Moved.{StandOver, StandsOver, cut_in, flow_in};
+
+use crate::draft::Flow;
+use market_model::{NoMemory, Side};
+use zone_graph::{Arc, Grid, MOST_ZONES, Rooms};
+
+/// Whether a flow and cuts stand over new rooms: no arc carries more than these and what flows back
+/// allow, and where they leave room to spare over an arc, the zone that lots come to over it has its
+/// cut no later than the one that they come from. Only arcs whose rooms changed are asked.
+pub(crate) fn stand_over(
+    grid: &Grid,
+    old: &Rooms,
+    new: &Rooms,
+    flow: &Flow,
+    cuts: &[usize; MOST_ZONES],
+    side: Side,
+) -> bool
+    requires old { length old.now ≡ border_count grid.now }
+    requires new { length new.now ≡ border_count grid.now }
+    requires flow { length flow.now ≡ border_count grid.now }
+    ensures { IsTrue result → StandOver grid.now (room_of old.now) (room_of new.now) side (flow_in flow.now) (cut_in cuts.now) }
+{
+    for border in 0..grid.borders() {
+        let forward = Arc::over(border, true);
+        let backward = Arc::over(border, false);
+        if !stands_over(grid, old, new, flow, cuts, side, forward)
+            || !stands_over(grid, old, new, flow, cuts, side, backward)
+        {
+            return false;
+        }
+    }
+    true
+}
+
+// Whether an arc has the same room in both, or the flow and cuts stand over its new one.
+fn stands_over(
+    grid: &Grid,
+    old: &Rooms,
+    new: &Rooms,
+    flow: &Flow,
+    cuts: &[usize; MOST_ZONES],
+    side: Side,
+    arc: Arc,
+) -> bool
+    requires arc { HasArc grid.now arc }
+    requires old { length old.now ≡ border_count grid.now }
+    requires new { length new.now ≡ border_count grid.now }
+    requires flow { length flow.now ≡ border_count grid.now }
+    ensures { IsTrue result → (room_of new.now arc ≡ room_of old.now arc) ⊎ StandsOver grid.now (room_of old.now) (room_of new.now) side (flow_in flow.now) (cut_in cuts.now) arc }
+{
+    let room = new.at(arc);
+    room == old.at(arc) || stands_within(grid, room, flow, cuts, side, arc)
+}
+
+// Whether the flow and cuts stand over an arc that has a room.
+fn stands_within(
+    grid: &Grid,
+    room: u32,
+    flow: &Flow,
+    cuts: &[usize; MOST_ZONES],
+    side: Side,
+    arc: Arc,
+) -> bool
+    requires arc { HasArc grid.now arc }
+    requires flow { length flow.now ≡ border_count grid.now }
+    ensures within { IsTrue result → flow_in flow.now arc ≤ room + flow_in flow.now (opposite_arc arc) }
+    ensures closed { IsTrue result → flow_in flow.now arc < room + flow_in flow.now (opposite_arc arc) → cut_in cuts.now (lots_to grid.now side arc) ≤ cut_in cuts.now (lots_from grid.now side arc) }
+{
+    let most = u64::from(room) + u64::from(flow.at(arc.opposite()));
+    let lots = u64::from(flow.at(arc));
+    lots == most || (lots < most && comes_no_later(grid, cuts, side, arc))
+}
+
+// Whether the zone that lots come to over an arc has its cut no later than the one that they come from.
+fn comes_no_later(grid: &Grid, cuts: &[usize; MOST_ZONES], side: Side, arc: Arc) -> bool
+    requires { HasArc grid.now arc }
+    ensures { IsTrue result → cut_in cuts.now (lots_to grid.now side arc) ≤ cut_in cuts.now (lots_from grid.now side arc) }
+{
+    let (start, end) = grid.ends(arc);
+    let (start, end) = (cuts[start as usize], cuts[end as usize]);
+    match side {
+        Side::Buy => start <= end,
+        Side::Sell => end <= start,
+    }
+}
+
+/// Whether these are the two zones of each border of a grid.
+pub(crate) fn are_borders(grid: &Grid, ends: &[(u32, u32)]) -> bool
+    ensures { IsTrue result → ends.now ≡ grid.now.borders }
+{
+    let borders = grid.borders();
+    if ends.len() != borders as usize {
+        return false;
+    }
+    for border in 0..borders {
+        if ends[border as usize] != grid.ends(Arc::over(border, true)) {
+            return false;
+        }
+    }
+    true
+}
+
+/// Notes the two zones of each border of a grid, in place of others.
+///
+/// # Errors
+///
+/// [`NoMemory`], where there is no memory for a border.
+pub(crate) fn note_borders(grid: &Grid, ends: &mut Vec<(u32, u32)>) -> Result<(), NoMemory>
+    ensures { OnOk result (ends.new.items ≡ grid.now.borders) }
+{
+    ends.clear();
+    for border in 0..grid.borders() {
+        ends.push(grid.ends(Arc::over(border, true)))?;
+    }
+    Ok(())
+}
