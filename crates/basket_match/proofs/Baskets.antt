@@ -120,12 +120,6 @@ module _ (setup : Setup) (graph : Graph) (caller : ℕ) (orders : List Order) (d
       kills = order-kills setup caller orders asked.early order own;
       unclosed = find-none is_closed desks (map-none (λ (d : DeskState). refusal.Closed d.hour) (find is_closed desks) (sym free)) desk inside;
       numbers = asked.ready.numbers desk inside;
-      place = record {
-        entries = asked.ready.place.entries;
-        is_setup = asked.ready.place.journal.is_setup;
-        legal = asked.ready.place.journal.legal;
-        left = asked.ready.place.journal.left desk inside;
-      };
     }
 
     module _ (history : List Event) (is : rows.IsHistoryOf setup desks history) where

@@ -16,7 +16,7 @@ use Rattle.market_model.specs.Market.{refused_or}
 use Rattle.market_model.specs.Refusals.{basket_order_refusal}
 use Rattle.market_model.specs.Rules.{early_refusal}
 use Rattle.market_model.specs.Sweep.{all_parts}
-use Rattle.joint_plan.specs.Desk.{DeskState, IsAfterJournal}
+use Rattle.joint_plan.specs.Desk.{DeskState}
 use Rattle.joint_plan.specs.Refusing.{is_closed}
 
 -- a fill-or-kill order that breaks no rule by itself can be planned on the desk of its hour, which is not closed
@@ -28,7 +28,6 @@ pub record CanEnter (setup : Setup) (graph : Graph) (caller : ℕ) (order : Orde
   pub kills : is_fill_or_kill order.kind ≡ true
   pub unclosed : is_closed desk ≡ false
   pub numbers : count_by (enters_in desk.hour) desk.settled < 2 ^ 32 - 1
-  pub place : IsAfterJournal setup desk
 
 -- what the order says of its basket after the settled events of the desk: the refusal where it is not filled, and
 -- else its events

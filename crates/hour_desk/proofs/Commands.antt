@@ -1,7 +1,8 @@
 -- What a command does in an hour that it touches alone can follow there, and is what the calls that change an
 -- hour plan.
-use Rattle.std.proofs.Common.{◌≡◌, ◌∙◌, inl, inr, ℕ, ◌-◌, ◌<◌, ◌&&◌, not, true, false, List, [], ◌∷◌, ◌++◌, Option, Some, None, is_none, is_some, IsSome, refl, sym, ap, subst}
+use Rattle.std.proofs.Common.{◌≡◌, ◌∙◌, inl, ℕ, ◌+◌, ◌-◌, ◌<◌, ◌≤◌, not, true, List, [], ◌∷◌, ◌++◌, length, Option, Some, None, is_none, refl, sym, ap, subst, arith}
 use Rattle.std.proofs.lemmas.List.{append-nil}
+use Rattle.std.proofs.lemmas.List.FromFn.{length-range_with_len}
 use Rattle.order_kinds.specs.declared.contract.Contract.{Contract}
 use Rattle.order_kinds.specs.declared.contract.Quarter.{Quarter}
 use Rattle.order_kinds.specs.declared.order.Order.{Order}
@@ -10,10 +11,10 @@ use Rattle.order_kinds.specs.declared.phase.Phase.{Phase}
 use Rattle.order_kinds.specs.declared.side.Side.{Side}
 use Rattle.order_kinds.specs.Contract.{is_known}
 use Rattle.order_kinds.specs.Period.{hours_from}
+use Rattle.order_kinds.proofs.Hours.{hours-next}
 use Rattle.zone_graph.specs.declared.route.Arc.{Arc}
 use Rattle.zone_graph.specs.Graph.{Graph}
 use Rattle.zone_graph.specs.Grid.{arc_between}
-use Rattle.zone_graph.specs.Route.{IsIn}
 use Rattle.market_model.specs.declared.command.Command.{Command}
 use Rattle.market_model.specs.declared.command.Command.TheVariants as command
 use Rattle.market_model.specs.declared.event.Event.{Event}
@@ -22,37 +23,100 @@ use Rattle.market_model.specs.declared.setup.Setup.{Setup}
 use Rattle.market_model.specs.Board.{IsHourOf}
 use Rattle.market_model.specs.Entering.{enter, name_of_next}
 use Rattle.market_model.specs.Grid.{graph_of}
-use Rattle.market_model.specs.History.{events_of}
-use Rattle.market_model.specs.Market.{events_done, gate, on_arc, reply_to, then_sweeps, withdrawals}
+use Rattle.market_model.specs.History.{and_then}
+use Rattle.market_model.specs.Market.{events_done, gate, on_arc, then_sweeps, withdrawals}
 use Rattle.market_model.specs.Orders.{left, next_name}
-use Rattle.market_model.specs.Refusals.{has_own, is_below_left, order_is_known, own_limit, reduces, refusal_of_command}
-use Rattle.market_model.specs.Rules.{border_is_known, early_refusal, first_broken, hours_concerned}
+use Rattle.market_model.specs.Refusals.{has_own, own_limit}
+use Rattle.market_model.specs.Rules.{border_is_known, first_broken, hours_concerned}
 use Rattle.market_model.specs.Sweep.{all_parts, sweep, sweeps}
-use Rattle.market_model.specs.WellFormed.{OrderEnters}
+use Rattle.market_model.specs.WellFormed.{Fits}
 use Rattle.market_model.specs.LetIn.{IsNoEntry}
 use Rattle.market_model.specs.StateRules.{filling_rules}
 use Rattle.laws_of_market.proofs.Admitted.{IsAdmitted, all-pass, naming-none, refusal-none}
 use Rattle.laws_of_market.proofs.Admitting.{early-none, let_in-refusal, no_entry-rules}
+use Rattle.laws_of_market.proofs.Replies.{gate-fits, grant-fits, halt-fits, offer-fits, reduction-fits, resumption-fits, withdrawal-fits}
+use Rattle.laws_of_market.proofs.Uses.{not_after-hours}
 use Rattle.desk_blocks.specs.Planned.{IsUnplanned, with_planned}
 use Rattle.desk_blocks.specs.State.{CanBeNext, HourState, after_event, entry_of, gate_of, name_in, reduction_of, withdrawal_of}
+use Rattle.laws_of_boards.specs.Hours.{IsOfHour}
 use Rattle.laws_of_boards.specs.Settled.{IsSettled}
 use Rattle.laws_of_boards.proofs.Admitting as entering
-use Rattle.laws_of_boards.proofs.Fitting.{fits_in}
-use Rattle.laws_of_boards.proofs.Stepping.{prefixes}
 use Rattle.desk_blocks.specs.Changes.{then_sweep}
 use Rattle.desk_refusals.specs.declared.owning.Own.{Own}
 use Rattle.desk_refusals.specs.Owned.{left_of, own_of}
 use Rattle.desk_refusals.proofs.Named.{told-number}
-use Rattle.hour_desk.specs.Placed.{CanChange}
-use Rattle.hour_desk.proofs.Histories.{IsOfHistory, of-journal, settled-is}
+use Rattle.hour_desk.specs.Placed.{CanChange, IsPlaced}
+use Rattle.hour_desk.proofs.Histories.{goes-on}
 use Rattle.hour_desk.proofs.Owned.{below-left, limit-own, own-left}
-use Rattle.hour_desk.proofs.Planned.{done-events, let-in, one-planned}
-use Rattle.hour_desk.proofs.Touching.{alone, concerned}
+use Rattle.hour_desk.proofs.Planned.{let-in, one-planned}
+use Rattle.hour_desk.proofs.Touching.{concerned, no-matching}
+
+-- a range of one hour begins and ends with it
+one-hour-range : (first last hour : ℕ) → first ≤ last → hours_from first last ≡ hour ∷ [] → (first ≡ hour) × (last ≡ hour)
+one-hour-range first last hour order one =
+    let whole : first ∷ hours_from (first + 1) last ≡ hour ∷ [] = sym (hours-next first last order) ∙ one in
+    let here : first ≡ hour = cc in
+    let count : last + 1 - first ≡ 1 = sym (length-range_with_len first (last + 1 - first)) ∙ ap length one in
+    (here, omega arith)
+
+-- what happens first where a command of one hour is done that enters nothing: it is of the hour alone, and fits
+record IsFirst (setup : Setup) (hour : ℕ) (events : List Event) (e : Event) : Type 0 where
+  own : IsOfHour hour e
+  fits : Fits setup events e
+
+module _ (setup : Setup) (hour : ℕ) (events : List Event) (caller : ℕ) where
+  on-arc : (o : Option Arc) (happening : Arc → List Event) (e : Event) (rest : List Event) → on_arc o happening ≡ e ∷ rest
+      → ((arc : Arc) → o ≡ Some arc → happening arc ≡ e ∷ rest → IsFirst setup hour events e) → IsFirst setup hour events e
+  on-arc None happening e rest is onward = absurd (cc)
+  on-arc (Some arc) happening e rest is onward = onward arc refl is
+
+  is-first : (given : Command) → IsNoEntry given → ((first last : ℕ) → ¬ (given ≡ command.Blocks first last)) → hours_concerned given ≡ hour ∷ []
+      → IsAdmitted setup events caller given → (e : Event) (rest : List Event) → events_done all_parts setup events caller given ≡ e ∷ rest → IsFirst setup hour events e
+  unfolding events_done
+  is-first (command.Enter order) none no_blocks one may e rest is = absurd none
+  is-first (command.EnterBlock order) none no_blocks one may e rest is = absurd none
+  is-first (command.EnterBasket orders) none no_blocks one may e rest is = absurd none
+  is-first (command.Blocks first last) none no_blocks one may e rest is = absurd (no_blocks first last refl)
+  is-first (command.View contract side zone) none no_blocks one may e rest is = absurd (cc)
+  is-first (command.Cancel name) none no_blocks one may e rest is =
+      let same : event.Withdrawn name (left events name) ≡ e = cc in
+      subst (IsFirst setup hour events) same (record { own = cc; fits = withdrawal-fits setup events caller name may })
+  is-first (command.Reduce name to) none no_blocks one may e rest is =
+      let same : event.Reduced name (left events name - to) ≡ e = cc in
+      subst (IsFirst setup hour events) same (record { own = cc; fits = reduction-fits setup events caller name to may })
+  is-first (command.Gate gated asked) none no_blocks one may e rest is =
+      let same : event.Gated gated asked ≡ e = cc in
+      subst (IsFirst setup hour events) same (record { own = cc; fits = gate-fits setup events caller gated asked may })
+  is-first (command.Offer from to first last lots) none no_blocks one may e rest is =
+      on-arc (arc_between (graph_of setup) from to) _ e rest is (λ arc found done.
+      let same : event.Offered arc first last lots ≡ e = cc in
+      let fits = offer-fits setup events caller from to first last lots arc found may in
+      let own = one-hour-range first.hour last.hour hour (not_after-hours first last fits.range.in_order) one in
+      subst (IsFirst setup hour events) same (record { own = own; fits = fits }))
+  is-first (command.Request from to first last lots) none no_blocks one may e rest is =
+      on-arc (arc_between (graph_of setup) from to) _ e rest is (λ arc found done.
+      let same : event.Granted arc first last lots ≡ e = cc in
+      let fits = grant-fits setup events caller from to first last lots arc found may in
+      let own = one-hour-range first.hour last.hour hour (not_after-hours first last fits.range.in_order) one in
+      subst (IsFirst setup hour events) same (record { own = own; fits = fits }))
+  is-first (command.Halt from to first last) none no_blocks one may e rest is =
+      on-arc (arc_between (graph_of setup) from to) _ e rest is (λ arc found done.
+      let same : event.Halted arc.border first last ≡ e = cc in
+      let fits = halt-fits setup events caller from to first last arc found may in
+      subst (IsFirst setup hour events) same (record { own = one-hour-range first last hour fits.in_order one; fits = fits }))
+  is-first (command.Resume from to first last) none no_blocks one may e rest is =
+      on-arc (arc_between (graph_of setup) from to) _ e rest is (λ arc found done.
+      let same : event.Resumed arc.border first last ≡ e = cc in
+      let fits = resumption-fits setup events caller from to first last arc found may in
+      subst (IsFirst setup hour events) same (record { own = one-hour-range first last hour fits.in_order one; fits = fits }))
+
+-- the hour stands, by the setup's grid
+placed-stands : (setup : Setup) (hour : HourState) (caller : ℕ) (given : Command) → IsPlaced setup hour caller given → IsHourOf (graph_of setup) hour.board.hour hour.settled
+placed-stands setup hour caller given placed =
+    subst (λ g. IsHourOf g hour.board.hour hour.settled) (sym placed.over)
+    (subst (IsHourOf hour.board.grid hour.board.hour) placed.unplanned.events placed.board.stands)
 
 module _ (setup : Setup) (hour : HourState) (caller : ℕ) (given : Command) (can : CanChange setup hour caller given) where
-  own : IsOfHistory setup hour.board.hour hour.settled
-  own = of-journal setup hour.board.hour hour.settled can.placed.place
-
   unplanned : IsUnplanned hour
   unplanned = can.placed.unplanned
 
@@ -61,17 +125,14 @@ module _ (setup : Setup) (hour : HourState) (caller : ℕ) (given : Command) (ca
 
   -- nothing is left to trade
   pub quiet : (graph : Graph) → graph ≡ hour.board.grid → IsSettled graph hour.board.hour hour.settled
-  quiet graph over =
-      subst (λ g. IsSettled g hour.board.hour hour.settled) (can.placed.over ∙ sym over) (settled-is setup hour.board.hour hour.settled can.placed.place)
+  quiet graph over = subst (λ g. IsSettled g hour.board.hour hour.settled) (sym over) can.placed.quiet
 
-  -- the hour goes on with each first part of the reply's events
-  part-stands : (some rest : List Event) → events_of (reply_to setup hour.settled caller given) ≡ some ++ rest
-      → IsHourOf hour.board.grid hour.board.hour (hour.board.events ++ some)
-  part-stands some rest same =
-      let goes = prefixes setup all_parts hour.board.hour own.history hour.settled caller given some rest own.in_hour own.is_history.whole
-      (alone setup hour caller given can.placed) same in
-      subst (λ es. IsHourOf hour.board.grid hour.board.hour (es ++ some)) (sym unplanned.events)
-      (subst (λ g. IsHourOf g hour.board.hour (hour.settled ++ some)) can.placed.over goes.stands)
+  -- the hour goes on with an event of it alone that fits
+  pub next : (e : Event) → IsOfHour hour.board.hour e → Fits setup hour.settled e → CanBeNext hour e
+  next e own fits =
+      subst (λ es. IsHourOf hour.board.grid hour.board.hour (and_then es e)) (sym unplanned.events)
+      (subst (λ g. IsHourOf g hour.board.hour (and_then hour.settled e)) can.placed.over
+      (goes-on setup hour.board.hour hour.settled e (placed-stands setup hour caller given can.placed) own fits))
 
   -- ---- commands that enter nothing
 
@@ -83,10 +144,10 @@ module _ (setup : Setup) (hour : HourState) (caller : ℕ) (given : Command) (ca
       refusal-none setup hour.settled caller given
       (let_in-refusal setup hour.settled caller given (let-in setup hour caller given can) ∙ no_entry-rules (graph_of setup) hour.settled caller given none)
 
-  first-stands : IsNoEntry given → ((contract : Contract) (side : Side) (zone : ℕ) → ¬ (given ≡ command.View contract side zone))
-      → (e : Event) (rest : List Event) → events_done all_parts setup hour.settled caller given ≡ e ∷ rest → CanBeNext hour e
-  first-stands none no_view e rest is =
-      part-stands (e ∷ []) rest (done-events setup hour caller given can no_view (not-refused none (graph_of setup)) ∙ is)
+  first-stands : IsNoEntry given → (e : Event) (rest : List Event) → events_done all_parts setup hour.settled caller given ≡ e ∷ rest → CanBeNext hour e
+  first-stands none e rest is =
+      let first = is-first setup hour.board.hour hour.settled caller given none (no-matching setup hour caller given can.placed can.early) one-hour (admitted none) e rest is in
+      next e first.own first.fits
 
 -- ---- an order enters
 
@@ -101,12 +162,10 @@ module _ (setup : Setup) (hour : HourState) (caller : ℕ) (order : Order) (can 
 
   pub order-next : CanBeNext hour (entry_of hour caller order)
   order-next =
-      let its = of-journal setup hour.board.hour hour.settled can.placed.place in
-      let fits : OrderEnters setup hour.settled (name_of_next hour.settled order) caller order = entering.orders setup hour.settled caller order can.early in
-      let goes = (fits_in setup hour.board.hour its.history hour.settled (event.Entered (name_of_next hour.settled order) caller order) its.in_hour order-hour fits).1 in
-      subst (λ es. IsHourOf hour.board.grid hour.board.hour (es ++ event.Entered (next_name es hour.board.hour) caller order ∷ [])) (sym can.placed.unplanned.events)
-      (subst (λ h. IsHourOf hour.board.grid hour.board.hour (hour.settled ++ event.Entered (next_name hour.settled h) caller order ∷ [])) order-hour
-      (subst (λ g. IsHourOf g hour.board.hour (hour.settled ++ event.Entered (name_of_next hour.settled order) caller order ∷ [])) can.placed.over goes.stands))
+      subst (λ es. CanBeNext hour (event.Entered (next_name es hour.board.hour) caller order)) (sym can.placed.unplanned.events)
+      (subst (λ h. CanBeNext hour (event.Entered (next_name hour.settled h) caller order)) order-hour
+      (next setup hour caller (command.Enter order) can (event.Entered (name_of_next hour.settled order) caller order) order-hour
+      (entering.orders setup hour.settled caller order can.early)))
 
   pub order-planned : (graph : Graph) (new : HourState) → graph ≡ hour.board.grid → new ≡ with_planned hour (enter all_parts graph caller order hour.settled)
       → new ≡ with_planned hour (events_done all_parts setup hour.settled caller (command.Enter order))
@@ -144,7 +203,7 @@ module _ (setup : Setup) (hour : HourState) (caller : ℕ) (name : OrderName) wh
 
     pub cancel-next : (own : Own) → own_of hour.board.events caller (name_in hour name.number) ≡ Some own → CanBeNext hour (withdrawal_of hour name.number (left_of own))
     cancel-next own is =
-        first-stands setup hour caller (command.Cancel name) can tt (λ contract side zone no. cc) (withdrawal_of hour name.number (left_of own)) [] (cancel-event own is)
+        first-stands setup hour caller (command.Cancel name) can tt (withdrawal_of hour name.number (left_of own)) [] (cancel-event own is)
 
     pub cancel-planned : (own : Own) (new : HourState) → own_of hour.board.events caller (name_in hour name.number) ≡ Some own
         → new ≡ after_event hour (withdrawal_of hour name.number (left_of own)) None
@@ -176,7 +235,7 @@ module _ (setup : Setup) (hour : HourState) (caller : ℕ) (name : OrderName) wh
 
     pub reduce-next : (own : Own) → own_of hour.board.events caller (name_in hour name.number) ≡ Some own → CanBeNext hour (reduction_of hour name.number (left_of own - to))
     reduce-next own is =
-        first-stands setup hour caller (command.Reduce name to) can tt (λ contract side zone no. cc) (reduction_of hour name.number (left_of own - to)) [] (reduce-event own is)
+        first-stands setup hour caller (command.Reduce name to) can tt (reduction_of hour name.number (left_of own - to)) [] (reduce-event own is)
 
     pub reduce-planned : (own : Own) (new : HourState) → own_of hour.board.events caller (name_in hour name.number) ≡ Some own
         → new ≡ after_event hour (reduction_of hour name.number (left_of own - to)) None
@@ -199,7 +258,7 @@ module _ (setup : Setup) (hour : HourState) (caller gated : ℕ) (asked : Phase)
   pub gate-next : CanBeNext hour (gate_of hour asked)
   gate-next =
       subst (λ h. CanBeNext hour (event.Gated h asked)) gate-hour
-      (first-stands setup hour caller (command.Gate gated asked) can tt (λ contract side zone no. cc) (event.Gated gated asked) _ gate-event)
+      (first-stands setup hour caller (command.Gate gated asked) can tt (event.Gated gated asked) _ gate-event)
 
   pub gate-planned : (new : HourState) → new ≡ with_planned hour (gate all_parts hour.board.grid hour.board.hour asked hour.settled)
       → new ≡ with_planned hour (events_done all_parts setup hour.settled caller (command.Gate gated asked))
@@ -217,11 +276,10 @@ view-planned setup hour caller contract side zone = refl
 
 -- ---- what happens over a range of hours, of which the hour is the only one
 
-module _ (setup : Setup) (hour : HourState) (caller : ℕ) (given : Command) (can : CanChange setup hour caller given) (none : IsNoEntry given)
-    (no_view : (contract : Contract) (side : Side) (zone : ℕ) → ¬ (given ≡ command.View contract side zone)) (e : Event)
+module _ (setup : Setup) (hour : HourState) (caller : ℕ) (given : Command) (can : CanChange setup hour caller given) (none : IsNoEntry given) (e : Event)
     (done : events_done all_parts setup hour.settled caller given ≡ then_sweeps all_parts (graph_of setup) (hours_concerned given) hour.settled e) where
   pub range-next : CanBeNext hour e
-  range-next = first-stands setup hour caller given can none no_view e (sweeps all_parts (graph_of setup) (hours_concerned given) (hour.settled ++ e ∷ [])) done
+  range-next = first-stands setup hour caller given can none e (sweeps all_parts (graph_of setup) (hours_concerned given) (hour.settled ++ e ∷ [])) done
 
   pub range-planned : (graph : Graph) (new : HourState) → graph ≡ hour.board.grid → new ≡ with_planned hour (then_sweep graph hour e)
       → new ≡ with_planned hour (events_done all_parts setup hour.settled caller given)

@@ -1,8 +1,8 @@
 -- What a desk always keeps is kept by what is planned, carried and dropped.
-use Rattle.std.proofs.Common.{◌≡◌, ◌∙◌, ℕ, Bool, true, false, not, List, [], ◌++◌, filter, length, Some, None, refl, sym, ap, subst}
+use Rattle.std.proofs.Common.{◌≡◌, ◌∙◌, ℕ, Bool, true, false, not, List, [], filter, length, None, refl, sym, ap, subst}
 use Rattle.market_model.specs.declared.event.Event.{Event}
 use Rattle.zone_graph.specs.Graph.{Graph}
-use Rattle.market_model.specs.Board.{BoardState, is_in_hand, resting_names}
+use Rattle.market_model.specs.Board.{BoardState, IsBoard, IsHourOf, is_in_hand, resting_names}
 use Rattle.market_model.specs.Orders.{open_names}
 use Rattle.desk_blocks.specs.State.{HourState, empty_board, settled_board, settled_now, undone, with_hand}
 use Rattle.desk_views.specs.Desk as views
@@ -10,6 +10,8 @@ use Rattle.desk_views.specs.Standing.{IsNext, StandAt}
 use Rattle.desk_blocks.proofs.Lists.{all-pass}
 use Rattle.hour_desk.specs.Desk.{DeskState}
 use Rattle.hour_desk.specs.Insides.{IsInside, desk_of, planned_if}
+use Rattle.laws_of_boards.specs.Settled.{IsSettled}
+use Rattle.hour_desk.proofs.Quiet.{empty-settled}
 use Rattle.hour_desk.proofs.Views.{adopted-forgotten, forgotten-again, forgotten-stands, next-forgotten, next-kept}
 
 -- where nothing is planned the flag says so
@@ -23,6 +25,8 @@ module _ (kept : HourState) (shown : views.DeskState) (is_planned : Bool) (insid
   undone-inside later = record {
     seven = inside.seven;
     free = refl;
+    settled = inside.settled;
+    quiet = inside.settled;
     stands = forgotten-stands (settled_board kept) shown inside.stands;
     next = next-forgotten (settled_board kept) shown inside.stands;
     unplanned = λ none. refl;
@@ -37,6 +41,8 @@ module _ (kept : HourState) (shown : views.DeskState) (is_planned : Bool) (insid
       record {
         seven = inside.seven;
         free = inside.free;
+        settled = inside.quiet;
+        quiet = inside.quiet;
         stands = stands;
         next = next-kept kept.board (views.adopted shown) (adopted-forgotten shown) inside.next;
         unplanned = λ none. refl;
@@ -53,12 +59,20 @@ module _ (kept : HourState) (shown : views.DeskState) (is_planned : Bool) (insid
       ∙ ap (λ es. length (open_names es kept.board.hour)) (inside.unplanned off)
       ∙ ap (λ (d : DeskState). length (open_names d.settled d.hour)) is
 
+-- what is dropped stands as it is settled
+pub undone-stands : (kept new : HourState) (is_planned : Bool) (seen : DeskState) → new ≡ undone kept → desk_of kept is_planned ≡ seen → IsBoard new.board
+    → IsHourOf seen.grid seen.hour seen.settled
+undone-stands kept new is_planned seen is told board =
+    subst (λ (d : DeskState). IsHourOf d.grid d.hour d.settled) told (subst (λ (h : HourState). IsHourOf h.board.grid h.board.hour h.board.events) is board.stands)
+
 -- a new desk
 pub new-inside : (kept : HourState) (shown : views.DeskState) (graph : Graph) (hour : ℕ) → kept ≡ record { board = empty_board graph hour; settled = [] }
     → StandAt (empty_board graph hour) shown → views.forgotten shown ≡ shown → IsInside kept shown false
 new-inside kept shown graph hour is stands none = record {
   seven = ap (λ (h : HourState). h.board.parts) is;
   free = ap (λ (h : HourState). h.board.hand) is;
+  settled = subst (λ (h : HourState). IsSettled h.board.grid h.board.hour h.settled) (sym is) (empty-settled graph hour);
+  quiet = subst (λ (h : HourState). IsSettled h.board.grid h.board.hour h.board.events) (sym is) (empty-settled graph hour);
   stands = subst (λ (h : HourState). StandAt (settled_board h) shown) (sym is) stands;
   next = subst (λ (h : HourState). IsNext h.board shown) (sym is) (next-kept (empty_board graph hour) shown none stands);
   unplanned = λ no. ap (λ (h : HourState). h.board.events) is ∙ ap (λ (h : HourState). h.settled) (sym is);

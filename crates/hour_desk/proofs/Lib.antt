@@ -9,6 +9,7 @@ pub mod Seen
 pub mod Parts
 pub mod Crosses
 pub mod Certified
+pub mod Quiet
 -- What stands below and is passed on to the crates above.
 pub use Rattle.desk_blocks.proofs.SameRooms
 pub use Rattle.laws_of_market.proofs.Admitting

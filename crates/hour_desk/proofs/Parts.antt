@@ -1,8 +1,6 @@
--- One hour's part of what happens in several hours: nothing is left to trade before it, and a block that enters
--- takes in the deal that it finds.
+-- One hour's part of what happens in several hours: a block that enters takes in the deal that it finds.
 use Rattle.std.proofs.Common.{◌≡◌, ◌∙◌, ℕ, false, List, [], ◌∷◌, ◌++◌, append_assoc, Option, Some, IfSome, refl, sym, ap, subst}
 use Rattle.std.specs.List.{slice_get}
-use Rattle.zone_graph.specs.Graph.{Graph}
 use Rattle.block_match.specs.declared.deal.BlockDeal.{BlockDeal}
 use Rattle.block_match.specs.Market.{deal_events}
 use Rattle.market_model.specs.declared.event.Event.TheVariants as event
@@ -10,17 +8,10 @@ use Rattle.market_model.specs.Orders.{next_name}
 use Rattle.desk_blocks.specs.Planned.{IsUnplanned}
 use Rattle.desk_blocks.specs.State.{HourState, block_entry_of}
 use Rattle.laws_of_joint_commands.specs.EnteringBlocks.{AreClosed, block_entry}
-use Rattle.laws_of_boards.specs.Settled.{IsSettled}
 use Rattle.desk_blocks.specs.Plans as plans
 use Rattle.hour_desk.specs.declared.part_work.BlockEntry.{BlockEntry}
 use Rattle.hour_desk.specs.Insides.{desk_of}
-use Rattle.hour_desk.specs.Shared.{EntersFirst, IsAfterSomeJournal, TakesOrRests, TradesBlocks}
-use Rattle.hour_desk.proofs.Histories.{settled-is}
-
--- nothing is left to trade
-pub journal-quiet : (hour : HourState) (graph : Graph) → graph ≡ hour.board.grid → IsAfterSomeJournal (desk_of hour false) → IsSettled graph hour.board.hour hour.settled
-journal-quiet hour graph over place =
-    subst (λ g. IsSettled g hour.board.hour hour.settled) (place.over ∙ sym over) (settled-is place.setup hour.board.hour hour.settled place.place)
+use Rattle.hour_desk.specs.Shared.{EntersFirst, TakesOrRests, TradesBlocks}
 
 -- a block enters the hour, with the deal that it finds, if there is one
 module _ (hour : HourState) (first last : ℕ) (entry : BlockEntry) (deals : List BlockDeal) (unplanned : IsUnplanned hour)

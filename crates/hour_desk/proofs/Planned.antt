@@ -53,11 +53,6 @@ pub one-planned : (hour new : HourState) (e : Event) (events : List Event) → I
 one-planned hour new e events unplanned is after =
     after ∙ ap (λ es. with_board hour (with_hand (with_events hour.board (es ++ e ∷ [])) None)) unplanned.events ∙ ap (with_planned hour) (sym is)
 
--- what is behind the first events of a list
-pub behind : (front back : List Event) → drop (length front) (front ++ back) ≡ back
-behind [] back = refl
-behind (event ∷ front) back = behind front back
-
 -- ---- the reply
 
 -- a reply is the market's, and an hour has its events planned
@@ -121,17 +116,6 @@ done-told setup old new caller given graph made can over no_view none planned to
     let its : IsAnswered setup old new caller given (reply.Done (drop (length old.settled) after)) =
     answered setup old new caller given (reply.Done (drop (length old.settled) after)) after answers planned in
     record { reply = told ∙ ap reply.Done front ∙ its.reply; planned = its.planned }
-
--- the events of the reply to a command that is done
-pub done-events : (setup : Setup) (hour : HourState) (caller : ℕ) (given : Command) → CanChange setup hour caller given
-    → ((contract : Contract) (side : Side) (zone : ℕ) → ¬ (given ≡ command.View contract side zone))
-    → None ≡ first_broken (filling_rules (graph_of setup) hour.settled caller given)
-    → events_of (reply_to setup hour.settled caller given) ≡ events_done all_parts setup hour.settled caller given
-done-events setup hour caller given can no_view none =
-    let after : List Event = hour.settled ++ events_done all_parts setup hour.settled caller given in
-    let answers = done (graph_of setup) setup hour.settled after (drop (length hour.settled) after) caller given (length hour.settled)
-    refl no_view (let-in setup hour caller given can) none refl refl refl in
-    sym (ap events_of answers.reply) ∙ behind hour.settled (events_done all_parts setup hour.settled caller given)
 
 -- ---- results
 

@@ -1,5 +1,5 @@
 -- What a command that touches one hour alone names, where no rule refuses it by itself.
-use Rattle.std.proofs.Common.{◌≡◌, ◌∙◌, inl, inr, ℕ, ◌+◌, ◌-◌, ◌<◌, ◌≤◌, ◌&&◌, true, List, [], ◌∷◌, length, map, nat_le, nat_lt, Option, None, is_none, refl, sym, ap, subst, if◌then◌else◌, arith}
+use Rattle.std.proofs.Common.{◌≡◌, ◌∙◌, ℕ, ◌+◌, ◌-◌, ◌&&◌, true, List, [], ◌∷◌, length, map, nat_le, nat_lt, Option, None, is_none, sym, ap, if◌then◌else◌, arith}
 use Rattle.std.proofs.lemmas.Bool.{and_parts, leb-true, ltb-true}
 use Rattle.std.proofs.lemmas.List.{length-map}
 use Rattle.std.specs.List.{list_all}
@@ -8,12 +8,11 @@ use Rattle.order_kinds.specs.declared.order.Order.{Order}
 use Rattle.order_kinds.specs.Order.{is_fill_or_kill}
 use Rattle.order_kinds.specs.Period.{hours_from, is_within}
 use Rattle.order_kinds.proofs.Hours.{hours-next}
-use Rattle.zone_graph.specs.Route.{IsIn}
 use Rattle.market_model.specs.declared.command.Command.{Command}
 use Rattle.market_model.specs.declared.command.Command.TheVariants as command
 use Rattle.market_model.specs.declared.refusal.Refusal.{Refusal}
 use Rattle.market_model.specs.declared.setup.Setup.{Setup}
-use Rattle.market_model.specs.Rules.{ascends, basket_is_good, early_refusal, hours_concerned, is_block_period, period_is_good, touched_hours}
+use Rattle.market_model.specs.Rules.{ascends, basket_is_good, early_refusal, hours_concerned, is_block_period, period_is_good}
 use Rattle.market_model.specs.LetIn.{IsNoEntry}
 use Rattle.laws_of_market.proofs.Admitted.{NamesWhatIs, naming-none}
 use Rattle.laws_of_market.proofs.Admitting.{IsNamed, early-none, is-no_entry}
@@ -26,11 +25,6 @@ pub concerned : (setup : Setup) (hour : HourState) (caller : ℕ) (given : Comma
 concerned setup hour caller given placed early =
     let names : IsNamed setup caller given = early-none setup caller given early in
     ap (λ (o : Option Refusal). if is_none o then hours_concerned given else []) (sym names.naming) ∙ placed.alone
-
--- and touches no other
-pub alone : (setup : Setup) (hour : HourState) (caller : ℕ) (given : Command) → IsPlaced setup hour caller given
-    → (other : ℕ) → IsIn other (touched_hours setup caller given) → other ≡ hour.board.hour
-alone setup hour caller given placed other i = elim (subst (IsIn other) placed.alone i) [ inl same ↦ same | inr none ↦ absurd none ]
 
 names : (setup : Setup) (caller : ℕ) (given : Command) → early_refusal setup caller given ≡ None → NamesWhatIs setup caller given
 names setup caller given early = naming-none setup caller given (early-none setup caller given early).naming

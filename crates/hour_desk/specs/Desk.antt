@@ -3,9 +3,7 @@
 use Rattle.std.specs.Prelude.{ℕ, List, [], ◌++◌, Option, Some, None, drop, length, unwrap_or}
 use Rattle.zone_graph.specs.Graph.{Graph}
 use Rattle.market_model.specs.declared.event.Event.{Event}
-use Rattle.market_model.specs.declared.setup.Setup.{Setup}
 use Rattle.market_model.specs.Board.{BoardState}
-use Rattle.hour_desk.specs.Placed.{IsLeftBy}
 
 pub record DeskState : Type 0 where
   pub hour : ℕ
@@ -36,7 +34,3 @@ planned_events desk = drop (length desk.settled) (unwrap_or desk.planned desk.se
 -- the hour as it is settled
 abbrev pub board_of : DeskState → BoardState
 board_of desk = record { grid = desk.grid; hour = desk.hour; parts = 7; events = desk.settled; hand = None }
-
--- the settled events are those that a legal journal leaves for the hour
-abbrev pub IsAfterJournal : Setup → DeskState → Type 0
-IsAfterJournal setup desk = IsLeftBy setup desk.hour desk.settled

@@ -4,9 +4,7 @@ use Rattle.std.specs.Prelude.{◌≡◌, ℕ, ◌<◌, List, [], ◌∷◌, ◌+
 use Rattle.block_match.specs.declared.deal.BlockDeal.{BlockDeal}
 use Rattle.market_model.specs.declared.event.Event.{Event}
 use Rattle.market_model.specs.declared.event.Event.TheVariants as event
-use Rattle.market_model.specs.declared.setup.Setup.{Setup}
 use Rattle.market_model.specs.Board.{IsHourOf}
-use Rattle.market_model.specs.Grid.{graph_of}
 use Rattle.market_model.specs.Orders.{next_name, open_names}
 use Rattle.market_model.specs.Refusals.{desk_room}
 use Rattle.market_model.specs.Sweep.{all_parts, sweep}
@@ -17,13 +15,6 @@ use Rattle.hour_desk.specs.declared.part_work.BlockEntry.{BlockEntry}
 use Rattle.hour_desk.specs.declared.part_work.PartWork.{PartWork}
 use Rattle.hour_desk.specs.declared.part_work.PartWork.TheVariants as work
 use Rattle.hour_desk.specs.Desk.{DeskState}
-use Rattle.hour_desk.specs.Placed.{IsLeftBy}
-
--- the settled events are those that some legal journal over the desk's grid leaves for the hour
-pub record IsAfterSomeJournal (desk : DeskState) : Type 0 where
-  pub setup : Setup
-  pub over : graph_of setup ≡ desk.grid
-  pub place : IsLeftBy setup desk.hour desk.settled
 
 -- the entry of a block after the events of its first hour, where one enters
 abbrev pub entry_events : List Event → Option BlockEntry → List Event

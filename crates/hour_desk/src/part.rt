@@ -39,7 +39,7 @@ pub(crate) fn share_and_refresh(
     requires seven { hour.old.board.parts ≡ 7 }
     requires unplanned { IsUnplanned hour.old }
     requires few { names_given hour.old.board < 2 ^ 32 - 1 }
-    requires place { shared.IsAfterSomeJournal (desk_of hour.old false) }
+    requires quiet { IsSettled grid.now hour.old.board.hour hour.old.settled }
     requires can { shared.CanShare (desk_of hour.old false) work.now }
     requires stands { StandAt (settled_board hour.old) views.old }
     requires none_next { forgotten views.old ≡ views.old }
@@ -47,6 +47,7 @@ pub(crate) fn share_and_refresh(
     ensures planned { OnOk result (hour.new ≡ with_planned hour.old (shared.part_events (desk_of hour.old false) work.now)) }
     ensures next { OnOk result (IsNext hour.new.board views.new) }
     ensures stands { StandAt (settled_board hour.old) views.new }
+    ensures quiet { OnOk result (IsSettled hour.new.board.grid hour.new.board.hour hour.new.board.events) }
     ensures unplanned { OnErr result (hour.new ≡ hour.old) }
     ensures none_next { OnErr result (forgotten views.new ≡ views.new) }
 {
@@ -73,7 +74,7 @@ pub(crate) fn match_and_refresh(
 ) -> Result<BlockDeals, NoMemory>
     requires grid { grid.now ≡ hour.old.board.grid }
     requires unplanned { IsUnplanned hour.old }
-    requires place { shared.IsAfterSomeJournal (desk_of hour.old false) }
+    requires quiet { IsSettled grid.now hour.old.board.hour hour.old.settled }
     requires size { length rooms.old ≡ border_count hour.old.board.grid }
     requires period { periods.IsFirstOfPeriod hour.old.board.grid hour.old.board.hour last hour.old.settled rooms.old }
     requires stands { StandAt (settled_board hour.old) views.old }
@@ -84,6 +85,7 @@ pub(crate) fn match_and_refresh(
     ensures size { length rooms.new ≡ length rooms.old }
     ensures next { OnOk result (IsNext hour.new.board views.new) }
     ensures stands { StandAt (settled_board hour.old) views.new }
+    ensures quiet { OnOk result (IsSettled hour.new.board.grid hour.new.board.hour hour.new.board.events) }
     ensures unplanned { OnErr result (hour.new ≡ hour.old) }
     ensures none_next { OnErr result (forgotten views.new ≡ views.new) }
 {

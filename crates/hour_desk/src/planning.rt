@@ -3,6 +3,7 @@
 ghost use Rattle.std.specs.Prelude.{◌≡◌, ℕ, ◌∷◌, ◌<◌, ◌-◌, ◌^◌, List, [], None, IfOk, OnErr, OnOk, count_by, length};
 ghost use Rattle.market_model.specs.declared.refusal.Refusal.TheVariants as refusals;
 ghost use Rattle.market_model.specs.declared.reply.Reply.TheVariants as replies;
+ghost use Rattle.market_model.specs.Board.{IsBoard};
 ghost use Rattle.market_model.specs.Grid.{graph_of};
 ghost use Rattle.market_model.specs.History.{enters_in, events_of};
 ghost use Rattle.market_model.specs.Market.{reply_to};
@@ -27,8 +28,7 @@ impl HourDesk {
     /// that are still in reach where its taking would end, and with their bound: it is below the order's
     /// quantity, and so is the value of every flow plan for it.
     ///
-    /// The setup's zones and borders are the desk's grid, and the settled events are those that a legal
-    /// journal of the setup leaves for the hour.
+    /// The setup's zones and borders are the desk's grid.
     ///
     /// # Errors
     ///
@@ -46,7 +46,6 @@ impl HourDesk {
         requires alone { touched_hours setup.now caller command.now ≡ self.old.hour ∷ [] }
         requires early { early_refusal setup.now caller command.now ≡ None }
         requires few { count_by (enters_in self.old.hour) self.old.settled < 2 ^ 32 - 1 }
-        requires place { states.IsAfterJournal setup.now self.old }
         ensures reply { IfOk result (λ reply. reply ≡ reply_to setup.now self.old.settled caller command.now) }
         ensures certified { IfOk result (λ reply. (zones : List ℕ) (bound : ℕ) → reply ≡ replies.Refused (refusals.Unfilled zones bound)
             → IsUnfilledOrder self.old.grid self.old.settled caller command.now zones bound) }
@@ -101,7 +100,10 @@ fn carry_plan(hour: &mut KeptHour, views: &mut DeskViews)
 pub(crate) fn drop_plan(hour: &mut KeptHour, views: &mut DeskViews)
     ensures hour { hour.new ≡ undone hour.old }
     ensures views { views.new ≡ forgotten views.old }
+    ensures board { IsBoard hour.new.board }
 {
     hour.undo();
     views.forget();
+    // It shows that the hour stands.
+    let _events = hour.events();
 }

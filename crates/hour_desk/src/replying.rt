@@ -2,9 +2,11 @@
 
 ghost use Rattle.std.specs.Prelude.{◌≡◌, ◌<◌, ◌≤◌, ◌-◌, ◌^◌, IfOk, None, OnErr, OnOk, drop, length};
 ghost use Rattle.market_model.specs.declared.reply.Reply.TheVariants as reply;
+ghost use Rattle.market_model.specs.Board.{IsBoard};
 ghost use Rattle.market_model.specs.History.{events_of};
 ghost use Rattle.market_model.specs.Market.{reply_to};
 ghost use Rattle.market_model.specs.Rules.{early_refusal};
+ghost use Rattle.laws_of_boards.specs.Settled.{IsSettled};
 ghost use Rattle.desk_blocks.specs.Kept.{names_given};
 ghost use Rattle.desk_blocks.specs.Planned.{with_planned};
 ghost use Rattle.desk_blocks.specs.State.{settled_board, undone};
@@ -46,6 +48,7 @@ pub(crate) fn reply_and_refresh(
     ensures planned { OnOk result (hour.new ≡ with_planned hour.old (events_of (reply_to setup.now hour.old.settled caller command.now))) }
     ensures next { OnOk result (IsNext hour.new.board views.new) }
     ensures stands { StandAt (settled_board hour.old) views.new }
+    ensures quiet { OnOk result (IsSettled hour.new.board.grid hour.new.board.hour hour.new.board.events) }
     ensures unplanned { OnErr result (hour.new ≡ hour.old) }
     ensures none_next { OnErr result (forgotten views.new ≡ views.new) }
 {
@@ -69,11 +72,14 @@ pub(crate) fn refresh(
     requires stands { StandAt (settled_board hour.old) views.old }
     requires none_next { forgotten views.old ≡ views.old }
     ensures kept { OnOk result (hour.new ≡ hour.old) }
+    ensures board { OnOk result (IsBoard hour.new.board) }
     ensures next { OnOk result (IsNext hour.new.board views.new) }
     ensures stands { StandAt (settled_board hour.old) views.new }
     ensures dropped { OnErr result (hour.new ≡ undone hour.old) }
     ensures none_next { OnErr result (forgotten views.new ≡ views.new) }
 {
+    // It shows that the hour stands.
+    let _events = hour.events();
     match views.refresh(hour, grid) {
         Ok(()) => Ok(()),
         Err(error) => {

@@ -28,9 +28,8 @@ impl HourDesk {
     /// Plans this hour's part of a command that touches several hours: the events that it shares with them,
     /// and then its own sweep. Answers them. What was planned before is dropped first.
     ///
-    /// The settled events are those that a legal journal over the grid leaves for the hour, and the hour can
-    /// go on with what it shares. A block enters its first hour alone, and each deal closes its two blocks
-    /// there.
+    /// The hour can go on with what it shares. A block enters its first hour alone, and each deal closes its
+    /// two blocks there.
     ///
     /// # Errors
     ///
@@ -38,7 +37,6 @@ impl HourDesk {
     pub fn plan_part(&mut self, grid: &Grid, work: &PartWork) -> Result<Events, NoMemory>
         requires grid { grid.now ≡ self.old.grid }
         requires few { count_by (enters_in self.old.hour) self.old.settled < 2 ^ 32 - 1 }
-        requires place { shared.IsAfterSomeJournal self.old }
         requires can { shared.CanShare self.old work.now }
         ensures events { IfOk result (λ events. events ≡ shared.part_events self.old work.now) }
         ensures planned { OnOk result (self.new ≡ states.planning self.old (shared.part_events self.old work.now)) }
@@ -61,8 +59,6 @@ impl HourDesk {
     /// within the rooms of the period, and plans their legs and then the sweep of this hour. Answers the
     /// deals; the rooms are left as these leave them. What was planned before is dropped first.
     ///
-    /// The settled events are those that a legal journal over the grid leaves for the hour.
-    ///
     /// # Errors
     ///
     /// [`NoMemory`] where memory runs out; nothing is planned then, and the rooms may be those after some of
@@ -75,7 +71,6 @@ impl HourDesk {
     ) -> Result<BlockDeals, NoMemory>
         requires grid { grid.now ≡ self.old.grid }
         requires few { count_by (enters_in self.old.hour) self.old.settled < 2 ^ 32 - 1 }
-        requires place { shared.IsAfterSomeJournal self.old }
         requires size { length rooms.old ≡ border_count self.old.grid }
         requires period { periods.IsFirstOfPeriod self.old.grid self.old.hour last self.old.settled rooms.old }
         ensures deals { IfOk result (λ deals. periods.AreDealsOf self.old.grid self.old.hour last self.old.settled rooms.old deals) }

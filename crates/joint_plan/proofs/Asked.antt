@@ -11,7 +11,7 @@ use Rattle.market_model.specs.History.{journal_events}
 use Rattle.market_model.specs.Rules.{hours_concerned}
 use Rattle.hour_desk.specs.declared.part_work.PartWork.{PartWork}
 use Rattle.hour_desk.specs.Desk.{DeskState}
-use Rattle.hour_desk.specs.Shared.{CanShare, IsAfterSomeJournal}
+use Rattle.hour_desk.specs.Shared.{CanShare}
 use Rattle.joint_plan.specs.Refusing as refusing
 use Rattle.joint_plan.specs.Rows.{AreAsked, AreOver, AreReady, IsHistoryOf, hours_of}
 use Rattle.joint_plan.specs.Works.{CanPlanPart}
@@ -29,21 +29,9 @@ module _ (setup : Setup) (graph : Graph) (desks : List DeskState) (ready : AreRe
   unfolding ready-history
   ready-is = journal-history setup desks ready.place.entries ready.place.journal
 
-  pub ready-place : (desk : DeskState) → IsIn desk desks → IsAfterSomeJournal desk
-  ready-place desk i = record {
-    setup = setup;
-    over = sym (ready-over desk i);
-    place = record {
-      entries = ready.place.entries;
-      is_setup = ready.place.journal.is_setup;
-      legal = ready.place.journal.legal;
-      left = ready.place.journal.left desk i;
-    };
-  }
-
   -- a desk that can share some work can plan its part of it
   pub ready-part : (w : PartWork) (desk : DeskState) → IsIn desk desks → CanShare desk w → CanPlanPart graph w desk
-  ready-part w desk i can = record { over = sym (ready.over desk i); numbers = ready.numbers desk i; place = ready-place desk i; can = can }
+  ready-part w desk i can = record { over = sym (ready.over desk i); numbers = ready.numbers desk i; can = can }
 
 module _ (setup : Setup) (graph : Graph) (caller : ℕ) (given : Command) (desks : List DeskState) (asked : AreAsked setup graph caller given desks) where
   pub asked-hours : hours_of desks ≡ hours_concerned given

@@ -26,7 +26,7 @@ use Rattle.joint_plan.specs.Refusing as refusing
 use Rattle.joint_plan.specs.Rooms.{AreRoomsOver, CanMatch}
 use Rattle.joint_plan.specs.Rows.{AreAsked, IsHistoryOf, hours_of, planning_all}
 use Rattle.joint_plan.specs.Works.{CanPlanPart, events_over, swept, with_part}
-use Rattle.joint_plan.proofs.Asked.{asked-hours, ready-history, ready-is, ready-over, ready-part, ready-place}
+use Rattle.joint_plan.proofs.Asked.{asked-hours, ready-history, ready-is, ready-over, ready-part}
 use Rattle.joint_plan.proofs.Histories.{early-naming}
 use Rattle.joint_plan.proofs.Lists.{IsIn-get, IsIn-rest, drop-front, first-rest, first-set, rest-set}
 use Rattle.joint_plan.proofs.OverPeriods.{first-hour, is-period, matching-can, matching-part, matching-reply, other-hours}
@@ -65,7 +65,6 @@ module _ (setup : Setup) (graph : Graph) (caller first last : ℕ) (desks : List
       period-can = record {
         over = sym (asked.ready.over desk (IsIn-get desks 0 desk at));
         numbers = asked.ready.numbers desk (IsIn-get desks 0 desk at);
-        place = ready-place setup graph desks asked.ready desk (IsIn-get desks 0 desk at);
         size = rooms_are.size ∙ ap border_count (sym (asked.ready.over desk (IsIn-get desks 0 desk at)));
         period = (
           setup,

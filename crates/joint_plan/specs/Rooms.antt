@@ -9,7 +9,6 @@ use Rattle.market_model.specs.Room.{least}
 use Rattle.laws_of_joint_commands.specs.PeriodRooms.{hour_room}
 use Rattle.hour_desk.specs.Periods.{IsFirstOfPeriod}
 use Rattle.hour_desk.specs.Desk.{DeskState}
-use Rattle.hour_desk.specs.Shared.{IsAfterSomeJournal}
 
 -- the room of an arc in the hour of a desk
 abbrev pub room_at : Arc → DeskState → ℕ
@@ -25,6 +24,5 @@ pub record AreRoomsOver (graph : Graph) (desks : List DeskState) (rooms : List (
 pub record CanMatch (graph : Graph) (last : ℕ) (rooms : List (ℕ × ℕ)) (desk : DeskState) : Type 0 where
   pub over : graph ≡ desk.grid
   pub numbers : count_by (enters_in desk.hour) desk.settled < 2 ^ 32 - 1
-  pub place : IsAfterSomeJournal desk
   pub size : length rooms ≡ border_count desk.grid
   pub period : IsFirstOfPeriod desk.grid desk.hour last desk.settled rooms

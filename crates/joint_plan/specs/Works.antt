@@ -11,7 +11,7 @@ use Rattle.market_model.specs.Sweep.{all_parts, sweep}
 use Rattle.hour_desk.specs.declared.part_work.PartWork.{PartWork}
 use Rattle.hour_desk.specs.declared.part_work.PartWork.TheVariants as work
 use Rattle.hour_desk.specs.Desk.{DeskState, planning}
-use Rattle.hour_desk.specs.Shared.{CanShare, IsAfterSomeJournal, part_events, shared_events}
+use Rattle.hour_desk.specs.Shared.{CanShare, part_events, shared_events}
 
 -- what each hour of the range of a command shares, where there is an arc for it
 abbrev pub range_work : Graph → Command → Option PartWork
@@ -25,7 +25,6 @@ range_work graph given = None
 pub record CanPlanPart (graph : Graph) (given : PartWork) (desk : DeskState) : Type 0 where
   pub over : graph ≡ desk.grid
   pub numbers : count_by (enters_in desk.hour) desk.settled < 2 ^ 32 - 1
-  pub place : IsAfterSomeJournal desk
   pub can : CanShare desk given
 
 -- the desk that plans it

@@ -1,8 +1,10 @@
 -- Where no two orders of an hour can trade nothing of it trades, by the hour's own events.
-use Rattle.std.proofs.Common.{◌≡◌, ◌∙◌, inl, ℕ, zero, suc, false, List, [], ◌∷◌, Option, Some, None, map, refl, sym, ap, subst}
+use Rattle.std.proofs.Common.{◌≡◌, ◌∙◌, inl, ℕ, zero, suc, false, List, [], ◌∷◌, ◌++◌, Option, Some, None, map, refl, sym, ap, subst}
 use Rattle.std.proofs.lemmas.Bool.{true≢false}
+use Rattle.std.proofs.lemmas.List.{append-nil}
 use Rattle.order_kinds.specs.declared.contract.Contract.{Contract}
 use Rattle.order_kinds.specs.declared.contract.Part.{Part}
+use Rattle.order_kinds.specs.declared.order.OrderName.{OrderName}
 use Rattle.order_kinds.specs.declared.side.Side.{Side}
 use Rattle.order_kinds.specs.declared.side.Side.TheVariants.{Buy, Sell}
 use Rattle.order_kinds.specs.Side.{opposite}
@@ -11,22 +13,31 @@ use Rattle.zone_graph.specs.Graph.{Graph}
 use Rattle.zone_graph.specs.Route.{IsIn}
 use Rattle.zone_graph.specs.Steps.{step_and_onward, steps}
 use Rattle.market_model.specs.declared.event.Event.{Event}
+use Rattle.market_model.specs.declared.event.Event.TheVariants as event
+use Rattle.market_model.specs.declared.setup.Setup.{Setup}
+use Rattle.market_model.specs.Board.{IsHourOf}
 use Rattle.market_model.specs.Grid.{graph_of}
 use Rattle.market_model.specs.History.{and_then, journal_events, of_hour}
 use Rattle.market_model.specs.Lines.{can_trade, line, partner, rooms_for}
 use Rattle.market_model.specs.Market.{Turn, run_of, turn_of}
 use Rattle.market_model.specs.Orders.{Standing, standing}
+use Rattle.market_model.specs.WellFormed.{FitAfter}
 use Rattle.market_model.specs.Sweep.{all_parts, first_answer, left_in_hour, leg_in, leg_of_buy, or_else, resting_trade, sweep, sweep_leg}
 use Rattle.laws_of_market.proofs.Journals.{run-history}
 use Rattle.laws_of_market.proofs.Lines.{IsIn-line}
 use Rattle.laws_of_market.proofs.Members.{from_first_answer}
 use Rattle.laws_of_market.proofs.Repeats.{bind-some}
 use Rattle.laws_of_market.proofs.Trades.{IsInLine, from_line, partner-is}
-use Rattle.laws_of_market.proofs.LocalLines.{line-agree, rooms_for-agree}
+use Rattle.laws_of_market.proofs.LocalLines.{line-agree, rooms_for-agree, sweep-agree}
 use Rattle.laws_of_market.proofs.OfHours.{one-agrees}
 use Rattle.laws_of_market.specs.UncrossedBook.{IsUncrossedBook}
 use Rattle.laws_of_market.proofs.Commands.{run-uncrossed}
-use Rattle.laws_of_market.proofs.UncrossedReplies.{book_of_hours}
+use Rattle.laws_of_market.proofs.Swept.{uncrossed-swept}
+use Rattle.laws_of_market.proofs.Uncrossed.{IsUncrossed, uncrossed-reduced, uncrossed-withdrawn}
+use Rattle.laws_of_market.proofs.UncrossedReplies.{book_of_hours, hour_of_book}
+use Rattle.laws_of_boards.specs.Hours.{IsHourIn}
+use Rattle.laws_of_boards.proofs.Fitting.{hour-in-agrees}
+use Rattle.laws_of_boards.proofs.Stepping.{sweeps}
 use Rattle.laws_of_boards.specs.Settled.{IsSettled, SettledHoursAreQuiet, UncrossedHoursAreSettled}
 
 -- who stands in a line for a contract and side is in that line
@@ -85,18 +96,19 @@ settled-apart graph hour events apart =
     λ part. no-leg graph events (record { hour = hour; part = part }) (apart part) in
     record { no_leg = none; no_pair = apart; no_sweep = λ parts. no-sweep parts graph hour events none }
 
--- a book that is not crossed has no pair
-book-apart : (graph : Graph) (events : List Event) (contract : Contract) → IsUncrossedBook graph events → HasNoPair graph events contract
-book-apart graph events contract book buy sell i j =
+-- an hour that is not crossed has no pair
+hour-apart : (graph : Graph) (events : List Event) (contract : Contract) → IsUncrossed graph contract.hour events → HasNoPair graph events contract
+hour-apart graph events contract hour buy sell i j =
     let own = from_line events contract Buy buy i in
     let other = from_line events contract Sell sell j in
     subst (λ (s : Standing). can_trade graph (rooms_for events s) s sell ≡ false) (sym own.is)
     (subst (λ (s : Standing). can_trade graph (rooms_for events (standing events own.order)) (standing events own.order) s ≡ false) (sym other.is)
-    (book own.order other.order own.is_open.is_placed other.is_open.is_placed own.is_open.is_left other.is_open.is_left
-    (own.of_contract ∙ sym other.of_contract) own.on_side other.on_side))
+    (hour own.order other.order own.is_open other.is_open (ap (λ (c : Contract). c.hour) own.of_contract) (own.of_contract ∙ sym other.of_contract) own.on_side other.on_side))
 
-pub uncrossed : UncrossedHoursAreSettled
-uncrossed setup events hour fit book = settled-apart (graph_of setup) hour (of_hour hour events) (λ part buy sell i j. apart part buy sell i j)
+-- so it is settled, by its own events
+pub settled-uncrossed : (setup : Setup) (events : List Event) (hour : ℕ) → FitAfter setup [] events → IsUncrossed (graph_of setup) hour events
+    → IsSettled (graph_of setup) hour (of_hour hour events)
+settled-uncrossed setup events hour fit whole = settled-apart (graph_of setup) hour (of_hour hour events) (λ part buy sell i j. apart part buy sell i j)
   where
     apart : (part : Part) → HasNoPair (graph_of setup) (of_hour hour events) (record { hour = hour; part = part })
     apart part buy sell i j =
@@ -109,7 +121,49 @@ uncrossed setup events hour fit book = settled-apart (graph_of setup) hour (of_h
         let in_hour : buy.order.contract.hour ≡ hour =
         ap (λ (s : Standing). s.order.contract.hour) there.is ∙ ap (λ (c : Contract). c.hour) there.of_contract in
         ap (λ (rooms : Arc → ℕ). can_trade (graph_of setup) rooms buy sell) (rooms_for-agree (hour ∷ []) own events agree buy (inl in_hour))
-        ∙ book-apart (graph_of setup) events contract book buy sell is_buy is_sell
+        ∙ hour-apart (graph_of setup) events contract whole buy sell is_buy is_sell
+
+pub uncrossed : UncrossedHoursAreSettled
+uncrossed setup events hour fit book = settled-uncrossed setup events hour fit (hour_of_book (graph_of setup) events book hour)
+
+-- a settled hour is not crossed, and so is settled after a withdrawal or a reduction
+settled-is : (graph : Graph) (hour : ℕ) (events : List Event) → IsSettled graph hour events → IsUncrossed graph hour events
+settled-is graph hour events settled buy sell buy_open sell_open in_hour same on_buy on_sell =
+    let contract : Contract = record { hour = hour; part = buy.order.contract.part } in
+    let own : buy.order.contract ≡ contract = ap (λ h. record { hour = h; part = buy.order.contract.part }) in_hour in
+    settled.no_pair buy.order.contract.part (standing events buy) (standing events sell)
+    (subst (λ c. IsIn (standing events buy) (line events c Buy)) own (subst (λ s. IsIn (standing events buy) (line events buy.order.contract s)) on_buy (IsIn-line events buy buy_open)))
+    (subst (λ c. IsIn (standing events sell) (line events c Sell)) (sym same ∙ own)
+    (subst (λ s. IsIn (standing events sell) (line events sell.order.contract s)) on_sell (IsIn-line events sell sell_open)))
+
+pub settled-withdrawn : (graph : Graph) (hour : ℕ) (events : List Event) (name : OrderName) (lots : ℕ) → IsSettled graph hour events
+    → IsSettled graph hour (and_then events (event.Withdrawn name lots))
+settled-withdrawn graph hour events name lots settled =
+    let now = uncrossed-withdrawn graph hour events name lots (settled-is graph hour events settled) in
+    settled-apart graph hour (and_then events (event.Withdrawn name lots))
+    (λ part. hour-apart graph (and_then events (event.Withdrawn name lots)) (record { hour = hour; part = part }) now)
+
+pub settled-reduced : (graph : Graph) (hour : ℕ) (events : List Event) (name : OrderName) (by : ℕ) → IsSettled graph hour events
+    → IsSettled graph hour (and_then events (event.Reduced name by))
+settled-reduced graph hour events name by settled =
+    let now = uncrossed-reduced graph hour events name by (settled-is graph hour events settled) in
+    settled-apart graph hour (and_then events (event.Reduced name by))
+    (λ part. hour-apart graph (and_then events (event.Reduced name by)) (record { hour = hour; part = part }) now)
+
+-- the sweep of an hour leaves it settled
+pub settled-swept : (graph : Graph) (hour : ℕ) (events : List Event) → IsHourOf graph hour events
+    → IsSettled graph hour (events ++ sweep all_parts graph hour events)
+settled-swept graph hour events stands =
+    let own : Graph = graph_of stands.setup in
+    let legs : List Event = sweep all_parts own hour events in
+    let is : IsHourIn stands.setup hour stands.history events = record { is_setup = stands.is_setup; fit = stands.fit; in_hour = stands.in_hour } in
+    let goes = sweeps stands.setup all_parts hour stands.history events legs [] is (sym (append-nil legs)) in
+    let same : legs ≡ sweep all_parts own hour stands.history =
+    sweep-agree (hour ∷ []) events stands.history all_parts own hour (hour-in-agrees stands.setup hour stands.history events is) (inl refl) in
+    let swept : IsUncrossed own hour (stands.history ++ legs) =
+    subst (λ es. IsUncrossed own hour (stands.history ++ es)) (sym same) (uncrossed-swept stands.setup stands.is_setup hour stands.history stands.fit) in
+    subst (λ g. IsSettled g hour (events ++ sweep all_parts g hour events)) stands.over_grid
+    (subst (IsSettled own hour) goes.in_hour (settled-uncrossed stands.setup (stands.history ++ legs) hour goes.fit swept))
 
 pub journals : SettledHoursAreQuiet
 journals setup entries hour is_setup legal =

@@ -1,5 +1,5 @@
 -- Every reply leaves a history well-formed, and so does every journal.
-use Rattle.std.proofs.Common.{◌≡◌, inl, inr, ℕ, zero, suc, ◌-◌, ◌<◌, ◌≤◌, ◌&&◌, Bool, true, false, not, List, [], ◌∷◌, ◌++◌, length, map, Option, Some, None, is_none, nat_eq, nat_lt, refl, sym, subst, if◌then◌else◌, arith}
+use Rattle.std.proofs.Common.{◌≡◌, inl, inr, ℕ, zero, suc, ◌-◌, ◌<◌, ◌≤◌, ◌&&◌, Bool, true, false, not, List, [], ◌∷◌, ◌++◌, length, map, Option, Some, None, is_none, nat_eq, nat_le, nat_lt, refl, sym, subst, if◌then◌else◌, arith}
 use Rattle.std.proofs.lemmas.Bool.{leb-true, ltb-true, true≢false, and_parts}
 use Rattle.std.proofs.lemmas.List.{append-nil}
 use Rattle.std.specs.List.{list_all, slice_get}
@@ -11,6 +11,7 @@ use Rattle.order_kinds.specs.declared.order.Kind.{Kind}
 use Rattle.order_kinds.specs.declared.order.Kind.TheVariants as kind
 use Rattle.order_kinds.specs.declared.order.Order.{Order}
 use Rattle.order_kinds.specs.declared.order.OrderName.{OrderName}
+use Rattle.order_kinds.specs.declared.phase.Phase.{Phase}
 use Rattle.order_kinds.specs.Contract.{is_known}
 use Rattle.order_kinds.specs.Order.{has_allowed_peaks, is_fill_or_kill, is_limit}
 use Rattle.order_kinds.specs.Period.{hours_from, is_not_after, is_within, range_quarters}
@@ -37,7 +38,7 @@ use Rattle.market_model.specs.Refusals.{below_flow, has_own, if_limit, if_own, i
 use Rattle.market_model.specs.Room.{phase_of}
 use Rattle.market_model.specs.Rules.{has_right, may_give}
 use Rattle.market_model.specs.Sweep.{first_answer}
-use Rattle.market_model.specs.WellFormed.{IsHistory, IsMarketSetup, IsRange}
+use Rattle.market_model.specs.WellFormed.{BorderFits, GateFits, GrantFits, IsHistory, IsMarketSetup, IsRange, OfferFits, ReductionFits, WithdrawalFits}
 use Rattle.laws_of_market.proofs.Admitted.{IsAdmitted, all-pass, refusal-none, unless-none}
 use Rattle.laws_of_market.proofs.BlockEntries.{enter_block-history, match_blocks-history}
 use Rattle.laws_of_market.proofs.Changes.{arc_between-has, gate-history, offer-covers, request-room, then_sweeps-history}
@@ -77,6 +78,133 @@ kills-peaks order e = go order.kind refl e
     go kind.Ioc is h = absurd (true≢false (sym h))
     go kind.Fok is h = rw is refl
     go (kind.Iceberg peak delta) is h = absurd (true≢false (sym h))
+
+-- ---- what happens first where a command is admitted that enters nothing fits the events before
+
+module _ (setup : Setup) (events : List Event) (caller : ℕ) where
+  -- an order or block that the caller has open has something left
+  own-left : (name : OrderName) → has_own events caller name ≡ true → 1 ≤ left events name
+  own-left name has = go (open_order events name) (open_block events name) refl refl has
+    where
+      go : (o : Option Placed) (b : Option PlacedBlock) → open_order events name ≡ o → open_block events name ≡ b
+          → not (is_none (if_own caller o) && is_none (if_own_block caller b)) ≡ true → 1 ≤ left events name
+      go (Some order) b is is_block k =
+          let found = open_order-is events name order is in
+          let some = ltb-true 0 (left events order.name) found.is_open.is_left in
+          subst (λ n. 1 ≤ left events n) found.is_named some
+      go None (Some block) is is_block k =
+          let r = from_find (λ (b : PlacedBlock). same_name b.name name && is_open events b.name) block _ is_block in
+          let both = and_parts (same_name block.name name) (is_open events block.name) r.1 in
+          let some = ltb-true 0 (left events block.name) both.1 in
+          subst (λ n. 1 ≤ left events n) (same_name-eq block.name name both.0) some
+      go None None is is_block k = absurd (true≢false (sym k))
+
+  pub withdrawal-fits : (name : OrderName) → IsAdmitted setup events caller (command.Cancel name) → WithdrawalFits events name (left events name)
+  withdrawal-fits name may = record { some = own-left name may.known; all_left = refl }
+
+  -- the plain limit order that a reduction finds
+  record IsOwnLimit (name : OrderName) (order : Placed) : Type 0 where
+    is_order : open_order events name ≡ Some order
+    is_limit : order.order.kind ≡ kind.Limit
+
+  limit_kind : (k : Kind) → is_limit k ≡ true → k ≡ kind.Limit
+  limit_kind kind.Limit e = refl
+  limit_kind kind.Ioc e = absurd (true≢false (sym e))
+  limit_kind kind.Fok e = absurd (true≢false (sym e))
+  limit_kind (kind.Iceberg peak delta) e = absurd (true≢false (sym e))
+
+  own_limit-is : (name : OrderName) (order : Placed) → own_limit events caller name ≡ Some order → IsOwnLimit name order
+  own_limit-is name order e = go (open_order events name) refl e
+    where
+      by_kind : (found : Placed) → open_order events name ≡ Some found → (limit : Bool) → is_limit found.order.kind ≡ limit
+          → (if limit then Some found else None) ≡ Some order → IsOwnLimit name order
+      by_kind found is true l k =
+          let same : found ≡ order = cc in
+          subst (IsOwnLimit name) same (record { is_order = is; is_limit = limit_kind found.order.kind l })
+      by_kind found is false l k = absurd (cc)
+
+      by_caller : (found : Placed) → open_order events name ≡ Some found → (own : Bool) → if_limit (if own then Some found else None) ≡ Some order → IsOwnLimit name order
+      by_caller found is true k = by_kind found is (is_limit found.order.kind) refl k
+      by_caller found is false k = absurd (cc)
+
+      go : (o : Option Placed) → open_order events name ≡ o → if_limit (if_own caller o) ≡ Some order → IsOwnLimit name order
+      go None is k = absurd (cc)
+      go (Some found) is k = by_caller found is (nat_eq found.caller caller) k
+
+  pub reduction-fits : (name : OrderName) (to : ℕ) → IsAdmitted setup events caller (command.Reduce name to) → ReductionFits events name (left events name - to)
+  reduction-fits name to may = go (own_limit events caller name) refl may.known may.reduces
+    where
+      go : (o : Option Placed) → own_limit events caller name ≡ o → not (is_none o) ≡ true → is_below_left events to o ≡ true
+          → ReductionFits events name (left events name - to)
+      go None is k below = absurd (true≢false (sym k))
+      go (Some order) is k below =
+          let own = own_limit-is name order is in
+          let found = open_order-is events name order own.is_order in
+          let less : to < left events name = subst (λ n. to < left events n) found.is_named (ltb-true to (left events order.name) below) in
+          let some = (lots_in_range-bounds (record { 0 = to }) (one-pass lots_in_range (record { 0 = to }) may.numbers.quantities)).0 in
+          record {
+            order = order;
+            order_open = record {
+              is_placed = found.is_open.is_placed;
+              is_named = found.is_named;
+              is_left = subst (λ n. is_open events n ≡ true) found.is_named found.is_open.is_left;
+            };
+            is_limit = own.is_limit;
+            some = omega arith;
+            less = omega arith;
+          }
+
+  range : (from to : ℕ) (first last : Quarter) (arc : Arc) → arc_between (graph_of setup) from to ≡ Some arc
+      → list_all (is_within 1 setup.hours) (first.hour ∷ last.hour ∷ []) ≡ true → is_not_after first last ≡ true → IsRange setup arc first last
+  range from to first last arc is hours order = record {
+    on_arc = arc_between-has (graph_of setup) from to arc is;
+    from_hour = all-pass (is_within 1 setup.hours) (first.hour ∷ last.hour ∷ []) hours first.hour (inl refl);
+    to_hour = second-pass (is_within 1 setup.hours) first.hour last.hour hours;
+    in_order = order;
+  }
+
+  pub offer-fits : (from to : ℕ) (first last : Quarter) (lots : ℕ) (arc : Arc) → arc_between (graph_of setup) from to ≡ Some arc
+      → IsAdmitted setup events caller (command.Offer from to first last lots) → OfferFits setup events arc first last lots
+  offer-fits from to first last lots arc is may =
+      let none = subst (λ o. option_and_then (λ a. first_answer (below_flow events a lots) (range_quarters first last)) o ≡ None) is may.offer in
+      record {
+        range = range from to first last arc is may.names.hours may.names.period;
+        most = leb-true lots 1000000 may.numbers.offer;
+        covers_flow = offer-covers events arc lots first last none;
+      }
+
+  pub grant-fits : (from to : ℕ) (first last : Quarter) (lots : ℕ) (arc : Arc) → arc_between (graph_of setup) from to ≡ Some arc
+      → IsAdmitted setup events caller (command.Request from to first last lots) → GrantFits setup events arc first last lots
+  grant-fits from to first last lots arc is may =
+      let none = subst (λ o. option_and_then (λ a. first_answer (no_room events a lots) (range_quarters first last)) o ≡ None) is may.request in
+      record {
+        range = range from to first last arc is may.names.hours may.names.period;
+        some = (lots_in_range-bounds (record { 0 = lots }) (one-pass lots_in_range (record { 0 = lots }) may.numbers.quantities)).0;
+        has_room = request-room events arc lots first last none;
+      }
+
+  border-fits : (from to first last : ℕ) (arc : Arc) → arc_between (graph_of setup) from to ≡ Some arc
+      → list_all (is_within 1 setup.hours) (first ∷ last ∷ []) ≡ true → nat_le first last ≡ true → BorderFits setup arc.border first last
+  border-fits from to first last arc is hours order = record {
+    on_border = arc_between-has (graph_of setup) from to arc is;
+    from_hour = all-pass (is_within 1 setup.hours) (first ∷ last ∷ []) hours first (inl refl);
+    to_hour = second-pass (is_within 1 setup.hours) first last hours;
+    in_order = leb-true first last order;
+  }
+
+  pub halt-fits : (from to first last : ℕ) (arc : Arc) → arc_between (graph_of setup) from to ≡ Some arc
+      → IsAdmitted setup events caller (command.Halt from to first last) → BorderFits setup arc.border first last
+  halt-fits from to first last arc is may = border-fits from to first last arc is may.names.hours may.names.period
+
+  pub resumption-fits : (from to first last : ℕ) (arc : Arc) → arc_between (graph_of setup) from to ≡ Some arc
+      → IsAdmitted setup events caller (command.Resume from to first last) → BorderFits setup arc.border first last
+  resumption-fits from to first last arc is may = border-fits from to first last arc is may.names.hours may.names.period
+
+  pub gate-fits : (hour : ℕ) (asked : Phase) → IsAdmitted setup events caller (command.Gate hour asked) → GateFits setup events hour asked
+  gate-fits hour asked may = record {
+    in_hour = one-pass (is_within 1 setup.hours) hour may.names.hours;
+    later = unless-none (is_later asked (phase_of events hour)) _ may.gate;
+  }
 
 module _ (setup : Setup) (is_setup : IsMarketSetup setup) (parts : List Part) (events : List Event) (caller : ℕ) (history : IsHistory setup events) where
   entered : (order : Order) → IsAdmitted setup events caller (command.Enter order) → IsHistory setup (events ++ events_done parts setup events caller (command.Enter order))
@@ -118,83 +246,15 @@ module _ (setup : Setup) (is_setup : IsMarketSetup setup) (parts : List Part) (e
             (kills-peaks order (all-pass (λ (o : Order). is_fill_or_kill o.kind) orders kills order h));
       }) history
 
-  -- ---- single orders
-
-  -- an order or block that the caller has open has something left
-  own-left : (name : OrderName) → has_own events caller name ≡ true → 1 ≤ left events name
-  own-left name has = go (open_order events name) (open_block events name) refl refl has
-    where
-      go : (o : Option Placed) (b : Option PlacedBlock) → open_order events name ≡ o → open_block events name ≡ b
-          → not (is_none (if_own caller o) && is_none (if_own_block caller b)) ≡ true → 1 ≤ left events name
-      go (Some order) b is is_block k =
-          let found = open_order-is events name order is in
-          let some = ltb-true 0 (left events order.name) found.is_open.is_left in
-          subst (λ n. 1 ≤ left events n) found.is_named some
-      go None (Some block) is is_block k =
-          let r = from_find (λ (b : PlacedBlock). same_name b.name name && is_open events b.name) block _ is_block in
-          let both = and_parts (same_name block.name name) (is_open events block.name) r.1 in
-          let some = ltb-true 0 (left events block.name) both.1 in
-          subst (λ n. 1 ≤ left events n) (same_name-eq block.name name both.0) some
-      go None None is is_block k = absurd (true≢false (sym k))
+  -- ---- what enters nothing
 
   cancelled : (name : OrderName) → IsAdmitted setup events caller (command.Cancel name) → IsHistory setup (events ++ events_done parts setup events caller (command.Cancel name))
   unfolding events_done
-  cancelled name may = history-more setup events (event.Withdrawn name (left events name)) history (record { some = own-left name may.known; all_left = refl }) tt
-
-  -- the plain limit order that a reduction finds
-  record IsOwnLimit (name : OrderName) (order : Placed) : Type 0 where
-    is_order : open_order events name ≡ Some order
-    is_limit : order.order.kind ≡ kind.Limit
-
-  limit_kind : (k : Kind) → is_limit k ≡ true → k ≡ kind.Limit
-  limit_kind kind.Limit e = refl
-  limit_kind kind.Ioc e = absurd (true≢false (sym e))
-  limit_kind kind.Fok e = absurd (true≢false (sym e))
-  limit_kind (kind.Iceberg peak delta) e = absurd (true≢false (sym e))
-
-  own_limit-is : (name : OrderName) (order : Placed) → own_limit events caller name ≡ Some order → IsOwnLimit name order
-  own_limit-is name order e = go (open_order events name) refl e
-    where
-      by_kind : (found : Placed) → open_order events name ≡ Some found → (limit : Bool) → is_limit found.order.kind ≡ limit
-          → (if limit then Some found else None) ≡ Some order → IsOwnLimit name order
-      by_kind found is true l k =
-          let same : found ≡ order = cc in
-          subst (IsOwnLimit name) same (record { is_order = is; is_limit = limit_kind found.order.kind l })
-      by_kind found is false l k = absurd (cc)
-
-      by_caller : (found : Placed) → open_order events name ≡ Some found → (own : Bool) → if_limit (if own then Some found else None) ≡ Some order → IsOwnLimit name order
-      by_caller found is true k = by_kind found is (is_limit found.order.kind) refl k
-      by_caller found is false k = absurd (cc)
-
-      go : (o : Option Placed) → open_order events name ≡ o → if_limit (if_own caller o) ≡ Some order → IsOwnLimit name order
-      go None is k = absurd (cc)
-      go (Some found) is k = by_caller found is (nat_eq found.caller caller) k
+  cancelled name may = history-more setup events (event.Withdrawn name (left events name)) history (withdrawal-fits setup events caller name may) tt
 
   reduced : (name : OrderName) (to : ℕ) → IsAdmitted setup events caller (command.Reduce name to) → IsHistory setup (events ++ events_done parts setup events caller (command.Reduce name to))
   unfolding events_done
-  reduced name to may = go (own_limit events caller name) refl may.known may.reduces
-    where
-      go : (o : Option Placed) → own_limit events caller name ≡ o → not (is_none o) ≡ true → is_below_left events to o ≡ true
-          → IsHistory setup (events ++ event.Reduced name (left events name - to) ∷ [])
-      go None is k below = absurd (true≢false (sym k))
-      go (Some order) is k below =
-          let own = own_limit-is name order is in
-          let found = open_order-is events name order own.is_order in
-          let less : to < left events name = subst (λ n. to < left events n) found.is_named (ltb-true to (left events order.name) below) in
-          let some = (lots_in_range-bounds (record { 0 = to }) (one-pass lots_in_range (record { 0 = to }) may.numbers.quantities)).0 in
-          history-more setup events (event.Reduced name (left events name - to)) history (record {
-            order = order;
-            order_open = record {
-              is_placed = found.is_open.is_placed;
-              is_named = found.is_named;
-              is_left = subst (λ n. is_open events n ≡ true) found.is_named found.is_open.is_left;
-            };
-            is_limit = own.is_limit;
-            some = omega arith;
-            less = omega arith;
-          }) tt
-
-  -- ---- arcs and hours
+  reduced name to may = history-more setup events (event.Reduced name (left events name - to)) history (reduction-fits setup events caller name to may) tt
 
   -- what happens on an arc, where there is one
   at_arc : (from to : ℕ) (happening : Arc → List Event) → ((arc : Arc) → arc_between (graph_of setup) from to ≡ Some arc → IsHistory setup (events ++ happening arc))
@@ -205,58 +265,33 @@ module _ (setup : Setup) (is_setup : IsMarketSetup setup) (parts : List Part) (e
       go None is = subst (IsHistory setup) (sym (append-nil events)) history
       go (Some arc) is = each arc is
 
-  range : (from to : ℕ) (first last : Quarter) (arc : Arc) → arc_between (graph_of setup) from to ≡ Some arc
-      → list_all (is_within 1 setup.hours) (first.hour ∷ last.hour ∷ []) ≡ true → is_not_after first last ≡ true → IsRange setup arc first last
-  range from to first last arc is hours order = record {
-    on_arc = arc_between-has (graph_of setup) from to arc is;
-    from_hour = all-pass (is_within 1 setup.hours) (first.hour ∷ last.hour ∷ []) hours first.hour (inl refl);
-    to_hour = second-pass (is_within 1 setup.hours) first.hour last.hour hours;
-    in_order = order;
-  }
-
   offered : (from to : ℕ) (first last : Quarter) (lots : ℕ) → IsAdmitted setup events caller (command.Offer from to first last lots)
       → IsHistory setup (events ++ events_done parts setup events caller (command.Offer from to first last lots))
   unfolding events_done
   offered from to first last lots may = at_arc from to _ (λ arc is.
-      let none = subst (λ o. option_and_then (λ a. first_answer (below_flow events a lots) (range_quarters first last)) o ≡ None) is may.offer in
-      then_sweeps-history setup is_setup parts (hours_from first.hour last.hour) events (event.Offered arc first last lots) history (record {
-        range = range from to first last arc is may.names.hours may.names.period;
-        most = leb-true lots 1000000 may.numbers.offer;
-        covers_flow = offer-covers events arc lots first last none;
-      }) tt)
+      then_sweeps-history setup is_setup parts (hours_from first.hour last.hour) events (event.Offered arc first last lots) history
+      (offer-fits setup events caller from to first last lots arc is may) tt)
 
   requested : (from to : ℕ) (first last : Quarter) (lots : ℕ) → IsAdmitted setup events caller (command.Request from to first last lots)
       → IsHistory setup (events ++ events_done parts setup events caller (command.Request from to first last lots))
   unfolding events_done
   requested from to first last lots may = at_arc from to _ (λ arc is.
-      let none = subst (λ o. option_and_then (λ a. first_answer (no_room events a lots) (range_quarters first last)) o ≡ None) is may.request in
-      then_sweeps-history setup is_setup parts (hours_from first.hour last.hour) events (event.Granted arc first last lots) history (record {
-        range = range from to first last arc is may.names.hours may.names.period;
-        some = (lots_in_range-bounds (record { 0 = lots }) (one-pass lots_in_range (record { 0 = lots }) may.numbers.quantities)).0;
-        has_room = request-room events arc lots first last none;
-      }) tt)
+      then_sweeps-history setup is_setup parts (hours_from first.hour last.hour) events (event.Granted arc first last lots) history
+      (grant-fits setup events caller from to first last lots arc is may) tt)
 
   halted : (from to first last : ℕ) → IsAdmitted setup events caller (command.Halt from to first last)
       → IsHistory setup (events ++ events_done parts setup events caller (command.Halt from to first last))
   unfolding events_done
   halted from to first last may = at_arc from to _ (λ arc is.
-      then_sweeps-history setup is_setup parts (hours_from first last) events (event.Halted arc.border first last) history (record {
-        on_border = arc_between-has (graph_of setup) from to arc is;
-        from_hour = all-pass (is_within 1 setup.hours) (first ∷ last ∷ []) may.names.hours first (inl refl);
-        to_hour = second-pass (is_within 1 setup.hours) first last may.names.hours;
-        in_order = leb-true first last may.names.period;
-      }) tt)
+      then_sweeps-history setup is_setup parts (hours_from first last) events (event.Halted arc.border first last) history
+      (halt-fits setup events caller from to first last arc is may) tt)
 
   resumed : (from to first last : ℕ) → IsAdmitted setup events caller (command.Resume from to first last)
       → IsHistory setup (events ++ events_done parts setup events caller (command.Resume from to first last))
   unfolding events_done
   resumed from to first last may = at_arc from to _ (λ arc is.
-      then_sweeps-history setup is_setup parts (hours_from first last) events (event.Resumed arc.border first last) history (record {
-        on_border = arc_between-has (graph_of setup) from to arc is;
-        from_hour = all-pass (is_within 1 setup.hours) (first ∷ last ∷ []) may.names.hours first (inl refl);
-        to_hour = second-pass (is_within 1 setup.hours) first last may.names.hours;
-        in_order = leb-true first last may.names.period;
-      }) tt)
+      then_sweeps-history setup is_setup parts (hours_from first last) events (event.Resumed arc.border first last) history
+      (resumption-fits setup events caller from to first last arc is may) tt)
 
   -- the events of a command that is admitted leave a history well-formed
   pub done-history : (given : Command) → IsAdmitted setup events caller given → IsHistory setup (events ++ events_done parts setup events caller given)
@@ -272,10 +307,7 @@ module _ (setup : Setup) (is_setup : IsMarketSetup setup) (parts : List Part) (e
   done-history (command.Halt from to first last) may = halted from to first last may
   done-history (command.Resume from to first last) may = resumed from to first last may
   done-history (command.Gate hour asked) may =
-      gate-history setup is_setup parts hour asked events history (record {
-        in_hour = one-pass (is_within 1 setup.hours) hour may.names.hours;
-        later = unless-none (is_later asked (phase_of events hour)) _ may.gate;
-      })
+      gate-history setup is_setup parts hour asked events history (gate-fits setup events caller hour asked may)
   done-history (command.View contract side zone) may = subst (IsHistory setup) (sym (append-nil events)) history
 
   -- so do those of its answer

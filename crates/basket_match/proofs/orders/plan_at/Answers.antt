@@ -19,6 +19,3 @@ plan-requires-clause-early g c = (c.requires.can c.desk_mut.result.now c.desk_mu
 
 pub plan-requires-clause-few : goal.plan-requires-clause-few
 plan-requires-clause-few g c = (c.requires.can c.desk_mut.result.now c.desk_mut.ensures.value).numbers
-
-pub plan-requires-clause-place : goal.plan-requires-clause-place
-plan-requires-clause-place g c = (c.requires.can c.desk_mut.result.now c.desk_mut.ensures.value).place

@@ -1,4 +1,4 @@
-use Rattle.std.proofs.Common.{◌≡◌, ◌∙◌, Some, ap, is_some, refl, sym, subst}
+use Rattle.std.proofs.Common.{◌∙◌, ap, is_some, refl, sym, subst}
 use Rattle.zone_graph.specs.Grid.{arc_between}
 use Rattle.market_model.specs.declared.command.Command.TheVariants as command
 use Rattle.market_model.specs.declared.event.Event.TheVariants as event
@@ -18,7 +18,7 @@ arc_of-halted-requires c =
 pub halt-requires-clause-next : goal.halt-requires-clause-next
 halt-requires-clause-next c =
     range-next c.args.setup.now c.args.hour.now c.args.caller
-    (command.Halt c.in-Halt.from c.in-Halt.to c.in-Halt.first c.in-Halt.last) (subst (CanChange c.args.setup.now c.args.hour.now c.args.caller) c.in-Halt.is c.requires.can) tt (λ contract side zone no. cc)
+    (command.Halt c.in-Halt.from c.in-Halt.to c.in-Halt.first c.in-Halt.last) (subst (CanChange c.args.setup.now c.args.hour.now c.args.caller) c.in-Halt.is c.requires.can) tt
     (event.Halted c.arc_of-halted.result.border c.in-Halt.first c.in-Halt.last)
     (halt-done c.args.setup.now c.args.hour.now.settled c.args.caller c.in-Halt.from c.in-Halt.to c.arc_of-halted.result (ap (λ g. arc_between g c.in-Halt.from c.in-Halt.to) (sym (over c.args.setup.now c.args.hour.now c.args.caller c.args.command.now c.args.grid.now c.requires.grid c.requires.can)) ∙ c.arc_of-halted.ensures) c.in-Halt.first c.in-Halt.last)
 
@@ -28,7 +28,7 @@ halt-requires-clause-quiet c = quiet c.args.setup.now c.args.hour.now c.args.cal
 pub returns-in-Halt-clause-done : goal.returns-in-Halt-clause-done
 returns-in-Halt-clause-done c =
     on-ok c.halt.result _ _ (λ is. range-planned c.args.setup.now c.args.hour.now c.args.caller
-    (command.Halt c.in-Halt.from c.in-Halt.to c.in-Halt.first c.in-Halt.last) (subst (CanChange c.args.setup.now c.args.hour.now c.args.caller) c.in-Halt.is c.requires.can) tt (λ contract side zone no. cc)
+    (command.Halt c.in-Halt.from c.in-Halt.to c.in-Halt.first c.in-Halt.last) (subst (CanChange c.args.setup.now c.args.hour.now c.args.caller) c.in-Halt.is c.requires.can) tt
     (event.Halted c.arc_of-halted.result.border c.in-Halt.first c.in-Halt.last)
     (halt-done c.args.setup.now c.args.hour.now.settled c.args.caller c.in-Halt.from c.in-Halt.to c.arc_of-halted.result (ap (λ g. arc_between g c.in-Halt.from c.in-Halt.to) (sym (over c.args.setup.now c.args.hour.now c.args.caller c.args.command.now c.args.grid.now c.requires.grid c.requires.can)) ∙ c.arc_of-halted.ensures) c.in-Halt.first c.in-Halt.last)
     c.args.hour.now.board.grid c.halt.new.hour refl is
@@ -42,7 +42,7 @@ arc_of-resumed-requires c =
 pub resume-requires-clause-next : goal.resume-requires-clause-next
 resume-requires-clause-next c =
     range-next c.args.setup.now c.args.hour.now c.args.caller
-    (command.Resume c.in-Resume.from c.in-Resume.to c.in-Resume.first c.in-Resume.last) (subst (CanChange c.args.setup.now c.args.hour.now c.args.caller) c.in-Resume.is c.requires.can) tt (λ contract side zone no. cc)
+    (command.Resume c.in-Resume.from c.in-Resume.to c.in-Resume.first c.in-Resume.last) (subst (CanChange c.args.setup.now c.args.hour.now c.args.caller) c.in-Resume.is c.requires.can) tt
     (event.Resumed c.arc_of-resumed.result.border c.in-Resume.first c.in-Resume.last)
     (resumption-done c.args.setup.now c.args.hour.now.settled c.args.caller c.in-Resume.from c.in-Resume.to c.arc_of-resumed.result (ap (λ g. arc_between g c.in-Resume.from c.in-Resume.to) (sym (over c.args.setup.now c.args.hour.now c.args.caller c.args.command.now c.args.grid.now c.requires.grid c.requires.can)) ∙ c.arc_of-resumed.ensures) c.in-Resume.first c.in-Resume.last)
 
@@ -52,7 +52,7 @@ resume-requires-clause-quiet c = quiet c.args.setup.now c.args.hour.now c.args.c
 pub returns-in-Resume-clause-done : goal.returns-in-Resume-clause-done
 returns-in-Resume-clause-done c =
     on-ok c.resume.result _ _ (λ is. range-planned c.args.setup.now c.args.hour.now c.args.caller
-    (command.Resume c.in-Resume.from c.in-Resume.to c.in-Resume.first c.in-Resume.last) (subst (CanChange c.args.setup.now c.args.hour.now c.args.caller) c.in-Resume.is c.requires.can) tt (λ contract side zone no. cc)
+    (command.Resume c.in-Resume.from c.in-Resume.to c.in-Resume.first c.in-Resume.last) (subst (CanChange c.args.setup.now c.args.hour.now c.args.caller) c.in-Resume.is c.requires.can) tt
     (event.Resumed c.arc_of-resumed.result.border c.in-Resume.first c.in-Resume.last)
     (resumption-done c.args.setup.now c.args.hour.now.settled c.args.caller c.in-Resume.from c.in-Resume.to c.arc_of-resumed.result (ap (λ g. arc_between g c.in-Resume.from c.in-Resume.to) (sym (over c.args.setup.now c.args.hour.now c.args.caller c.args.command.now c.args.grid.now c.requires.grid c.requires.can)) ∙ c.arc_of-resumed.ensures) c.in-Resume.first c.in-Resume.last)
     c.args.grid.now c.resume.new.hour c.requires.grid is

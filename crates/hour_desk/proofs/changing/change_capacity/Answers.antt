@@ -1,4 +1,4 @@
-use Rattle.std.proofs.Common.{◌≡◌, ◌∙◌, Some, ap, is_some, refl, sym, subst}
+use Rattle.std.proofs.Common.{◌∙◌, ap, is_some, sym, subst}
 use Rattle.zone_graph.specs.Grid.{arc_between}
 use Rattle.market_model.specs.declared.command.Command.TheVariants as command
 use Rattle.market_model.specs.declared.event.Event.TheVariants as event
@@ -18,7 +18,7 @@ arc_of-arc-requires c =
 pub offer-requires-clause-next : goal.offer-requires-clause-next
 offer-requires-clause-next c =
     range-next c.args.setup.now c.args.hour.now c.args.caller
-    (command.Offer c.in-Offer.from c.in-Offer.to c.in-Offer.first c.in-Offer.last c.in-Offer.lots) (subst (CanChange c.args.setup.now c.args.hour.now c.args.caller) c.in-Offer.is c.requires.can) tt (λ contract side zone no. cc)
+    (command.Offer c.in-Offer.from c.in-Offer.to c.in-Offer.first c.in-Offer.last c.in-Offer.lots) (subst (CanChange c.args.setup.now c.args.hour.now c.args.caller) c.in-Offer.is c.requires.can) tt
     (event.Offered c.arc_of-arc.result c.in-Offer.first c.in-Offer.last c.in-Offer.lots)
     (offer-done c.args.setup.now c.args.hour.now.settled c.args.caller c.in-Offer.from c.in-Offer.to c.arc_of-arc.result (ap (λ g. arc_between g c.in-Offer.from c.in-Offer.to) (sym (over c.args.setup.now c.args.hour.now c.args.caller c.args.command.now c.args.grid.now c.requires.grid c.requires.can)) ∙ c.arc_of-arc.ensures) c.in-Offer.first c.in-Offer.last c.in-Offer.lots)
 
@@ -28,7 +28,7 @@ offer-requires-clause-quiet c = quiet c.args.setup.now c.args.hour.now c.args.ca
 pub returns-in-Offer-clause-done : goal.returns-in-Offer-clause-done
 returns-in-Offer-clause-done c =
     on-ok c.offer.result _ _ (λ is. range-planned c.args.setup.now c.args.hour.now c.args.caller
-    (command.Offer c.in-Offer.from c.in-Offer.to c.in-Offer.first c.in-Offer.last c.in-Offer.lots) (subst (CanChange c.args.setup.now c.args.hour.now c.args.caller) c.in-Offer.is c.requires.can) tt (λ contract side zone no. cc)
+    (command.Offer c.in-Offer.from c.in-Offer.to c.in-Offer.first c.in-Offer.last c.in-Offer.lots) (subst (CanChange c.args.setup.now c.args.hour.now c.args.caller) c.in-Offer.is c.requires.can) tt
     (event.Offered c.arc_of-arc.result c.in-Offer.first c.in-Offer.last c.in-Offer.lots)
     (offer-done c.args.setup.now c.args.hour.now.settled c.args.caller c.in-Offer.from c.in-Offer.to c.arc_of-arc.result (ap (λ g. arc_between g c.in-Offer.from c.in-Offer.to) (sym (over c.args.setup.now c.args.hour.now c.args.caller c.args.command.now c.args.grid.now c.requires.grid c.requires.can)) ∙ c.arc_of-arc.ensures) c.in-Offer.first c.in-Offer.last c.in-Offer.lots)
     c.args.grid.now c.offer.new.hour c.requires.grid is
@@ -42,7 +42,7 @@ arc_of-asked-requires c =
 pub grant-requires-clause-next : goal.grant-requires-clause-next
 grant-requires-clause-next c =
     range-next c.args.setup.now c.args.hour.now c.args.caller
-    (command.Request c.in-Request.from c.in-Request.to c.in-Request.first c.in-Request.last c.in-Request.lots) (subst (CanChange c.args.setup.now c.args.hour.now c.args.caller) c.in-Request.is c.requires.can) tt (λ contract side zone no. cc)
+    (command.Request c.in-Request.from c.in-Request.to c.in-Request.first c.in-Request.last c.in-Request.lots) (subst (CanChange c.args.setup.now c.args.hour.now c.args.caller) c.in-Request.is c.requires.can) tt
     (event.Granted c.arc_of-asked.result c.in-Request.first c.in-Request.last c.in-Request.lots)
     (grant-done c.args.setup.now c.args.hour.now.settled c.args.caller c.in-Request.from c.in-Request.to c.arc_of-asked.result (ap (λ g. arc_between g c.in-Request.from c.in-Request.to) (sym (over c.args.setup.now c.args.hour.now c.args.caller c.args.command.now c.args.grid.now c.requires.grid c.requires.can)) ∙ c.arc_of-asked.ensures) c.in-Request.first c.in-Request.last c.in-Request.lots)
 
@@ -52,7 +52,7 @@ grant-requires-clause-quiet c = quiet c.args.setup.now c.args.hour.now c.args.ca
 pub returns-in-Request-clause-done : goal.returns-in-Request-clause-done
 returns-in-Request-clause-done c =
     on-ok c.grant.result _ _ (λ is. range-planned c.args.setup.now c.args.hour.now c.args.caller
-    (command.Request c.in-Request.from c.in-Request.to c.in-Request.first c.in-Request.last c.in-Request.lots) (subst (CanChange c.args.setup.now c.args.hour.now c.args.caller) c.in-Request.is c.requires.can) tt (λ contract side zone no. cc)
+    (command.Request c.in-Request.from c.in-Request.to c.in-Request.first c.in-Request.last c.in-Request.lots) (subst (CanChange c.args.setup.now c.args.hour.now c.args.caller) c.in-Request.is c.requires.can) tt
     (event.Granted c.arc_of-asked.result c.in-Request.first c.in-Request.last c.in-Request.lots)
     (grant-done c.args.setup.now c.args.hour.now.settled c.args.caller c.in-Request.from c.in-Request.to c.arc_of-asked.result (ap (λ g. arc_between g c.in-Request.from c.in-Request.to) (sym (over c.args.setup.now c.args.hour.now c.args.caller c.args.command.now c.args.grid.now c.requires.grid c.requires.can)) ∙ c.arc_of-asked.ensures) c.in-Request.first c.in-Request.last c.in-Request.lots)
     c.args.grid.now c.grant.new.hour c.requires.grid is

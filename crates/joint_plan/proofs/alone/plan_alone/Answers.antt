@@ -23,15 +23,6 @@ pub plan-requires-clause-few : goal.plan-requires-clause-few
 plan-requires-clause-few g c =
     c.requires.asked.ready.numbers c.desk_mut.result.now (IsIn-get (g.D.Desks.desks c.args.row.now) 0 c.desk_mut.result.now c.desk_mut.ensures.value)
 
-pub plan-requires-clause-place : goal.plan-requires-clause-place
-plan-requires-clause-place g c =
-    let place = c.requires.asked.ready.place in record {
-      entries = place.entries;
-      is_setup = place.journal.is_setup;
-      legal = place.journal.legal;
-      left = place.journal.left c.desk_mut.result.now (IsIn-get (g.D.Desks.desks c.args.row.now) 0 c.desk_mut.result.now c.desk_mut.ensures.value);
-    }
-
 pub plan-requires-clause-alone : goal.plan-requires-clause-alone
 plan-requires-clause-alone g c =
     let desks = g.D.Desks.desks c.args.row.now in
