@@ -75,7 +75,7 @@ last-lots price lots others rows same =
 shown-sum : (orders : List Standing) (zone : ℕ) → shown_in orders zone ≡ sum_by (λ (order : Standing). lots_if (order.order.zone == zone) order.shown) orders
 shown-sum orders zone = sum_passing (λ (order : Standing). order.order.zone == zone) (λ (order : Standing). order.shown) orders
 
-shown-cons : (order : Standing) (orders : List Standing) (zone : ℕ) → shown_in (order ∷ orders) zone ≡ lots_if (order.order.zone == zone) order.shown + shown_in orders zone
+pub shown-cons : (order : Standing) (orders : List Standing) (zone : ℕ) → shown_in (order ∷ orders) zone ≡ lots_if (order.order.zone == zone) order.shown + shown_in orders zone
 shown-cons order orders zone =
     omega (arith, shown-sum (order ∷ orders) zone, shown-sum orders zone, sum_by-cons (λ (o : Standing). lots_if (o.order.zone == zone) o.shown) order orders)
 
@@ -107,7 +107,7 @@ shown-more orders few many zone less =
 
 -- ---- rows in turn
 
-left-is : (taken : ℕ → ℕ) (order : Standing) (zone : ℕ) → left_after taken order zone ≡ taken zone - lots_if (order.order.zone == zone) order.shown
+pub left-is : (taken : ℕ → ℕ) (order : Standing) (zone : ℕ) → left_after taken order zone ≡ taken zone - lots_if (order.order.zone == zone) order.shown
 left-is taken order zone = by (cases_eq order.order.zone zone)
   where
     by : (order.order.zone ≡ zone) ⊎ (order.order.zone ≢ zone) → left_after taken order zone ≡ taken zone - lots_if (order.order.zone == zone) order.shown

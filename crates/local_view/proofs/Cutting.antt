@@ -1,41 +1,39 @@
 -- The rows and cuts of a line, one order after the other.
-use Rattle.std.proofs.Common.{◌≡◌, ◌≢◌, ◌∙◌, inl, inr, ℕ, suc, ◌+◌, ◌-◌, ◌<◌, ◌≤◌, List, [], ◌∷◌, ◌++◌, get_or, get_or-set_other, get_or-set_same, length, map, min, pos, replicate, set, take, refl, sym, ap, subst, arith}
+use Rattle.std.proofs.Common.{◌≡◌, ◌≢◌, ◌∙◌, ◌⊎◌, inl, inr, ℕ, suc, ◌+◌, ◌-◌, ◌<◌, ◌≤◌, ◌==◌, List, [], ◌∷◌, ◌++◌, get_or, get_or-set_other, get_or-set_same, length, map, min, replicate, set, take, eq-eqb, refl, sym, ap, subst, arith}
 use Rattle.std.proofs.lemmas.Bool.{cases_lt}
 use Rattle.std.proofs.lemmas.Bool.Decides.{eqb_tells}
-use Rattle.std.proofs.lemmas.List.{get_or-map, length-map, length-set, take_all, take_more}
+use Rattle.std.proofs.lemmas.List.{append-nil, get_or-map, get_or-replicate, length-map, length-set, take_all, take_more}
+use Rattle.zone_graph.specs.Pour.{lots_if}
+use Rattle.zone_graph.specs.Route.{IsIn}
+use Rattle.zone_graph.proofs.Places.{at_place}
 use Rattle.market_model.specs.declared.reply.ViewRow.{ViewRow}
 use Rattle.market_model.specs.Orders.{Standing}
 use Rattle.local_view.specs.declared.cuts.Cuts.{Cuts}
 use Rattle.local_view.specs.declared.whole.LineOrder.{LineOrder}
-use Rattle.local_view.specs.Certified.{rows_in_turn}
-use Rattle.local_view.specs.Cuts.{AreAlong, IsLowered, cut_by, given_by, last_by, rest_by}
+use Rattle.local_view.specs.Certified.{left_after, rows_in_turn}
+use Rattle.local_view.specs.Cuts.{AreAlong, IsNoLater, cut_by, given_by}
 use Rattle.local_view.specs.Poured.{row_if}
-use Rattle.local_view.specs.Whole.{in_line, shown_in}
-use Rattle.local_view.proofs.Certificates.{shown-more, shown-other, shown-own, turn-push}
+use Rattle.local_view.specs.Whole.{all_shown, in_line, rows_shown, shown_in}
+use Rattle.local_view.proofs.Certificates.{left-is, shown-cons, shown-more, shown-other, shown-own, turn-push}
+use Rattle.local_view.proofs.Reading.{zone-within}
 
--- the first orders of a line are gone along: what zones have still to give, and as far as that goes their cuts and the
--- last orders that give something
-pub record IsCutting (line : List Standing) (place : ℕ) (given : ℕ → ℕ) (rest last cut : ℕ → ℕ) (rows : List ViewRow) : Type 0 where
-  pub left : (zone : ℕ) → zone < 64 → rest zone ≡ given zone - shown_in (take place line) zone
-  pub before : (zone : ℕ) → zone < 64 → shown_in (take (min (cut zone) place) line) zone ≤ given zone
-  pub behind : (zone : ℕ) → zone < 64 → rest zone ≡ 0 → given zone ≤ shown_in (take (suc (last zone)) line) zone
-  pub rows_are : rows ≡ rows_in_turn given (take place line)
+-- the first orders of a line are gone along: those of a zone give all that they show before its cut, and nothing behind it
+pub record AreCutting (line : List Standing) (place : ℕ) (cuts : Cuts) (rows : List ViewRow) : Type 0 where
+  pub given_size : length cuts.given ≡ 64
+  pub places_size : length cuts.places ≡ 64
+  pub before : (zone : ℕ) → zone < 64 → shown_in (take (min (cut_by cuts zone) place) line) zone ≤ given_by cuts zone
+  pub behind : (zone : ℕ) → zone < 64 → given_by cuts zone ≤ shown_in (take (min (suc (cut_by cuts zone)) place) line) zone
+  pub rows_are : rows ≡ rows_in_turn (given_by cuts) (take place line)
 
--- the order at a place gives what its zone has still to give, and no more than it shows
-pub record IsGiving (place : ℕ) (order : LineOrder) (lots : ℕ) (rest last cut new_rest new_last new_cut : ℕ → ℕ) : Type 0 where
-  pub most : lots ≡ min order.lots (rest order.zone)
-  pub own : new_rest order.zone ≡ rest order.zone - lots
-  pub other : (zone : ℕ) → zone ≢ order.zone → new_rest zone ≡ rest zone
-  pub last_own : 0 < lots → new_last order.zone ≡ place
-  pub last_none : lots ≡ 0 → new_last order.zone ≡ last order.zone
-  pub last_other : (zone : ℕ) → zone ≢ order.zone → new_last zone ≡ last zone
-  pub cut_part : lots < order.lots → new_cut order.zone ≡ min (cut order.zone) place
-  pub cut_all : order.lots ≤ lots → new_cut order.zone ≡ cut order.zone
-  pub cut_other : (zone : ℕ) → zone ≢ order.zone → new_cut zone ≡ cut zone
-
--- what stands for an order where there is none
-abbrev pub no_order : LineOrder
-no_order = record { zone = 0; price = record { 0 = pos 0 }; lots = 0 }
+-- the order at a place gives some lots, and where they are not all that it shows its zone has its cut there
+pub record IsTaken (place : ℕ) (order : LineOrder) (lots : ℕ) (old new : Cuts) : Type 0 where
+  pub most : lots ≤ order.lots
+  pub early : place < cut_by old order.zone
+  pub given : new.given ≡ set old.given order.zone (given_by old order.zone + lots)
+  pub size : length new.places ≡ length old.places
+  pub cuts : (zone : ℕ) → IsNoLater place (cut_by old zone) (cut_by new zone)
+  pub part : lots < order.lots → cut_by new order.zone ≡ place
+  pub all : order.lots ≤ lots → new.places ≡ old.places
 
 -- ---- the orders of a line
 
@@ -44,221 +42,297 @@ first_of_line [] some = absurd (omega (arith, some))
 first_of_line (order ∷ line) some = order
 
 -- the order at a place, behind those before it
-pub order_at : (line : List Standing) (orders : List LineOrder) (place : ℕ) (d : LineOrder) → orders ≡ map in_line line → place < length line
-    → (order : Standing) × (in_line order ≡ get_or orders place d) × (take (place + 1) line ≡ take place line ++ order ∷ [])
-order_at line orders place d are within =
+pub record IsOrderAt (line : List Standing) (place : ℕ) (seen : LineOrder) : Type 0 where
+  pub order : Standing
+  pub is : in_line order ≡ seen
+  pub there : IsIn order line
+  pub next : take (place + 1) line ≡ take place line ++ order ∷ []
+
+pub order_at : (line : List Standing) (orders : List LineOrder) (place : ℕ) (d : LineOrder) → orders ≡ map in_line line → place < length orders
+    → IsOrderAt line place (get_or orders place d)
+order_at line orders place d are there =
+    let within : place < length line = omega (arith, there, ap length are ∙ length-map line in_line) in
     let first = first_of_line line (omega (arith, within)) in
-    (get_or line place first, sym (ap (λ (list : List LineOrder). get_or list place d) are ∙ get_or-map in_line line place first d within), take_more line place first within)
+    record {
+      order = get_or line place first;
+      is = sym (ap (λ (list : List LineOrder). get_or list place d) are ∙ get_or-map in_line line place first d within);
+      there = at_place line place first within;
+      next = take_more line place first within;
+    }
+
+-- it is of one of so many zones
+pub seen_small : (line : List Standing) (orders : List LineOrder) (place : ℕ) (d : LineOrder) → orders ≡ map in_line line → place < length orders
+    → ((order : Standing) → IsIn order line → order.order.zone < 64) → (get_or orders place d).zone < 64
+seen_small line orders place d are there zones =
+    let at = order_at line orders place d are there in
+    subst (λ (seen : LineOrder). seen.zone < 64) at.is (zones at.order at.there)
+
+-- ---- rows of orders that give the same
+
+-- zones give the same, or all that their orders show
+abbrev pub AreAlike : (taken others : ℕ → ℕ) → List Standing → Type 0
+AreAlike taken others line = (zone : ℕ) → (taken zone ≡ others zone) ⊎ ((shown_in line zone ≤ taken zone) × (shown_in line zone ≤ others zone))
+
+shown-first : (order : Standing) (line : List Standing) → order.shown ≤ shown_in (order ∷ line) order.order.zone
+shown-first order line =
+    let own : lots_if (order.order.zone == order.order.zone) order.shown ≡ order.shown = ap (λ b. lots_if b order.shown) (eq-eqb order.order.zone order.order.zone refl) in
+    omega (arith, shown-cons order line order.order.zone, own)
+
+turn-alike : (taken others : ℕ → ℕ) (line : List Standing) → AreAlike taken others line → rows_in_turn taken line ≡ rows_in_turn others line
+unfolding rows_in_turn
+turn-alike taken others [] alike = refl
+turn-alike taken others (order ∷ line) alike =
+    let lots : min order.shown (taken order.order.zone) ≡ min order.shown (others order.order.zone) = elim (alike order.order.zone) [
+      | inl same ↦ ap (min order.shown) same
+      | inr all ↦ omega (arith, all.0, all.1, shown-first order line)
+    ] in
+    let rest : AreAlike (left_after taken order) (left_after others order) line = λ zone. elim (alike zone) [
+      | inl same ↦ inl (omega (arith, same, left-is taken order zone, left-is others order zone))
+      | inr all ↦ inr (
+        omega (arith, all.0, shown-cons order line zone, left-is taken order zone),
+        omega (arith, all.1, shown-cons order line zone, left-is others order zone),
+      )
+    ] in
+    ap (λ n. row_if order.price n (rows_in_turn (left_after taken order) line)) lots
+    ∙ ap (row_if order.price (min order.shown (others order.order.zone))) (turn-alike (left_after taken order) (left_after others order) line rest)
+
+-- where the zones of the orders give all that they show, the rows are those of all
+turn-all : (taken : ℕ → ℕ) (line : List Standing) → ((order : Standing) → IsIn order line → shown_in line order.order.zone ≤ taken order.order.zone) → rows_in_turn taken line ≡ rows_shown line
+unfolding rows_in_turn
+turn-all taken [] all = refl
+turn-all taken (order ∷ line) all =
+    let lots : min order.shown (taken order.order.zone) ≡ order.shown = omega (arith, all order (inl refl), shown-first order line) in
+    ap (λ n. row_if order.price n (rows_in_turn (left_after taken order) line)) lots
+    ∙ ap (row_if order.price order.shown)
+    (turn-all (left_after taken order) line (λ other i. omega (arith, all other (inr i), shown-cons order line other.order.zone, left-is taken order other.order.zone)))
 
 -- ---- one order more
 
-module _ (line : List Standing) (place : ℕ) (order : Standing) (within : place < length line) (next : take (place + 1) line ≡ take place line ++ order ∷ [])
-    (given rest last cut new_rest new_last new_cut : ℕ → ℕ) (lots : ℕ) (rows : List ViewRow) (small : order.order.zone < 64)
-    (old : IsCutting line place given rest last cut rows) (gives : IsGiving place (in_line order) lots rest last cut new_rest new_last new_cut) where
+module _ (line : List Standing) (place : ℕ) (order : Standing) (next : take (place + 1) line ≡ take place line ++ order ∷ []) (small : order.order.zone < 64)
+    (old : Cuts) (rows : List ViewRow) (cutting : AreCutting line place old rows) where
   abbrev own_zone : ℕ
   own_zone = order.order.zone
 
-  shows_more : shown_in (take (place + 1) line) own_zone ≡ shown_in (take place line) own_zone + order.shown
+  abbrev shown_to : (count zone : ℕ) → ℕ
+  shown_to count zone = shown_in (take count line) zone
+
+  shows_more : shown_to (place + 1) own_zone ≡ shown_to place own_zone + order.shown
   shows_more = ap (λ orders. shown_in orders own_zone) next ∙ shown-own (take place line) order
 
-  shows_same : (zone : ℕ) → zone ≢ own_zone → shown_in (take (place + 1) line) zone ≡ shown_in (take place line) zone
+  shows_same : (zone : ℕ) → zone ≢ own_zone → shown_to (place + 1) zone ≡ shown_to place zone
   shows_same zone apart = ap (λ orders. shown_in orders zone) next ∙ shown-other (take place line) order zone (λ e. apart (sym e))
 
-  left_own : new_rest own_zone ≡ given own_zone - shown_in (take (place + 1) line) own_zone
-  left_own = omega (arith, gives.own, gives.most, old.left own_zone small, shows_more)
+  -- the rows, with that of the order
+  more_rows : (given : ℕ → ℕ) → rows_in_turn given (take (place + 1) line) ≡ rows_in_turn given (take place line) ++ row_if order.price (min order.shown (given own_zone - shown_to place own_zone)) []
+  more_rows given = ap (rows_in_turn given) next ∙ turn-push given (take place line) order
 
-  -- before its cut, as far as the line is gone along
-  before_own : shown_in (take (min (new_cut own_zone) (place + 1)) line) own_zone ≤ given own_zone
-  before_own = elim (cases_lt lots order.shown) [
-    | inl less ↦
-        let here : min (cut own_zone) place ≡ min (new_cut own_zone) (place + 1) = omega (arith, gives.cut_part less) in
-        subst (λ n. shown_in (take n line) own_zone ≤ given own_zone) here (old.before own_zone small)
-    | inr all ↦ elim (cases_lt place (cut own_zone)) [
-      | inl no_cut ↦
-          let so_far : min (cut own_zone) place ≡ place = omega (arith, no_cut) in
-          let here : place + 1 ≡ min (new_cut own_zone) (place + 1) = omega (arith, gives.cut_all all, no_cut) in
-          let before = subst (λ n. shown_in (take n line) own_zone ≤ given own_zone) so_far (old.before own_zone small) in
-          subst (λ n. shown_in (take n line) own_zone ≤ given own_zone) here (omega (arith, before, shows_more, all, gives.most, old.left own_zone small))
-      | inr is_cut ↦
-          let here : min (cut own_zone) place ≡ min (new_cut own_zone) (place + 1) = omega (arith, gives.cut_all all, is_cut) in
-          subst (λ n. shown_in (take n line) own_zone ≤ given own_zone) here (old.before own_zone small)
-    ]
-  ]
-
-  before_other : (zone : ℕ) → zone < 64 → zone ≢ own_zone → shown_in (take (min (new_cut zone) (place + 1)) line) zone ≤ given zone
-  before_other zone few apart = elim (cases_lt place (cut zone)) [
+  -- a zone of which the order is not has given enough, wherever its cut came
+  before_other : (zone cut : ℕ) → zone < 64 → zone ≢ own_zone → IsNoLater place (cut_by old zone) cut → shown_to (min cut (place + 1)) zone ≤ given_by old zone
+  before_other zone cut few apart later = elim (cases_lt place cut) [
     | inl no_cut ↦
-        let so_far : min (cut zone) place ≡ place = omega (arith, no_cut) in
-        let here : place + 1 ≡ min (new_cut zone) (place + 1) = omega (arith, gives.cut_other zone apart, no_cut) in
-        let before = subst (λ n. shown_in (take n line) zone ≤ given zone) so_far (old.before zone few) in
-        subst (λ n. shown_in (take n line) zone ≤ given zone) here (omega (arith, before, shows_same zone apart))
+        let here : place + 1 ≡ min cut (place + 1) = omega (arith, no_cut) in
+        let was : min (cut_by old zone) place ≡ place = elim later [
+          | inl same ↦ omega (arith, same, no_cut)
+          | inr less ↦ absurd (omega (arith, less, no_cut))
+        ] in
+        let before = subst (λ n. shown_to n zone ≤ given_by old zone) was (cutting.before zone few) in
+        subst (λ n. shown_to n zone ≤ given_by old zone) here (omega (arith, before, shows_same zone apart))
     | inr is_cut ↦
-        let here : min (cut zone) place ≡ min (new_cut zone) (place + 1) = omega (arith, gives.cut_other zone apart, is_cut) in
-        subst (λ n. shown_in (take n line) zone ≤ given zone) here (old.before zone few)
+        let same : min (cut_by old zone) place ≡ min cut (place + 1) = elim later [
+          | inl same ↦ omega (arith, same, is_cut)
+          | inr less ↦ omega (arith, less)
+        ] in
+        subst (λ n. shown_to n zone ≤ given_by old zone) same (cutting.before zone few)
   ]
 
-  behind_own : new_rest own_zone ≡ 0 → given own_zone ≤ shown_in (take (suc (new_last own_zone)) line) own_zone
-  behind_own none = elim (cases_lt 0 lots) [
-    | inl some ↦
-        let here : place + 1 ≡ suc (new_last own_zone) = omega (arith, gives.last_own some) in
-        subst (λ n. given own_zone ≤ shown_in (take n line) own_zone) here (omega (arith, none, left_own))
-    | inr nothing ↦
-        let nil : lots ≡ 0 = omega (arith, nothing) in
-        let here : suc (last own_zone) ≡ suc (new_last own_zone) = omega (arith, gives.last_none nil) in
-        subst (λ n. given own_zone ≤ shown_in (take n line) own_zone) here (old.behind own_zone small (omega (arith, none, gives.own, nothing)))
-  ]
+  -- and no zone has given more than its orders show up to where its cut came
+  behind_other : (zone cut : ℕ) → zone < 64 → IsNoLater place (cut_by old zone) cut → given_by old zone ≤ shown_to (min (suc cut) (place + 1)) zone
+  behind_other zone cut few later =
+      let less : min (suc (cut_by old zone)) place ≤ min (suc cut) (place + 1) = elim later [
+        | inl same ↦ omega (arith, same)
+        | inr less ↦ omega (arith, less)
+      ] in
+      omega (arith, cutting.behind zone few, shown-more line (min (suc (cut_by old zone)) place) (min (suc cut) (place + 1)) zone less)
 
-  pub one_more : IsCutting line (place + 1) given new_rest new_last new_cut (rows ++ row_if order.price lots [])
-  one_more = record {
-    left = λ zone few. elim (eqb_tells zone own_zone) [
-      | inl same ↦ subst (λ z. new_rest z ≡ given z - shown_in (take (place + 1) line) z) (sym same.1) left_own
-      | inr apart ↦ omega (arith, gives.other zone apart.1, old.left zone few, shows_same zone apart.1)
-    ];
+  -- an order behind its zone's cut gives nothing
+  pub passed_by : cut_by old own_zone ≤ place → AreCutting line (place + 1) old rows
+  passed_by late = record {
+    given_size = cutting.given_size;
+    places_size = cutting.places_size;
     before = λ zone few. elim (eqb_tells zone own_zone) [
-      | inl same ↦ subst (λ z. shown_in (take (min (new_cut z) (place + 1)) line) z ≤ given z) (sym same.1) before_own
-      | inr apart ↦ before_other zone few apart.1
-    ];
-    behind = λ zone few none. elim (eqb_tells zone own_zone) [
       | inl same ↦
-          subst (λ z. new_rest z ≡ 0 → given z ≤ shown_in (take (suc (new_last z)) line) z) (sym same.1) behind_own none
-      | inr apart ↦
-          subst (λ n. given zone ≤ shown_in (take (suc n) line) zone) (sym (gives.last_other zone apart.1)) (old.behind zone few (sym (gives.other zone apart.1) ∙ none))
+          let here : min (cut_by old zone) place ≡ min (cut_by old zone) (place + 1) = let late_here = subst (λ z. cut_by old z ≤ place) (sym same.1) late in omega (arith, late_here) in
+          subst (λ n. shown_to n zone ≤ given_by old zone) here (cutting.before zone few)
+      | inr apart ↦ before_other zone (cut_by old zone) few apart.1 (inl refl)
     ];
+    behind = λ zone few. behind_other zone (cut_by old zone) few (inl refl);
     rows_are =
-        ap (λ list. list ++ row_if order.price lots []) old.rows_are
-        ∙ ap (λ n. rows_in_turn given (take place line) ++ row_if order.price n []) (omega (arith, gives.most, old.left own_zone small))
-        ∙ sym (ap (rows_in_turn given) next ∙ turn-push given (take place line) order);
+        let most = shown-more line (min (suc (cut_by old own_zone)) place) place own_zone (omega arith) in
+        let none : min order.shown (given_by old own_zone - shown_to place own_zone) ≡ 0 = omega (arith, cutting.behind own_zone small, most) in
+        cutting.rows_are
+        ∙ sym (append-nil (rows_in_turn (given_by old) (take place line)))
+        ∙ ap (λ n. rows_in_turn (given_by old) (take place line) ++ row_if order.price n []) (sym none)
+        ∙ sym (more_rows (given_by old));
   }
+
+  -- what a zone without a cut gives, with the order's, is no more than all show
+  pub given_within : place < cut_by old own_zone → given_by old own_zone + order.shown ≤ all_shown line
+  given_within early =
+      let most : min (suc (cut_by old own_zone)) place ≡ place = omega (arith, early) in
+      let behind = subst (λ n. given_by old own_zone ≤ shown_to n own_zone) most (cutting.behind own_zone small) in
+      omega (arith, behind, shows_more, shown-more line (place + 1) (length line + (place + 1)) own_zone (omega arith), all_of_line, zone-within line own_zone)
+    where
+      all_of_line : shown_to (length line + (place + 1)) own_zone ≡ shown_in line own_zone
+      all_of_line = ap (λ orders. shown_in orders own_zone) (take_all (length line + (place + 1)) line (omega arith))
+
+  module _ (new : Cuts) (lots : ℕ) (taken : IsTaken place (in_line order) lots old new) where
+    given_own : given_by new own_zone ≡ given_by old own_zone + lots
+    given_own = ap (λ (list : List ℕ). get_or list own_zone 0) taken.given ∙ get_or-set_same old.given own_zone _ 0 (omega (arith, small, cutting.given_size))
+
+    given_other : (zone : ℕ) → zone ≢ own_zone → given_by new zone ≡ given_by old zone
+    given_other zone apart = ap (λ (list : List ℕ). get_or list zone 0) taken.given ∙ get_or-set_other old.given own_zone zone _ 0 apart
+
+    -- so far the zone's orders give all
+    gave_all : given_by old own_zone ≡ shown_to place own_zone
+    gave_all =
+        let early = taken.early in
+        let least : min (cut_by old own_zone) place ≡ place = omega (arith, early) in
+        let most : min (suc (cut_by old own_zone)) place ≡ place = omega (arith, early) in
+        let before = subst (λ n. shown_to n own_zone ≤ given_by old own_zone) least (cutting.before own_zone small) in
+        let behind = subst (λ n. given_by old own_zone ≤ shown_to n own_zone) most (cutting.behind own_zone small) in
+        omega (arith, before, behind)
+
+    own_before : shown_to (min (cut_by new own_zone) (place + 1)) own_zone ≤ given_by new own_zone
+    own_before = elim (cases_lt lots order.shown) [
+      | inl less ↦
+          let here : place ≡ min (cut_by new own_zone) (place + 1) = omega (arith, taken.part less) in
+          subst (λ n. shown_to n own_zone ≤ given_by new own_zone) here (omega (arith, gave_all, given_own))
+      | inr all ↦
+          let same : cut_by new own_zone ≡ cut_by old own_zone = ap (λ (list : List ℕ). get_or list own_zone 0) (taken.all all) in
+          let here : place + 1 ≡ min (cut_by new own_zone) (place + 1) = omega (arith, same, taken.early) in
+          subst (λ n. shown_to n own_zone ≤ given_by new own_zone) here (omega (arith, gave_all, given_own, shows_more, all))
+    ]
+
+    own_behind : given_by new own_zone ≤ shown_to (min (suc (cut_by new own_zone)) (place + 1)) own_zone
+    own_behind =
+        let here : place + 1 ≡ min (suc (cut_by new own_zone)) (place + 1) = elim (cases_lt lots order.shown) [
+          | inl less ↦ omega (arith, taken.part less)
+          | inr all ↦
+              let same : cut_by new own_zone ≡ cut_by old own_zone = ap (λ (list : List ℕ). get_or list own_zone 0) (taken.all all) in
+              omega (arith, same, taken.early)
+        ] in
+        subst (λ n. given_by new own_zone ≤ shown_to n own_zone) here (omega (arith, gave_all, given_own, shows_more, taken.most))
+
+    -- the rows so far stay
+    rows_stay : rows_in_turn (given_by old) (take place line) ≡ rows_in_turn (given_by new) (take place line)
+    rows_stay = turn-alike (given_by old) (given_by new) (take place line) alike
+      where
+        alike : AreAlike (given_by old) (given_by new) (take place line)
+        alike zone = elim (eqb_tells zone own_zone) [
+          | inl same ↦ subst (λ z. (given_by old z ≡ given_by new z) ⊎ ((shown_to place z ≤ given_by old z) × (shown_to place z ≤ given_by new z))) (sym same.1)
+              (inr (omega (arith, gave_all), omega (arith, gave_all, given_own)))
+          | inr apart ↦ inl (sym (given_other zone apart.1))
+        ]
+
+    -- one that gives some
+    pub one_more : AreCutting line (place + 1) new (rows ++ row_if order.price lots [])
+    one_more = record {
+      given_size = ap length taken.given ∙ length-set old.given own_zone _ ∙ cutting.given_size;
+      places_size = taken.size ∙ cutting.places_size;
+      before = λ zone few. elim (eqb_tells zone own_zone) [
+        | inl same ↦ subst (λ z. shown_to (min (cut_by new z) (place + 1)) z ≤ given_by new z) (sym same.1) own_before
+        | inr apart ↦
+            let least = before_other zone (cut_by new zone) few apart.1 (taken.cuts zone) in
+            omega (arith, least, given_other zone apart.1)
+      ];
+      behind = λ zone few. elim (eqb_tells zone own_zone) [
+        | inl same ↦ subst (λ z. given_by new z ≤ shown_to (min (suc (cut_by new z)) (place + 1)) z) (sym same.1) own_behind
+        | inr apart ↦
+            let most = behind_other zone (cut_by new zone) few (taken.cuts zone) in
+            omega (arith, most, given_other zone apart.1)
+      ];
+      rows_are =
+          let gives : lots ≡ min order.shown (given_by new own_zone - shown_to place own_zone) = omega (arith, gave_all, given_own, taken.most) in
+          ap (λ list. list ++ row_if order.price lots []) (cutting.rows_are ∙ rows_stay)
+          ∙ ap (λ n. rows_in_turn (given_by new) (take place line) ++ row_if order.price n []) gives
+          ∙ sym (more_rows (given_by new));
+    }
+
+-- so of the order that views see at a place
+module _ (line : List Standing) (orders : List LineOrder) (are : orders ≡ map in_line line) (zones : (order : Standing) → IsIn order line → order.order.zone < 64)
+    (place : ℕ) (d : LineOrder) (there : place < length orders) (old : Cuts) (rows : List ViewRow) (cutting : AreCutting line place old rows) where
+  at : IsOrderAt line place (get_or orders place d)
+  at = order_at line orders place d are there
+
+  at_small : at.order.order.zone < 64
+  at_small = zones at.order at.there
+
+  pub within_all : place < cut_by old (get_or orders place d).zone → given_by old (get_or orders place d).zone + (get_or orders place d).lots ≤ all_shown line
+  within_all =
+      subst (λ (seen : LineOrder). place < cut_by old seen.zone → given_by old seen.zone + seen.lots ≤ all_shown line) at.is
+      (given_within line place at.order at.next at_small old rows cutting)
+
+  pub next_passed : cut_by old (get_or orders place d).zone ≤ place → AreCutting line (place + 1) old rows
+  next_passed =
+      subst (λ (seen : LineOrder). cut_by old seen.zone ≤ place → AreCutting line (place + 1) old rows) at.is
+      (passed_by line place at.order at.next at_small old rows cutting)
+
+  pub next_taken : (new : Cuts) (lots : ℕ) → IsTaken place (get_or orders place d) lots old new → AreCutting line (place + 1) new (rows ++ row_if (get_or orders place d).price lots [])
+  next_taken new lots =
+      subst (λ (seen : LineOrder). IsTaken place seen lots old new → AreCutting line (place + 1) new (rows ++ row_if seen.price lots [])) at.is
+      (one_more line place at.order at.next at_small old rows cutting new lots)
 
 -- ---- the whole line
 
--- where a zone gives so many lots
-abbrev pub number_at : List ℕ → (zone : ℕ) → ℕ
-number_at numbers zone = get_or numbers zone 0
-
 -- no order has given yet
-pub none_cut : (line : List Standing) (given : List ℕ) (end : ℕ) → IsCutting line 0 (number_at given) (number_at given) (number_at (replicate 64 0)) (number_at (replicate 64 end)) []
+pub none_cut : (line : List Standing) (cuts : Cuts) → length cuts.places ≡ 64 → cuts.given ≡ replicate 64 0 → AreCutting line 0 cuts []
 unfolding rows_in_turn
-none_cut line given end = record {
-  left = λ zone few. omega arith;
+none_cut line cuts size none = record {
+  given_size = ap length none;
+  places_size = size;
   before = λ zone few.
-      let here : 0 ≡ min (number_at (replicate 64 end) zone) 0 = omega arith in
-      subst (λ n. shown_in (take n line) zone ≤ number_at given zone) here (omega arith);
-  behind = λ zone few none. omega (arith, none);
+      let here : 0 ≡ min (cut_by cuts zone) 0 = omega arith in
+      subst (λ n. shown_in (take n line) zone ≤ given_by cuts zone) here (omega arith);
+  behind = λ zone few. omega (arith, gives zone few);
   rows_are = refl;
 }
-
--- the cuts after an order that views see gives so many lots
-pub record IsTaken (place : ℕ) (order : LineOrder) (lots : ℕ) (old new : Cuts) : Type 0 where
-  pub lots_are : lots ≡ min order.lots (rest_by old order.zone)
-  pub rest : new.rest ≡ set old.rest order.zone (rest_by old order.zone - lots)
-  pub some : 0 < lots → new.last ≡ set old.last order.zone place
-  pub none : lots ≡ 0 → new.last ≡ old.last
-  pub part : lots < order.lots → new.places ≡ set old.places order.zone (min (cut_by old order.zone) place)
-  pub all : order.lots ≤ lots → new.places ≡ old.places
-
--- places for each zone
-pub record HasPlaces (cuts : Cuts) : Type 0 where
-  pub rest : length cuts.rest ≡ 64
-  pub last : length cuts.last ≡ 64
-  pub places : length cuts.places ≡ 64
-
-module _ (place : ℕ) (order : LineOrder) (lots : ℕ) (old new : Cuts) (small : order.zone < 64) (size : HasPlaces old) (taken : IsTaken place order lots old new) where
-  same_size : (numbers : List ℕ) (zone number count : ℕ) → length numbers ≡ count → length (set numbers zone number) ≡ count
-  same_size numbers zone number count is = length-set numbers zone number ∙ is
-
-  pub still_places : HasPlaces new
-  still_places = record {
-    rest = ap length taken.rest ∙ same_size old.rest order.zone _ 64 size.rest;
-    last = elim (cases_lt 0 lots) [
-      | inl some ↦ ap length (taken.some some) ∙ same_size old.last order.zone _ 64 size.last
-      | inr nothing ↦ ap length (taken.none (omega (arith, nothing))) ∙ size.last
-    ];
-    places = elim (cases_lt lots order.lots) [
-      | inl less ↦ ap length (taken.part less) ∙ same_size old.places order.zone _ 64 size.places
-      | inr all ↦ ap length (taken.all all) ∙ size.places
-    ];
-  }
-
-  pub gives_so : IsGiving place order lots (rest_by old) (last_by old) (cut_by old) (rest_by new) (last_by new) (cut_by new)
-  gives_so = record {
-    most = taken.lots_are;
-    own = ap (λ (list : List ℕ). get_or list order.zone 0) taken.rest ∙ get_or-set_same old.rest order.zone _ 0 (omega (arith, small, size.rest));
-    other = λ z apart. ap (λ (list : List ℕ). get_or list z 0) taken.rest ∙ get_or-set_other old.rest order.zone z _ 0 apart;
-    last_own = λ some. ap (λ (list : List ℕ). get_or list order.zone 0) (taken.some some) ∙ get_or-set_same old.last order.zone place 0 (omega (arith, small, size.last));
-    last_none = λ none. ap (λ (list : List ℕ). get_or list order.zone 0) (taken.none none);
-    last_other = λ z apart. elim (cases_lt 0 lots) [
-      | inl some ↦ ap (λ (list : List ℕ). get_or list z 0) (taken.some some) ∙ get_or-set_other old.last order.zone z place 0 apart
-      | inr nothing ↦ ap (λ (list : List ℕ). get_or list z 0) (taken.none (omega (arith, nothing)))
-    ];
-    cut_part = λ less. ap (λ (list : List ℕ). get_or list order.zone 0) (taken.part less) ∙ get_or-set_same old.places order.zone _ 0 (omega (arith, small, size.places));
-    cut_all = λ all. ap (λ (list : List ℕ). get_or list order.zone 0) (taken.all all);
-    cut_other = λ z apart. elim (cases_lt lots order.lots) [
-      | inl less ↦ ap (λ (list : List ℕ). get_or list z 0) (taken.part less) ∙ get_or-set_other old.places order.zone z _ 0 apart
-      | inr all ↦ ap (λ (list : List ℕ). get_or list z 0) (taken.all all)
-    ];
-  }
-
--- cuts of the first orders of a line, as the array says what each zone gives
-pub record AreCutting (line : List Standing) (place : ℕ) (given : List ℕ) (cuts : Cuts) (rows : List ViewRow) : Type 0 where
-  pub given_are : cuts.given ≡ given
-  pub size : HasPlaces cuts
-  pub cutting : IsCutting line place (number_at given) (rest_by cuts) (last_by cuts) (cut_by cuts) rows
-
--- one order more
-pub next_cut : (line : List Standing) (orders : List LineOrder) → orders ≡ map in_line line → (place : ℕ) (d : LineOrder) → place < length orders → (get_or orders place d).zone < 64
-    → (given : List ℕ) (old new : Cuts) (rows : List ViewRow) (lots : ℕ) → AreCutting line place given old rows → new.given ≡ old.given → IsTaken place (get_or orders place d) lots old new
-    → AreCutting line (place + 1) given new (rows ++ row_if (get_or orders place d).price lots [])
-next_cut line orders are place d within small given old new rows lots cutting same taken =
-    let in_list : place < length line = omega (arith, within, ap length are ∙ length-map line in_line) in
-    let found = order_at line orders place d are in_list in
-    let own_taken : IsTaken place (in_line found.0) lots old new = subst (λ (item : LineOrder). IsTaken place item lots old new) (sym found.1) taken in
-    let own_small : found.0.order.zone < 64 = subst (λ (item : LineOrder). item.zone < 64) (sym found.1) small in
-    record {
-      given_are = same ∙ cutting.given_are;
-      size = still_places place (in_line found.0) lots old new own_small cutting.size own_taken;
-      cutting =
-          subst (λ (item : LineOrder). IsCutting line (place + 1) (number_at given) (rest_by new) (last_by new) (cut_by new) (rows ++ row_if item.price lots [])) found.1
-          (one_more line place found.0 in_list found.2 (number_at given) (rest_by old) (last_by old) (cut_by old) (rest_by new) (last_by new) (cut_by new) lots rows own_small
-          cutting.cutting (gives_so place (in_line found.0) lots old new own_small cutting.size own_taken));
-    }
-
-pub all_cut : (line : List Standing) (given : List ℕ) (cuts : Cuts) (rows : List ViewRow) (place : ℕ) → length line ≤ place → AreCutting line place given cuts rows → AreAlong line cuts rows
-all_cut line given cuts rows place full are = subst (λ g. AreOver g) (sym are.given_are) over
   where
-    -- so where zones are to give so many lots
-    AreOver : List ℕ → Type 0
-    AreOver lots = AreAlong line (record cuts { given = lots }) rows
+    gives : (zone : ℕ) → zone < 64 → given_by cuts zone ≡ 0
+    gives zone few = ap (λ (list : List ℕ). get_or list zone 0) none ∙ get_or-replicate 64 zone 0 0 few
 
-    whole : (n : ℕ) → length line ≤ n → take n line ≡ line
-    whole n more = take_all n line more
+-- all have
+pub all_rows : (line : List Standing) (cuts : Cuts) (rows : List ViewRow) (place : ℕ) → length line ≤ place → AreCutting line place cuts rows → rows ≡ rows_in_turn (given_by cuts) line
+all_rows line cuts rows place full are = are.rows_are ∙ ap (rows_in_turn (given_by cuts)) (take_all place line full)
 
-    over : AreOver given
-    over = record {
-      before = λ zone few. elim (cases_lt (cut_by cuts zone) place) [
-        | inl is_cut ↦
-            let here : min (cut_by cuts zone) place ≡ cut_by cuts zone = omega (arith, is_cut) in
-            subst (λ n. shown_in (take n line) zone ≤ number_at given zone) here (are.cutting.before zone few)
-        | inr no_cut ↦
-            let here : min (cut_by cuts zone) place ≡ place = omega (arith, no_cut) in
-            let most = subst (λ n. shown_in (take n line) zone ≤ number_at given zone) here (are.cutting.before zone few) in
-            subst (λ os. shown_in os zone ≤ number_at given zone) (whole place full ∙ sym (whole (cut_by cuts zone) (omega (arith, full, no_cut)))) most
-      ];
-      behind = are.cutting.behind;
-      rows_are = are.cutting.rows_are ∙ ap (rows_in_turn (number_at given)) (whole place full);
-    }
-
--- cuts may be lower
-pub lowered : (line : List Standing) (old new : Cuts) (rows : List ViewRow) → AreAlong line old rows → IsLowered old new → AreAlong line new (rows_in_turn (given_by new) line)
-lowered line old new rows along lower = record {
-  before = λ zone few.
-      let less = shown-more line (cut_by new zone) (cut_by old zone) zone (lower.places zone) in
-      let gives : given_by new zone ≡ given_by old zone = ap (λ (list : List ℕ). get_or list zone 0) lower.given in
-      omega (arith, along.before zone few, less, gives);
-  behind = λ zone few none.
-      let gives : given_by new zone ≡ given_by old zone = ap (λ (list : List ℕ). get_or list zone 0) lower.given in
-      let rests : rest_by new zone ≡ rest_by old zone = ap (λ (list : List ℕ). get_or list zone 0) lower.rest in
-      let lasts : last_by old zone ≡ last_by new zone = ap (λ (list : List ℕ). get_or list zone 0) (sym lower.last) in
-      subst (λ n. given_by new zone ≤ shown_in (take (suc n) line) zone) lasts (omega (arith, gives, along.behind zone few (sym rests ∙ none)));
-  rows_are = refl;
+pub all_cut : (line : List Standing) (cuts : Cuts) (rows : List ViewRow) (place : ℕ) → length line ≤ place → AreCutting line place cuts rows → AreAlong line cuts
+all_cut line cuts rows place full are = record {
+  before = λ zone few. subst (λ orders. shown_in orders zone ≤ given_by cuts zone) (whole (cut_by cuts zone)) (are.before zone few);
+  behind = λ zone few. subst (λ orders. given_by cuts zone ≤ shown_in orders zone) (whole (suc (cut_by cuts zone))) (are.behind zone few);
 }
+  where
+    -- up to a place behind the end there are no other orders
+    whole : (cut : ℕ) → take (min cut place) line ≡ take cut line
+    whole cut = elim (cases_lt cut place) [
+      | inl less ↦ ap (λ n. take n line) (omega (arith, less))
+      | inr more ↦
+          let here : min cut place ≡ place = omega (arith, more) in
+          ap (λ n. take n line) here ∙ take_all place line full ∙ sym (take_all cut line (omega (arith, full, more)))
+    ]
+
+-- where each zone gives all that its orders show, they give all
+pub all_shown_rows : (line : List Standing) (cuts : Cuts) → ((zone : ℕ) → zone < 64 → given_by cuts zone ≡ shown_in line zone)
+    → ((order : Standing) → IsIn order line → order.order.zone < 64) → rows_shown line ≡ rows_in_turn (given_by cuts) line
+all_shown_rows line cuts gives zones = sym (turn-all (given_by cuts) line (λ order i. omega (arith, gives order.order.zone (zones order i))))
+
+pub all_give : (line : List Standing) (cuts : Cuts) (end : ℕ) → ((zone : ℕ) → zone < 64 → given_by cuts zone ≡ shown_in line zone) → cuts.places ≡ replicate 64 end → end ≡ length line
+    → AreAlong line cuts
+all_give line cuts end gives places is = record {
+  before = λ zone few. omega (arith, gives zone few, shown-all (cut_by cuts zone) zone (omega (arith, ends zone few, is)));
+  behind = λ zone few. omega (arith, gives zone few, shown-all (suc (cut_by cuts zone)) zone (omega (arith, ends zone few, is)));
+}
+  where
+    ends : (zone : ℕ) → zone < 64 → cut_by cuts zone ≡ end
+    ends zone few = ap (λ (list : List ℕ). get_or list zone 0) places ∙ get_or-replicate 64 zone end 0 few
+
+    shown-all : (count zone : ℕ) → length line ≤ count → shown_in (take count line) zone ≡ shown_in line zone
+    shown-all count zone full = ap (λ orders. shown_in orders zone) (take_all count line full)

@@ -10,7 +10,7 @@ use Rattle.cut_proof.specs.ZoneSet.{holds}
 use Rattle.order_kinds.specs.declared.side.Side.{Side}
 use Rattle.order_kinds.specs.declared.side.Side.TheVariants.{Buy, Sell}
 use Rattle.zone_graph.specs.declared.route.Arc.{Arc}
-use Rattle.zone_graph.specs.Graph.{Graph, HasZone, arc_ends, border_count, most_zones, zone_count}
+use Rattle.zone_graph.specs.Graph.{Graph, HasZone, arc_ends, border_count, zone_count}
 use Rattle.zone_graph.specs.Pour.{opposite_arc}
 use Rattle.zone_graph.specs.Rooms.{room_of}
 use Rattle.zone_graph.specs.Route.{IsIn}
@@ -77,14 +77,13 @@ module _ (graph other : Graph) (same : other.borders ≡ graph.borders) where
 -- rows that rest on a line and rooms rest on others, where the certificate stands over the rooms and its cuts are moved to
 -- where they are in the new line
 pub moved_rest : (graph : Graph) (old_rooms new_rooms : List (ℕ × ℕ)) (side : Side) (old new : List LineOrder) (line : List Standing) (certificate moved : Certificate) (first last next : ℕ)
-    → zone_count graph ≤ most_zones
     → new ≡ map in_line line → ((order : Standing) → IsIn order line → HasZone graph order.order.zone)
     → IsReplaced old new first last next → AreBehindCuts old first last (cut_in certificate.cuts) → AreBehindCuts new first next (cut_in certificate.cuts)
     → StandOver graph (room_of old_rooms) (room_of new_rooms) side (flow_in certificate.flow) (cut_in certificate.cuts)
-    → ((other : ℕ) → other < most_zones → IsMoved first last next (cut_in certificate.cuts other) (cut_in moved.cuts other))
+    → ((other : ℕ) → other < zone_count graph → IsMoved first last next (cut_in certificate.cuts other) (cut_in moved.cuts other))
     → moved.flow ≡ certificate.flow → (zone : ℕ) (rows : List ViewRow)
     → RestOn (zone_count graph) graph.borders old_rooms side zone old certificate rows → RestOn (zone_count graph) graph.borders new_rooms side zone new moved rows
-moved_rest graph old_rooms new_rooms side old new line certificate moved first last next few orders zones replaced old_behind new_behind stand cuts flow zone rows rest = record {
+moved_rest graph old_rooms new_rooms side old new line certificate moved first last next orders zones replaced old_behind new_behind stand cuts flow zone rows rest = record {
   graph = rest.graph;
   is_graph = rest.is_graph;
   zones_are = rest.zones_are;
@@ -109,7 +108,7 @@ moved_rest graph old_rooms new_rooms side old new line certificate moved first l
         (same_stand graph rest.graph rest.borders_are (room_of old_rooms) (room_of new_rooms) side (flow_in certificate.flow) (cut_in certificate.cuts) stand) rest.certified)
         (subst (λ list. IsReplaced list (map in_line line) first last next) rest.orders_are (subst (λ list. IsReplaced old list first last next) orders replaced))
         (subst (λ list. AreBehindCuts list first last (cut_in certificate.cuts)) rest.orders_are old_behind) (subst (λ list. AreBehindCuts list first next (cut_in certificate.cuts)) orders new_behind)
-        (λ other there. cuts other (let same = rest.zones_are in omega (arith, there, same, few)))
+        (λ other there. cuts other (let same = rest.zones_are in omega (arith, there, same)))
 
 -- the orders that views see are of the zones of a line
 pub seen_within : (graph : Graph) (line : List Standing) → ((order : Standing) → IsIn order line → HasZone graph order.order.zone)

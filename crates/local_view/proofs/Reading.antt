@@ -45,7 +45,7 @@ shown_more order orders zone = by (order.order.zone == zone)
     by false = omega arith
 
 -- a zone shows no more than all do
-zone-within : (orders : List Standing) (zone : ℕ) → shown_in orders zone ≤ all_shown orders
+pub zone-within : (orders : List Standing) (zone : ℕ) → shown_in orders zone ≤ all_shown orders
 zone-within orders zone =
     let parts = sum_by-filter_both (λ (o : Standing). o.order.zone == zone) (λ (o : Standing). not (o.order.zone == zone)) (λ o. refl) (λ (o : Standing). o.shown) orders in
     omega (arith, parts)

@@ -6,19 +6,18 @@ use Rattle.std.proofs.lemmas.List.{get_or_past, length-set}
 use Rattle.cut_proof.specs.ZoneSet.{holds}
 use Rattle.order_kinds.specs.declared.side.Side.{Side}
 use Rattle.zone_graph.specs.declared.route.Arc.{Arc}
-use Rattle.zone_graph.specs.Graph.{Graph, HasArc, HasZone, border_count, zone_count}
-use Rattle.zone_graph.specs.Grid.{IsGrid}
+use Rattle.zone_graph.specs.Graph.{Graph, HasArc, HasZone, IsGraph, border_count, zone_count}
 use Rattle.zone_graph.specs.Rooms.{part_of, room_of}
 use Rattle.market_model.specs.declared.reply.ViewRow.{ViewRow}
-use Rattle.market_model.specs.Board.{resting_line}
-use Rattle.market_model.specs.Orders.{Standing}
+use Rattle.market_model.specs.Board.{BoardState, resting_line}
 use Rattle.local_view.specs.declared.footing.Certificate.{Certificate}
 use Rattle.local_view.specs.declared.work.Work.{Work}
-use Rattle.local_view.specs.Certified.{IsCertified}
+use Rattle.local_view.specs.Certified.{IsCertified, rows_in_turn}
 use Rattle.local_view.specs.Cuts.{cut_by, flow_beside, given_by}
-use Rattle.local_view.specs.Footing.{IsDrafted, RestOnWork, certificate_at}
+use Rattle.local_view.specs.Footing.{RestOnWork, certificate_at}
 use Rattle.local_view.specs.Moved.{cut_in, flow_in}
-use Rattle.local_view.specs.Works.{BoardLine, IsLineWork}
+use Rattle.local_view.specs.Works.{IsLineWork}
+use Rattle.local_view.proofs.Hours.{hour-graph}
 use Rattle.local_view.proofs.Wholes.{zones-resting}
 
 -- behind the last border there is no room
@@ -29,43 +28,40 @@ none_past rooms arc past = ap (part_of arc.forward) (get_or_past rooms arc.borde
     none true = refl
     none false = refl
 
-module _ (graph : Graph) (is : IsGrid graph) (of : BoardLine) (same_grid : graph ≡ of.board.grid) (zone : ℕ) (known : HasZone graph zone) (work : Work) (of_line : IsLineWork of.board of.part of.side work)
-    (rooms_are : work.of_part ≡ of.rooms) where
-  abbrev line : List Standing
-  line = resting_line of.board of.part of.side
+-- rows of a draft that are certified rest on its line and rooms, where what certifies them is noted
+pub rest-drafted : (graph : Graph) (board : BoardState) (part : ℕ) (side : Side) → graph ≡ board.grid → (zone : ℕ) → HasZone graph zone → (work : Work) → IsLineWork board part side work
+    → (rows : List ViewRow) (certificate : Certificate)
+    → IsCertified graph (room_of work.of_part) side zone (resting_line board part side) (flow_beside work.of_part work.walk.rooms) (given_by work.cuts.value) (cut_by work.cuts.value)
+    → rows ≡ rows_in_turn (given_by work.cuts.value) (resting_line board part side) → length certificate.flow ≡ border_count graph
+    → ((arc : Arc) → HasArc graph arc → flow_in certificate.flow arc ≡ flow_beside work.of_part work.walk.rooms arc) → certificate.cuts ≡ work.cuts.value.places
+    → RestOnWork graph work side zone certificate rows
+rest-drafted graph board part side same_grid zone known work of_line rows certificate certified rows_are flow_size flows cuts = record {
+  graph = graph;
+  is_graph = subst IsGraph (sym same_grid) (hour-graph board.grid board.hour board.events of_line.read.is_board.stands);
+  zones_are = refl;
+  borders_are = refl;
+  has_zone = known;
+  line = resting_line board part side;
+  orders_are = of_line.read.orders;
+  in_zones = λ order i. subst (λ (g : Graph). HasZone g order.order.zone) (sym same_grid) (zones-resting board of_line.hand part side work.whole of_line.read order i);
+  taken = given_by work.cuts.value;
+  certified =
+      subst (λ (list : List ℕ). IsCertified graph (room_of work.of_part) side zone (resting_line board part side) (flow_in certificate.flow) (given_by work.cuts.value) (cut_in list)) (sym cuts)
+      (subst (λ (flow : Arc → ℕ). IsCertified graph (room_of work.of_part) side zone (resting_line board part side) flow (given_by work.cuts.value) (cut_by work.cuts.value)) (λ i. λ arc. sym (same arc) i)
+      certified);
+  rows_are = rows_are;
+}
+  where
+    size : length work.of_part ≡ border_count graph
+    size = of_line.sized.sound.of_part ∙ of_line.sized.borders ∙ ap border_count (sym same_grid)
 
-  size : length of.rooms ≡ border_count graph
-  size = ap length (sym rooms_are) ∙ of_line.sized.sound.of_part ∙ of_line.sized.borders ∙ ap border_count (sym same_grid)
-
-  -- rows of a draft that are certified rest on its line and rooms, where what certifies them is noted
-  pub rest-drafted : (rows : List ViewRow) (certificate : Certificate) → IsDrafted graph of zone work rows → length certificate.flow ≡ border_count graph
-      → ((arc : Arc) → HasArc graph arc → flow_in certificate.flow arc ≡ flow_beside work.of_part work.walk.rooms arc) → certificate.cuts ≡ work.cuts.value.places
-      → RestOnWork graph work of.side zone certificate rows
-  rest-drafted rows certificate drafted flow_size flows cuts = record {
-    graph = graph;
-    is_graph = is.is_graph;
-    zones_are = refl;
-    borders_are = refl;
-    has_zone = known;
-    line = line;
-    orders_are = of_line.read.orders;
-    in_zones = λ order i.
-        subst (λ (g : Graph). HasZone g order.order.zone) (sym same_grid) (zones-resting of.board of_line.hand of.part of.side work.whole of_line.read order i);
-    taken = given_by work.cuts.value;
-    certified =
-        subst (λ (rooms : List (ℕ × ℕ)). IsCertified graph (room_of rooms) of.side zone line (flow_in certificate.flow) (given_by work.cuts.value) (cut_in certificate.cuts)) (sym rooms_are)
-        (subst (λ (cuts : List ℕ). IsCertified graph (room_of of.rooms) of.side zone line (flow_in certificate.flow) (given_by work.cuts.value) (cut_in cuts)) (sym cuts)
-        (subst (λ (flow : Arc → ℕ). IsCertified graph (room_of of.rooms) of.side zone line flow (given_by work.cuts.value) (cut_by work.cuts.value)) (λ i. λ arc. sym (same arc) i) drafted.certified));
-    rows_are = drafted.rows_are;
-  }
-    where
-      same : (arc : Arc) → flow_in certificate.flow arc ≡ flow_beside of.rooms work.walk.rooms arc
-      same arc = elim (cases_lt arc.border (border_count graph)) [
-        | inl has ↦ flows arc has ∙ ap (λ (rooms : List (ℕ × ℕ)). flow_beside rooms work.walk.rooms arc) rooms_are
-        | inr past ↦
-            let none = none_past of.rooms arc (omega (arith, past, size)) in
-            none_past certificate.flow arc (omega (arith, past, flow_size)) ∙ sym (omega (arith, none))
-      ]
+    same : (arc : Arc) → flow_in certificate.flow arc ≡ flow_beside work.of_part work.walk.rooms arc
+    same arc = elim (cases_lt arc.border (border_count graph)) [
+      | inl has ↦ flows arc has
+      | inr past ↦
+          let none = none_past work.of_part arc (omega (arith, past, size)) in
+          none_past certificate.flow arc (omega (arith, past, flow_size)) ∙ sym (omega (arith, none))
+    ]
 
 -- ---- one zone after the other
 

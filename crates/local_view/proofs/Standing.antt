@@ -1,5 +1,5 @@
 -- Cuts that a flow certifies.
-use Rattle.std.proofs.Common.{◌≡◌, ◌∙◌, ℕ, suc, ◌+◌, ◌<◌, ◌≤◌, ◌==◌, inl, inr, List, get_or, length, min, sum_by, take, refl, sym, ap, subst, arith}
+use Rattle.std.proofs.Common.{◌≡◌, ◌∙◌, ℕ, ◌+◌, ◌<◌, ◌≤◌, ◌==◌, inl, inr, List, get_or, length, min, sum_by, take, refl, sym, ap, subst, arith}
 use Rattle.std.proofs.lemmas.Bool.{ne_eqb}
 use Rattle.std.proofs.lemmas.Bool.Decides.{eqb_tells}
 use Rattle.std.proofs.lemmas.List.{take_all}
@@ -19,16 +19,14 @@ use Rattle.zone_graph.proofs.Arcs.{opposite-end, opposite-start, opposite-twice}
 use Rattle.zone_graph.proofs.GridLemmas.{start_within}
 use Rattle.zone_graph.proofs.Places.{place_of}
 use Rattle.zone_graph.proofs.Routes.{end_within}
-use Rattle.market_model.specs.declared.reply.ViewRow.{ViewRow}
 use Rattle.market_model.specs.Orders.{Standing}
 use Rattle.laws_of_market.proofs.LineSums.{sum-map}
 use Rattle.route_choice.specs.Flow.{sent_out, taken_in}
 use Rattle.local_view.specs.declared.cuts.Cuts.{Cuts}
 use Rattle.local_view.specs.Certified.{IsCertified, lots_from, lots_to}
-use Rattle.local_view.specs.Cuts.{AreAlong, AreWide, IsStanding, cut_by, flow_beside, given_by, last_by, leaving, room_out}
+use Rattle.local_view.specs.Cuts.{AreAlong, IsStanding, cut_by, flow_beside, given_by, leaving, room_out}
 use Rattle.local_view.specs.Drafts.{AreKept}
 use Rattle.local_view.specs.Ways.{PassesOn}
-use Rattle.local_view.proofs.Certificates.{shown-more}
 use Rattle.local_view.proofs.Joining.{no_neighbour}
 
 -- ---- one neighbour after the other
@@ -125,21 +123,15 @@ module _ (graph : Graph) (rooms left : List (ℕ × ℕ)) (kept : AreKept rooms 
       (each (end_of graph arc) (end_within graph arc is known) (opposite_arc arc) known (opposite-start graph arc) (subst (λ a. 0 < room_of left a) (sym (opposite-twice arc)) some))
 
   -- where all zones stand, cuts along a line are certified
-  pub certified : IsGrid graph → (side : Side) (zone : ℕ) (line : List Standing) (rows : List ViewRow) (cuts : Cuts) (wide : List ℕ)
-      → ((other : ℕ) → HasZone graph other → IsStanding graph (room_of left) (get_or wide other 0) side cuts other (other == zone))
-      → length line ≡ cut_by cuts zone → AreAlong line cuts rows → AreWide graph (room_of rooms) side wide
+  pub certified : IsGrid graph → (side : Side) (zone : ℕ) (line : List Standing) (cuts : Cuts)
+      → ((other : ℕ) → HasZone graph other → IsStanding graph (room_of rooms) (room_of left) side cuts other (other == zone))
+      → length line ≡ cut_by cuts zone → AreAlong line cuts
       → IsCertified graph (room_of rooms) side zone line flow (given_by cuts) (cut_by cuts)
-  certified grid side zone line rows cuts wide each own along widths = record {
+  certified grid side zone line cuts each own along = record {
     within = λ arc known. omega arith;
-    balanced = λ other there apart.
-        let here = each other there in
-        let other_one = ne_eqb other zone apart in
-        passes side other (given_by cuts other) (omega (arith, here.passed other_one, here.few other_one, widths other there));
+    balanced = λ other there apart. passes side other (given_by cuts other) ((each other there).passed (ne_eqb other zone apart));
     before = λ other there. along.before other (omega (arith, there, grid.few_zones));
-    behind = λ other there.
-        let here = each other there in
-        let most = along.behind other (omega (arith, there, grid.few_zones)) here.none_left in
-        omega (arith, most, shown-more line (suc (last_by cuts other)) (suc (cut_by cuts other)) other (omega (arith, here.none_behind)));
+    behind = λ other there. along.behind other (omega (arith, there, grid.few_zones));
     own = omega (arith, own);
     closed = λ arc known spare.
         no_later side (cut_by cuts) grid.is_graph (λ other there. (each other there).closed) arc known (has_left arc spare);

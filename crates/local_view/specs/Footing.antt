@@ -12,14 +12,13 @@ use Rattle.local_view.specs.declared.footing.Footing.{Footing}
 use Rattle.local_view.specs.declared.whole.LineOrder.{LineOrder}
 use Rattle.local_view.specs.declared.filling.Made.{Made}
 use Rattle.local_view.specs.declared.work.Work.{Work}
-use Rattle.market_model.specs.Board.{BoardState, resting_line}
+use Rattle.market_model.specs.Board.{BoardState}
 use Rattle.local_view.specs.Boards.{view_of}
 use Rattle.local_view.specs.Certified.{IsCertified, rows_in_turn}
-use Rattle.local_view.specs.Cuts.{cut_by, flow_beside, given_by}
 use Rattle.local_view.specs.Moved.{cut_in, flow_in}
 use Rattle.local_view.specs.Rows.{HaveLists, chosen_at}
 use Rattle.local_view.specs.Whole.{in_line}
-use Rattle.local_view.specs.Works.{AreComputed, BoardLine}
+use Rattle.local_view.specs.Works.{AreComputed}
 
 -- rows of a zone rest on orders of a side, the two zones of each border of a grid, rooms, and a flow and cuts that certify them
 pub record RestOn (zones : ℕ) (ends rooms : List (ℕ × ℕ)) (side : Side) (zone : ℕ) (orders : List LineOrder) (certificate : Certificate) (rows : List ViewRow) : Type 0 where
@@ -74,11 +73,6 @@ pub record AreFounded (zones : ℕ) (footing : Option Footing) (rows : (zone : �
 pub record IsFootingAfter (zones : ℕ) (old new : Footing) : Type 0 where
   pub had : (zone : ℕ) → holds new.resting zone ≡ true → holds old.resting zone ≡ true
   pub rest : (zone : ℕ) (rows : List ViewRow) → zone < zones → holds new.resting zone ≡ true → Rest zones old zone rows → Rest zones new zone rows
-
--- rows that a draft tells for a zone of a line are certified
-pub record IsDrafted (graph : Graph) (of : BoardLine) (zone : ℕ) (work : Work) (rows : List ViewRow) : Type 0 where
-  pub certified : IsCertified graph (room_of of.rooms) of.side zone (resting_line of.board of.part of.side) (flow_beside of.rooms work.walk.rooms) (given_by work.cuts.value) (cut_by work.cuts.value)
-  pub rows_are : rows ≡ rows_in_turn (given_by work.cuts.value) (resting_line of.board of.part of.side)
 
 -- rows of a zone rest on the line and the rooms that lists work with
 abbrev pub RestOnWork : Graph → Work → Side → (zone : ℕ) → Certificate → List ViewRow → Type 0

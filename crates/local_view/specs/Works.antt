@@ -4,13 +4,11 @@ use Rattle.order_kinds.specs.declared.side.Side.{Side}
 use Rattle.cut_proof.specs.ZoneSet.{holds}
 use Rattle.market_model.specs.declared.reply.ViewRow.{ViewRow}
 use Rattle.market_model.specs.Board.{BoardState}
-use Rattle.zone_graph.specs.Rooms.{room_of}
 use Rattle.local_view.specs.Boards.{AreRoomsOf, view_of}
 use Rattle.local_view.specs.Rows.{LineRows}
 use Rattle.zone_graph.specs.Graph.{Graph, HasZone, border_count}
 use Rattle.local_view.specs.declared.walk.Walk.{Walk}
 use Rattle.local_view.specs.declared.work.Work.{Work}
-use Rattle.local_view.specs.Cuts.{AreWide}
 use Rattle.local_view.specs.Whole.{IsRead}
 
 -- lists work with rooms of so many borders
@@ -33,19 +31,17 @@ abbrev pub IsThere : Graph → Option Work → Type 0
 IsThere graph None = ⊥
 IsThere graph (Some work) = IsWork graph work
 
--- a line of a board, and rooms
+-- a line of a board
 pub record BoardLine : Type 0 where
   pub board : BoardState
   pub part : ℕ
   pub side : Side
-  pub rooms : List (ℕ × ℕ)
 
 -- they are ready for the lists of a line of a board: the rooms are those of the part, and the line is read
 pub record IsLineWork (board : BoardState) (part : ℕ) (side : Side) (work : Work) : Type 0 where
   pub hand : board.hand ≡ None
   pub sized : IsWork board.grid work
   pub rooms : AreRoomsOf board part work.of_part
-  pub wide : AreWide board.grid (room_of work.of_part) side work.wide
   pub read : IsRead board part side work.whole
 
 -- the rows of a zone, where they are computed or kept

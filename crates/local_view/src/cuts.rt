@@ -1,32 +1,27 @@
 //! Rows that a flow and cuts certify.
 
-ghost use Rattle.std.specs.Prelude.{◌≡◌, ◌<◌, ◌≤◌, ◌-◌, ◌^◌, ℕ, IfSome, IsTrue, List, OnOk, length, map, min, slice_index_or, slice_set};
+ghost use Rattle.std.specs.Prelude.{◌≡◌, ◌+◌, ◌-◌, ◌<◌, ◌≤◌, ◌^◌, ℕ, IsTrue, List, OnOk, length, map, slice_index_or, slice_set};
 ghost use Rattle.zone_graph.specs.Graph.{HasZone, border_count};
 ghost use Rattle.zone_graph.specs.Rooms.{room_of};
-ghost use Rattle.market_model.specs.Orders.{Standing};
-ghost use Rattle.local_view.specs.Cuts.{AreAlong, AreWide, IsLowered, IsStanding, Tested, cut_by, flow_beside, given_by, leaving, rest_by, room_out};
 ghost use Rattle.zone_graph.specs.Route.{IsIn};
-ghost use Rattle.local_view.specs.declared.whole.LineOrder.{LineOrder as ALineOrder};
-ghost use Rattle.local_view.specs.Certified.{IsCertified};
+ghost use Rattle.cut_proof.specs.Carrying.{FitTogether};
+ghost use Rattle.market_model.specs.Orders.{Standing};
+ghost use Rattle.local_view.specs.Certified.{IsCertified, rows_in_turn};
+ghost use Rattle.local_view.specs.Cuts.{AreAlong, IsNoLater, IsStanding, cut_by, flow_beside, given_by, leaving};
 ghost use Rattle.local_view.specs.Drafts.{AreKept};
-ghost use Rattle.local_view.specs.Whole.{in_line};
+ghost use Rattle.local_view.specs.Whole.{all_shown, in_line, rows_shown, shown_in};
 
-use crate::draft::reached_from;
-use crate::filling::is_set;
+use crate::draft::Draft;
 use crate::listing::add_row;
-use crate::nearness::first_zones;
-use crate::whole::LineOrder;
+use crate::whole::{LineOrder, WholeLine};
 use market_model::{NoMemory, Side, ViewRow};
 use zone_graph::{Arc, Grid, MOST_ZONES, Rooms};
 
 /// What the orders of each zone give, one after the other, and where that ends.
 #[derive(Drop)]
 pub(crate) struct Cuts {
-    // What the orders of each zone are to give together, in lots, and what of it none of them has given.
+    // What the orders of each zone give together, in lots.
     given: [u32; MOST_ZONES],
-    rest: [u32; MOST_ZONES],
-    // The place in the line of the last order of each zone that gives something.
-    last: [usize; MOST_ZONES],
     /// The place of each zone's cut: no order of the zone before it gives less than all that it shows.
     pub(crate) places: [usize; MOST_ZONES],
 }
@@ -36,81 +31,91 @@ impl Cuts {
     pub(crate) fn new() -> Cuts {
         Cuts {
             given: [0; MOST_ZONES],
-            rest: [0; MOST_ZONES],
-            last: [0; MOST_ZONES],
             places: [0; MOST_ZONES],
         }
     }
 
-    /// Goes along a line whose zones give so many lots each, and writes the rows of its orders. Each zone has its cut at its
-    /// first order that gives less than it shows, or at the end of the line.
+    /// Has each order of a line give all that it shows, and writes their rows. No zone has a cut before the end of the line.
+    ///
+    /// # Errors
+    ///
+    /// [`NoMemory`], where there is no memory for a row.
+    pub(crate) fn give_all(
+        &mut self,
+        whole: &WholeLine,
+        rows: &mut Vec<ViewRow>,
+    ) -> Result<(), NoMemory>
+        ghost line: { List Standing }
+        requires orders { whole.now.orders.items ≡ map in_line line }
+        requires shown { (zone : ℕ) → zone < 64 → slice_index_or whole.now.shown zone 0 ≡ shown_in line zone }
+        requires rows { whole.now.rows.items ≡ rows_shown line }
+        requires zones { (order : Standing) → IsIn order line → order.order.zone < 64 }
+        ensures along { OnOk result (AreAlong line self.new) }
+        ensures rows { OnOk result (rows.new.items ≡ rows_in_turn (given_by self.new) line) }
+    {
+        self.given = whole.shown;
+        let orders = whole.orders.as_slice();
+        self.places = [orders.len(); MOST_ZONES];
+        rows.clear();
+        rows.extend_from_slice(whole.rows.as_slice())?;
+        Ok(())
+    }
+
+    /// Goes along a line whose orders give one after the other what a draft has them obtain, and writes their rows. Each zone has
+    /// its cut where one of its orders gives less than it shows, or from where nothing more comes from it.
     ///
     /// # Errors
     ///
     /// [`NoMemory`], where there is no memory for a row.
     pub(crate) fn along(
         &mut self,
-        given: &[u32; MOST_ZONES],
+        grid: &Grid,
+        draft: &mut Draft,
+        left: &mut Rooms,
         orders: &[LineOrder],
         rows: &mut Vec<ViewRow>,
     ) -> Result<(), NoMemory>
         ghost line: { List Standing }
         requires orders { orders.now ≡ map in_line line }
-        requires zones { (order : ALineOrder) → IsIn order orders.now → order.zone < 64 }
-        ensures along { OnOk result (AreAlong line self.new rows.new.items) }
+        requires zones { (order : Standing) → IsIn order line → order.order.zone < 64 }
+        requires shown { all_shown line < 2 ^ 32 }
+        requires size { length left.old ≡ border_count grid.now }
+        requires fit { FitTogether grid.now (room_of left.old) }
+        ensures along { OnOk result (AreAlong line self.new) }
+        ensures rows { OnOk result (rows.new.items ≡ rows_in_turn (given_by self.new) line) }
+        ensures size { length left.new ≡ border_count grid.now }
+        ensures kept { AreKept left.old left.new }
     {
+        self.given = [0; MOST_ZONES];
+        self.places = [orders.len(); MOST_ZONES];
         rows.clear();
-        *self = Cuts {
-            given: *given,
-            rest: *given,
-            last: [0; MOST_ZONES],
-            places: [orders.len(); MOST_ZONES],
-        };
         for (place, order) in orders.iter().enumerate() {
-            let lots = self.take_of(order, place);
-            add_row(rows, order.price, lots)?;
+            if place < self.places[order.zone as usize] {
+                let (lots, closed) = draft.obtain(grid, left, order.zone, order.lots);
+                self.take(order, place, lots, closed);
+                add_row(rows, order.price, lots)?;
+            }
         }
         Ok(())
     }
 
-    // Takes of the order at a place what it gives.
-    fn take_of(&mut self, order: &LineOrder, place: usize) -> u32
+    // Notes that the order at a place gives some lots, and where they are not all that it shows, that from here on nothing comes
+    // from its zone and from those of a set.
+    fn take(&mut self, order: &LineOrder, place: usize, lots: u32, closed: u64)
         requires zone { order.now.zone < 64 }
-        ensures lots { result ≡ min order.now.lots (rest_by self.old order.now.zone) }
-        ensures given { self.new.given ≡ self.old.given }
-        ensures rest { self.new.rest ≡ slice_set self.old.rest order.now.zone (rest_by self.old order.now.zone - result) }
-        ensures some { 0 < result → self.new.last ≡ slice_set self.old.last order.now.zone place }
-        ensures none { result ≡ 0 → self.new.last ≡ self.old.last }
-        ensures part { result < order.now.lots → self.new.places ≡ slice_set self.old.places order.now.zone (min (cut_by self.old order.now.zone) place) }
-        ensures all { order.now.lots ≤ result → self.new.places ≡ self.old.places }
+        requires few { given_by self.old order.now.zone + lots < 2 ^ 32 }
+        requires place { place < cut_by self.old order.now.zone }
+        ensures given { self.new.given ≡ slice_set self.old.given order.now.zone (given_by self.old order.now.zone + lots) }
+        ensures size { length self.new.places ≡ length self.old.places }
+        ensures cuts { (zone : ℕ) → IsNoLater place (cut_by self.old zone) (cut_by self.new zone) }
+        ensures part { lots < order.now.lots → cut_by self.new order.now.zone ≡ place }
+        ensures all { order.now.lots ≤ lots → self.new.places ≡ self.old.places }
     {
         let zone = order.zone as usize;
-        let rest = self.rest[zone];
-        let lots = order.lots.min(rest);
-        self.rest[zone] = rest - lots;
-        if lots > 0 {
-            self.last[zone] = place;
-        }
+        self.given[zone] += lots;
         if lots < order.lots {
-            self.places[zone] = self.places[zone].min(place);
-        }
-        lots
-    }
-
-    /// Cuts the zones to which more of a zone's lots can be passed on no later than that one.
-    pub(crate) fn lower(&mut self, leads: &[u64; MOST_ZONES], zones: u32, end: usize)
-        requires { zones ≤ 64 }
-        ensures { IsLowered self.old self.new }
-    {
-        let mut open = first_zones(zones);
-        for _ in 0..zones {
-            let Some(first) = first_cut(&self.places, open, zones, end) else {
-                break;
-            };
-            let reached = reached_from(leads, first, open);
-            let place = self.places[first as usize];
-            cut_no_later(&mut self.places, reached, place);
-            open &= !reached;
+            self.places[zone] = place;
+            cut_no_later(&mut self.places, closed, place);
         }
     }
 
@@ -120,24 +125,23 @@ impl Cuts {
     pub(crate) fn are_certified(
         &self,
         grid: &Grid,
+        rooms: &Rooms,
         left: &Rooms,
-        wide: &[u32; MOST_ZONES],
         side: Side,
         zone: u32,
         end: usize,
     ) -> bool
-        ghost of: { Tested }
-        requires along { AreAlong of.line self.now of.rows }
-        requires end { end ≡ length of.line }
+        ghost line: { List Standing }
+        requires along { AreAlong line self.now }
+        requires end { end ≡ length line }
         requires zone { HasZone grid.now zone }
+        requires rooms { length rooms.now ≡ border_count grid.now }
         requires size { length left.now ≡ border_count grid.now }
-        requires kept { AreKept of.rooms left.now }
-        requires wide { AreWide grid.now (room_of of.rooms) side wide.now }
-        ensures { IsTrue result → IsCertified grid.now (room_of of.rooms) side zone of.line (flow_beside of.rooms left.now) (given_by self.now) (cut_by self.now) }
+        requires kept { AreKept rooms.now left.now }
+        ensures { IsTrue result → IsCertified grid.now (room_of rooms.now) side zone line (flow_beside rooms.now left.now) (given_by self.now) (cut_by self.now) }
     {
-        let zones = grid.zones();
-        for other in 0..zones {
-            if !self.stands(grid, left, wide, side, other, other == zone) {
+        for other in 0..grid.zones() {
+            if !self.stands(grid, rooms, left, side, other, other == zone) {
                 return false;
             }
         }
@@ -149,56 +153,31 @@ impl Cuts {
     fn stands(
         &self,
         grid: &Grid,
+        rooms: &Rooms,
         left: &Rooms,
-        wide: &[u32; MOST_ZONES],
         side: Side,
         zone: u32,
         is_end: bool,
     ) -> bool
         requires zone { HasZone grid.now zone }
+        requires rooms { length rooms.now ≡ border_count grid.now }
         requires size { length left.now ≡ border_count grid.now }
-        ensures { IsTrue result → IsStanding grid.now (room_of left.now) (slice_index_or wide.now zone 0) side self.now zone is_end }
+        ensures { IsTrue result → IsStanding grid.now (room_of rooms.now) (room_of left.now) side self.now zone is_end }
     {
         let neighbours = grid.neighbours(zone);
         let cut = self.places[zone as usize];
         let mut lots = self.given[zone as usize];
-        if self.rest[zone as usize] > 0 || self.last[zone as usize] > cut {
-            return false;
-        }
+        let mut wide: u32 = 0;
         for neighbour in neighbours {
             let spare = room_out_over(left, side, neighbour.arc);
             lots = lots.saturating_add(spare);
+            wide = wide.saturating_add(room_out_over(rooms, side, neighbour.arc));
             if spare > 0 && self.places[neighbour.zone as usize] > cut {
                 return false;
             }
         }
-        is_end || (lots == wide[zone as usize] && lots < u32::MAX)
+        is_end || (lots == wide && lots < u32::MAX)
     }
-}
-
-/// For each zone the room over which lots can leave it, as far as numbers go.
-pub(crate) fn widths(grid: &Grid, rooms: &Rooms, side: Side) -> [u32; MOST_ZONES]
-    requires { length rooms.now ≡ border_count grid.now }
-    ensures { AreWide grid.now (room_of rooms.now) side result }
-{
-    let mut wide: [u32; MOST_ZONES] = [0; MOST_ZONES];
-    for zone in 0..grid.zones() {
-        wide[zone as usize] = width(grid, rooms, side, zone);
-    }
-    wide
-}
-
-// So of one zone.
-fn width(grid: &Grid, rooms: &Rooms, side: Side, zone: u32) -> u32
-    requires zone { HasZone grid.now zone }
-    requires size { length rooms.now ≡ border_count grid.now }
-    ensures { result ≡ min (room_out grid.now (room_of rooms.now) side zone) (2 ^ 32 - 1) }
-{
-    let mut lots: u32 = 0;
-    for neighbour in grid.neighbours(zone) {
-        lots = lots.saturating_add(room_out_over(rooms, side, neighbour.arc));
-    }
-    lots
 }
 
 /// The room for lots that leave the zone from which an arc leads.
@@ -212,26 +191,10 @@ pub(crate) fn room_out_over(rooms: &Rooms, side: Side, arc: Arc) -> u32
     })
 }
 
-// Of a set of so many zones the one that has its cut first, before the end of the line.
-fn first_cut(places: &[usize; MOST_ZONES], open: u64, zones: u32, end: usize) -> Option<u32>
-    requires { zones ≤ 64 }
-    ensures { IfSome result (λ zone. zone < 64) }
-{
-    let mut least = end;
-    let mut first = None;
-    for zone in 0..zones {
-        let place = places[zone as usize];
-        if place < least && is_set(open, zone as usize) {
-            least = place;
-            first = Some(zone);
-        }
-    }
-    first
-}
-
 // The zones of a set have their cuts at a place, where they have none before it.
 fn cut_no_later(places: &mut [usize; MOST_ZONES], zones: u64, place: usize)
-    ensures { (zone : ℕ) → slice_index_or places.new zone 0 ≤ slice_index_or places.old zone 0 }
+    ensures size { length places.new ≡ length places.old }
+    ensures cuts { (zone : ℕ) → IsNoLater place (slice_index_or places.old zone 0) (slice_index_or places.new zone 0) }
 {
     let mut left = zones;
     for _ in 0..MOST_ZONES {

@@ -2,17 +2,14 @@
 //! a draft, since what it says is tested.
 
 ghost use Rattle.std.specs.Prelude.{◌≡◌, ◌+◌, ◌-◌, ◌<◌, ◌≤◌, ◌^◌, IfSome, length};
-ghost use Rattle.zone_graph.specs.Graph.{HasArc, HasZone, border_count};
+ghost use Rattle.zone_graph.specs.Graph.{HasArc, border_count};
 ghost use Rattle.zone_graph.specs.Pour.{opposite_arc};
 ghost use Rattle.zone_graph.specs.Rooms.{room_of};
-ghost use Rattle.zone_graph.specs.Route.{IsIn};
 ghost use Rattle.zone_graph.specs.declared.route.Arc.{Arc as AnArc};
 ghost use Rattle.cut_proof.specs.Carrying.{FitTogether};
 ghost use Rattle.local_view.specs.Drafts.{AreKept};
-ghost use Rattle.local_view.specs.declared.whole.LineOrder.{LineOrder as ALineOrder};
 
 use crate::filling::is_set;
-use crate::whole::LineOrder;
 use market_model::Side;
 use zone_graph::{Arc, Grid, MOST_ZONES, Rooms};
 
@@ -32,16 +29,14 @@ pub(crate) struct Draft {
     side: Side,
     // The zone that lots come to.
     zone: u32,
-    /// For each zone those that it can pass more lots on to.
-    pub(crate) leads: [u64; MOST_ZONES],
-    /// What comes from each zone.
-    pub(crate) given: [u32; MOST_ZONES],
+    // For each zone those that it can pass more lots on to.
+    leads: [u64; MOST_ZONES],
+    // What comes from each zone, as far as no order gave it.
+    given: [u32; MOST_ZONES],
     // The zones from which something does, and the one that lots come to.
     giving: u64,
     // From which zone the last search came to each.
     before: [u32; MOST_ZONES],
-    /// Whether the flow is another one than that with which it began.
-    pub(crate) is_other: bool,
 }
 
 impl Draft {
@@ -54,12 +49,11 @@ impl Draft {
             given: [0; MOST_ZONES],
             giving: 0,
             before: [0; MOST_ZONES],
-            is_other: false,
         }
     }
 
     /// Begins with a flow to a zone, as far as the rooms of a part are wide enough for it, and tells what is left of them. Then
-    /// each zone gives what its orders show and no more, as far as it comes.
+    /// each zone gives what its orders show and no more, as far as it comes. Answers whether all of that comes.
     pub(crate) fn begin(
         &mut self,
         grid: &Grid,
@@ -69,7 +63,7 @@ impl Draft {
         zone: u32,
         flow: &Flow,
         shown: &[u32; MOST_ZONES],
-    )
+    ) -> bool
         requires size { length of_part.now ≡ border_count grid.now }
         requires fit { FitTogether grid.now (room_of of_part.now) }
         requires left { length left.old ≡ border_count grid.now }
@@ -81,7 +75,7 @@ impl Draft {
         self.zone = zone;
         self.lay(grid, of_part, left, flow);
         self.pass_on(grid, left);
-        self.bring(grid, left, shown);
+        self.bring(grid, left, shown)
     }
 
     // Tells the rooms that a flow leaves of others, as far as these are wide enough for it, what goes out of each zone beyond
@@ -97,7 +91,6 @@ impl Draft {
         left.copy_from(of_part);
         self.leads = [0; MOST_ZONES];
         self.given = [0; MOST_ZONES];
-        self.is_other = false;
         for border in 0..grid.borders() {
             let arc = Arc {
                 border,
@@ -105,7 +98,6 @@ impl Draft {
             };
             let (out, back) = (flow.at(arc), flow.at(arc.opposite()));
             let (forward, backward) = (of_part.at(arc), of_part.at(arc.opposite()));
-            self.is_other = self.is_other || out > forward || back > backward;
             let (out, back) = (out.min(forward), back.min(backward));
             let (forward, backward) = (forward - out + back, backward - back + out);
             left.set(arc, forward);
@@ -165,16 +157,15 @@ impl Draft {
         }
     }
 
-    // Has each zone give what its orders show and no more, as far as it comes.
-    fn bring(&mut self, grid: &Grid, left: &mut Rooms, shown: &[u32; MOST_ZONES])
+    // Has each zone give what its orders show and no more, as far as it comes. Answers whether all of that comes.
+    fn bring(&mut self, grid: &Grid, left: &mut Rooms, shown: &[u32; MOST_ZONES]) -> bool
         requires size { length left.old ≡ border_count grid.now }
         requires fit { FitTogether grid.now (room_of left.old) }
         ensures size { length left.new ≡ border_count grid.now }
         ensures kept { AreKept left.old left.new }
     {
-        let zones = grid.zones();
         let mut short: u64 = 0;
-        for zone in 0..zones {
+        for zone in 0..grid.zones() {
             let (given, most) = (self.given[zone as usize], shown[zone as usize]);
             if zone == self.zone {
                 self.given[zone as usize] = most;
@@ -184,23 +175,36 @@ impl Draft {
                 short |= bit(zone);
             }
         }
-        if short != 0 {
-            short &= self.can_reach(zones);
-            for zone in 0..zones {
-                if is_set(short, zone as usize) {
-                    let (given, most) = (self.given[zone as usize], shown[zone as usize]);
-                    let (sent, _) = self.send(
-                        grid,
-                        left,
-                        zone,
-                        bit(self.zone),
-                        most.saturating_sub(given),
-                    );
-                    self.given[zone as usize] = given.saturating_add(sent);
-                    self.mark(zone);
-                }
+        short == 0 || self.bring_more(grid, left, shown, short)
+    }
+
+    // Has the zones of a set give more, up to what their orders show. Answers whether all of that comes.
+    fn bring_more(
+        &mut self,
+        grid: &Grid,
+        left: &mut Rooms,
+        shown: &[u32; MOST_ZONES],
+        short: u64,
+    ) -> bool
+        requires size { length left.old ≡ border_count grid.now }
+        requires fit { FitTogether grid.now (room_of left.old) }
+        ensures size { length left.new ≡ border_count grid.now }
+        ensures kept { AreKept left.old left.new }
+    {
+        let zones = grid.zones();
+        let can = short & self.can_reach(zones);
+        let mut is_all = can == short;
+        for zone in 0..zones {
+            if is_set(can, zone as usize) {
+                let given = self.given[zone as usize];
+                let lacks = shown[zone as usize].saturating_sub(given);
+                let (sent, _) = self.send(grid, left, zone, bit(self.zone), lacks);
+                self.given[zone as usize] = given.saturating_add(sent);
+                self.mark(zone);
+                is_all = is_all && sent == lacks;
             }
         }
+        is_all
     }
 
     // The zones from which more can come, of so many.
@@ -222,40 +226,34 @@ impl Draft {
         reaching
     }
 
-    /// Has the orders of a line give one after the other: what one lacks is taken from those behind it.
-    pub(crate) fn exchange(&mut self, grid: &Grid, left: &mut Rooms, orders: &[LineOrder])
-        requires orders { (order : ALineOrder) → IsIn order orders.now → HasZone grid.now order.zone }
+    /// Has the next order of a zone give its lots. What it lacks is taken from orders that have not given yet. Answers how many
+    /// lots it gives and, where they are not all, the zones from which nothing more comes.
+    pub(crate) fn obtain(
+        &mut self,
+        grid: &Grid,
+        left: &mut Rooms,
+        zone: u32,
+        lots: u32,
+    ) -> (u32, u64)
+        requires zone { zone < 64 }
         requires size { length left.old ≡ border_count grid.now }
         requires fit { FitTogether grid.now (room_of left.old) }
         ensures size { length left.new ≡ border_count grid.now }
         ensures kept { AreKept left.old left.new }
+        ensures most { result.0 ≤ lots }
     {
-        let mut closed: u64 = 0;
-        for order in orders {
-            if !is_set(closed, order.zone as usize) {
-                closed |= self.obtain(grid, left, order.zone, order.lots);
-            }
-        }
-    }
-
-    // Has the next order of a zone give its lots. What it lacks is taken from orders that have not given yet. Where they have not
-    // enough, answers the zones from which nothing more comes.
-    fn obtain(&mut self, grid: &Grid, left: &mut Rooms, zone: u32, lots: u32) -> u64
-        requires zone { HasZone grid.now zone }
-        requires size { length left.old ≡ border_count grid.now }
-        requires fit { FitTogether grid.now (room_of left.old) }
-        ensures size { length left.new ≡ border_count grid.now }
-        ensures kept { AreKept left.old left.new }
-    {
-        // It shows that the grid has no more than 64 zones.
-        let _ = grid.zones();
         let rest = self.given[zone as usize];
-        self.given[zone as usize] = rest.saturating_sub(lots);
-        self.mark(zone);
-        if rest >= lots {
-            return 0;
+        if lots < rest {
+            self.given[zone as usize] = rest - lots;
+            return (lots, 0);
         }
-        self.send(grid, left, zone, self.giving, lots - rest).1
+        self.given[zone as usize] = 0;
+        self.mark(zone);
+        if rest == lots {
+            return (lots, 0);
+        }
+        let (sent, closed) = self.send(grid, left, zone, self.giving, lots - rest);
+        (rest + sent, closed)
     }
 
     // Notes whether something comes from a zone.
@@ -276,6 +274,7 @@ impl Draft {
         requires fit { FitTogether grid.now (room_of left.old) }
         ensures size { length left.new ≡ border_count grid.now }
         ensures kept { AreKept left.old left.new }
+        ensures most { result.0 ≤ lots }
     {
         let mut more = lots;
         for _ in 0..MOST_WAYS {
@@ -364,7 +363,6 @@ impl Draft {
             }
             zone = before;
         }
-        self.is_other = true;
         lots
     }
 
@@ -405,21 +403,6 @@ impl Draft {
             self.leads[to as usize] |= bit(from);
         }
     }
-}
-
-/// The zones of a set that are reached from one of them.
-pub(crate) fn reached_from(leads: &[u64; MOST_ZONES], from: u32, within: u64) -> u64 {
-    let mut reached = bit(from);
-    let mut new = reached;
-    for _ in 0..MOST_ZONES {
-        if new == 0 {
-            break;
-        }
-        let more = leads[new.trailing_zeros() as usize] & within & !reached;
-        new = (new & (new - 1)) | more;
-        reached |= more;
-    }
-    reached
 }
 
 // The set of one zone.

@@ -3,19 +3,18 @@
 ghost use Rattle.std.specs.Prelude.{◌≡◌, ◌⊎◌, ◌&&◌, not, ◌<◌, ℕ, [], IfOk, IfSome, IsTrue, List, None, OnErr, OnOk, get_or, length, false, true};
 ghost use Rattle.cut_proof.specs.ZoneSet.{holds};
 ghost use Rattle.market_model.specs.declared.reply.ViewRow.{ViewRow as AViewRow};
-ghost use Rattle.market_model.specs.Board.{BoardState};
+ghost use Rattle.market_model.specs.Board.{BoardState, resting_line};
 ghost use Rattle.zone_graph.specs.declared.route.Arc.{Arc as AnArc};
 ghost use Rattle.zone_graph.specs.Graph.{HasArc, HasZone, border_count, zone_count};
-ghost use Rattle.local_view.specs.Cuts.{flow_beside};
-ghost use Rattle.local_view.specs.Footing.{AreFilled, AreListed, AreMadeOver, IsDrafted, IsFootingAfter, IsFoundedAt, IsOver, IsSized, RestOnWork, certificate_at};
+ghost use Rattle.local_view.specs.Certified.{rows_in_turn};
+ghost use Rattle.local_view.specs.Cuts.{AreAlong, flow_beside, given_by};
+ghost use Rattle.local_view.specs.Footing.{AreFilled, AreListed, AreMadeOver, IsFootingAfter, IsFoundedAt, IsOver, IsSized, RestOnWork, certificate_at};
 ghost use Rattle.local_view.specs.Moved.{flow_in};
-ghost use Rattle.zone_graph.specs.Grid.{IsGrid};
 ghost use Rattle.local_view.specs.Boards.{view_of};
 ghost use Rattle.local_view.specs.Drafts.{AreKept};
 ghost use Rattle.local_view.specs.Works.{AreComputed, BoardLine, IsLineWork, IsSound, IsWork};
 
-use crate::cuts::widths;
-use crate::draft::note;
+use crate::draft::{Flow, note};
 use crate::footing::{Certificate, Footing, make_footing};
 use crate::listing::{Line, list_rows};
 use crate::work::{Work, make_work};
@@ -124,7 +123,6 @@ fn fill_over<B: Board>(
 {
     board.rooms(line.part, &mut work.of_part);
     work.whole.read(board, grid, line)?;
-    work.wide = widths(grid, &work.of_part, line.side);
     fill_zones(alloc, grid, work, line, computed, lists, footing)
 }
 
@@ -364,7 +362,6 @@ fn list_certified(
     requires grid { grid.now ≡ of.board.grid }
     requires zone { HasZone grid.now zone }
     requires side { line.side ≡ of.side }
-    requires rooms { work.old.of_part ≡ of.rooms }
     requires work { IsLineWork of.board of.part of.side work.old }
     requires flow { length certificate.old.flow ≡ border_count grid.now }
     ensures rows { IfOk result (λ is. IsTrue is → rows.new.items ≡ view_of of.board of.part of.side zone) }
@@ -376,24 +373,16 @@ fn list_certified(
     if !work.whole.fits {
         return Ok(false);
     }
-    let (of_part, left) = (&work.of_part, &mut work.walk.rooms);
-    let (flow, shown) = (&certificate.flow, &work.whole.shown);
-    work.draft
-        .begin(grid, of_part, left, line.side, zone, flow, shown);
-    if list_draft(grid, work, line, zone, rows)? {
-        note_draft(grid, work, certificate);
-        return Ok(true);
+    draft_rows(grid, work, line, zone, &certificate.flow, rows)?;
+    let (rooms, left, end) = (&work.of_part, &work.walk.rooms, work.whole.orders.len());
+    if !work
+        .cuts
+        .are_certified(grid, rooms, left, line.side, zone, end)
+    {
+        return Ok(false);
     }
-    let (of_part, left) = (&work.of_part, &mut work.walk.rooms);
-    let (orders, shown) = (work.whole.orders.as_slice(), &work.whole.shown);
-    let flow = &mut certificate.flow;
-    work.draft.exchange(grid, left, orders);
-    note(grid, of_part, left, flow);
-    work.draft
-        .begin(grid, of_part, left, line.side, zone, flow, shown);
-    let is = list_draft(grid, work, line, zone, rows)?;
     note_draft(grid, work, certificate);
-    Ok(is)
+    Ok(true)
 }
 
 // Notes the flow and the cuts of a draft.
@@ -408,33 +397,33 @@ fn note_draft(grid: &Grid, work: &Work, certificate: &mut Certificate)
     certificate.cuts = work.cuts.places;
 }
 
-// Writes the rows of what a draft has each zone give, in place of others, and answers whether they are certified.
-fn list_draft(
+// Writes the rows of a zone that a draft tells, in place of others. The draft begins with a flow.
+fn draft_rows(
     grid: &Grid,
     work: &mut Work,
     line: Line,
     zone: u32,
+    flow: &Flow,
     rows: &mut Vec<ViewRow>,
-) -> Result<bool, NoMemory>
+) -> Result<(), NoMemory>
     ghost of: { BoardLine }
     requires grid { grid.now ≡ of.board.grid }
-    requires zone { HasZone grid.now zone }
-    requires side { line.side ≡ of.side }
-    requires rooms { work.old.of_part ≡ of.rooms }
     requires fits { work.old.whole.fits ≡ true }
-    requires kept { AreKept of.rooms work.old.walk.rooms }
     requires work { IsLineWork of.board of.part of.side work.old }
-    ensures rows { IfOk result (λ is. IsTrue is → rows.new.items ≡ view_of of.board of.part of.side zone) }
+    requires flow { length flow.now ≡ border_count grid.now }
+    ensures along { OnOk result (AreAlong (resting_line of.board of.part of.side) work.new.cuts.value) }
+    ensures rows { OnOk result (rows.new.items ≡ rows_in_turn (given_by work.new.cuts.value) (resting_line of.board of.part of.side)) }
+    ensures kept { AreKept work.new.of_part work.new.walk.rooms }
     ensures work { IsLineWork of.board of.part of.side work.new }
-    ensures drafted { IfOk result (λ is. IsTrue is → IsDrafted grid.now of zone work.new rows.new.items) }
-    ensures same { (work.new.of_part ≡ work.old.of_part) × (work.new.walk ≡ work.old.walk) × (work.new.whole ≡ work.old.whole) }
-    ensures grid { IsGrid grid.now }
+    ensures same { (work.new.of_part ≡ work.old.of_part) × (work.new.whole ≡ work.old.whole) }
 {
-    let zones = grid.zones();
-    let orders = work.whole.orders.as_slice();
-    let cuts = &mut *work.cuts;
-    cuts.along(&work.draft.given, orders, rows)?;
-    cuts.lower(&work.draft.leads, zones, orders.len());
-    let (left, end) = (&work.walk.rooms, orders.len());
-    Ok(cuts.are_certified(grid, left, &work.wide, line.side, zone, end))
+    // It shows that the grid has no more than 64 zones.
+    let _ = grid.zones();
+    let (rooms, left) = (&work.of_part, &mut work.walk.rooms);
+    let (draft, whole) = (&mut *work.draft, &work.whole);
+    if draft.begin(grid, rooms, left, line.side, zone, flow, &whole.shown) {
+        return work.cuts.give_all(whole, rows);
+    }
+    let orders = whole.orders.as_slice();
+    work.cuts.along(grid, draft, left, orders, rows)
 }

@@ -180,7 +180,7 @@ impl Certificate {
         are_behind(&self.cuts, old.0, replaced.first, replaced.last)
             && are_behind(&self.cuts, new.0, replaced.first, replaced.next)
             && stand_over(grid, old.1, new.1, &self.flow, &self.cuts, side)
-            && move_cuts(&mut self.cuts, replaced)
+            && move_cuts(&mut self.cuts, grid.zones(), replaced)
     }
 }
 

@@ -75,17 +75,21 @@ pub(crate) fn are_behind(
     true
 }
 
-/// Moves cuts to where their places are in a new line. Where a number would be too great, answers that they
-/// could not be moved, and leaves some where they were.
-pub(crate) fn move_cuts(cuts: &mut [usize; MOST_ZONES], replaced: Replaced) -> bool
-    requires { replaced.first ≤ replaced.last }
-    ensures { IsTrue result → (zone : ℕ) → zone < 64 → IsMoved replaced.first replaced.last replaced.next (cut_in cuts.old zone) (cut_in cuts.new zone) }
+/// Moves the cuts of so many zones to where their places are in a new line. Where a number would be too great, answers that
+/// they could not be moved, and leaves some where they were.
+pub(crate) fn move_cuts(cuts: &mut [usize; MOST_ZONES], zones: u32, replaced: Replaced) -> bool
+    requires zones { zones ≤ 64 }
+    requires replaced { replaced.first ≤ replaced.last }
+    ensures { IsTrue result → (zone : ℕ) → zone < zones → IsMoved replaced.first replaced.last replaced.next (cut_in cuts.old zone) (cut_in cuts.new zone) }
 {
-    for cut in cuts.iter_mut() {
-        let Some(moved) = moved(*cut, replaced) else {
+    if replaced.first == replaced.last && replaced.last == replaced.next {
+        return true;
+    }
+    for zone in 0..zones as usize {
+        let Some(moved) = moved(cuts[zone], replaced) else {
             return false;
         };
-        *cut = moved;
+        cuts[zone] = moved;
     }
     true
 }

@@ -8,7 +8,7 @@ use crate::draft::Draft;
 use crate::walk::Walk;
 use crate::whole::WholeLine;
 use std::alloc::Global;
-use zone_graph::{Grid, MOST_ZONES, NoMemory, Rooms};
+use zone_graph::{Grid, NoMemory, Rooms};
 
 /// Rooms that a refresh works on, and what its lists work with.
 #[derive(Drop)]
@@ -21,8 +21,6 @@ pub(crate) struct Work {
     pub(crate) walk: Walk,
     /// The line whose lists are made.
     pub(crate) whole: WholeLine,
-    /// For each zone the room over which lots of the line's side can leave it.
-    pub(crate) wide: [u32; MOST_ZONES],
     /// What a list drafts.
     pub(crate) draft: Box<Draft>,
     /// Where the orders of its zones end to give.
@@ -39,7 +37,6 @@ impl Work {
             of_part: Rooms::new(grid)?,
             walk: Walk::over(grid)?,
             whole: WholeLine::new(alloc),
-            wide: [0; MOST_ZONES],
             draft: Box::new(alloc, Draft::new())?,
             cuts: Box::new(alloc, Cuts::new())?,
         })

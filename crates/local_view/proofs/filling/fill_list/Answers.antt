@@ -53,7 +53,6 @@ returns g c =
           };
         };
         rooms = work.rooms;
-        wide = work.wide;
         read = work.read;
       };
       same = c.list_certified.ensures.same;

@@ -1,9 +1,7 @@
 use Rattle.std.proofs.Common.{◌∙◌, ap, refl, subst, sym}
-use Rattle.zone_graph.specs.Graph.{Graph, border_count}
-use Rattle.zone_graph.specs.Rooms.{room_of}
+use Rattle.zone_graph.specs.Graph.{border_count}
 use Rattle.market_model.specs.Board.{BoardState}
 use Rattle.local_view.specs.Boards.{AreRoomsOf}
-use Rattle.local_view.specs.Cuts.{AreWide}
 use Rattle.local_view.specs.Whole.{IsRead}
 use Rattle.local_view.proofs.filling.fill_over.Goals as goal
 
@@ -27,7 +25,6 @@ fill_zones-requires g c =
                 are = c.rooms.ensures.rooms;
                 most = c.rooms.ensures.most;
               });
-              wide = subst (λ (graph : Graph). AreWide graph (room_of c.rooms.new.into) c.args.line.side c.widths-work.result) c.requires.1.1.1.0 c.widths-work.ensures;
               read = subst (λ (state : BoardState). IsRead state c.args.line.part c.args.line.side c.read.new.self) (sym of) c.in_ok-read.ensures;
             },
             c.requires.1.1.1.1.1.1.1,

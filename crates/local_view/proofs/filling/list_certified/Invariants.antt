@@ -1,5 +1,9 @@
+use Rattle.market_model.specs.Board.{resting_line}
 use Rattle.local_view.proofs.filling.list_certified.Given as goal
 
--- over the board's line
-abbrev pub ghost-list_draft : goal.ghost-list_draft
-ghost-list_draft g a = g.of
+-- of the board's line
+abbrev pub ghost-draft_rows : goal.ghost-draft_rows
+ghost-draft_rows g a = g.of
+
+abbrev pub ghost-are_certified : goal.ghost-are_certified
+ghost-are_certified g a = resting_line g.of.board g.of.part g.of.side

@@ -1,33 +1,80 @@
-use Rattle.std.proofs.Common.{◌+◌, ℕ, ap, length, refl, subst, sym, ◌∙◌, List, replicate, arith}
+use Rattle.std.proofs.Common.{◌≡◌, ◌∙◌, ◌+◌, ◌++◌, Global, Vec, [], ap, get_or, length, refl, subst, sym, arith}
 use Rattle.std.proofs.lemmas.List.{length-map}
-use Rattle.zone_graph.proofs.Places.{at_place}
+use Rattle.market_model.specs.declared.reply.ViewRow.{ViewRow}
+use Rattle.local_view.specs.declared.cuts.Cuts.{Cuts}
+use Rattle.local_view.specs.Drafts.{AreKept}
+use Rattle.local_view.specs.Poured.{row_if}
+use Rattle.local_view.specs.Moved.{no_order}
 use Rattle.local_view.specs.Whole.{in_line}
-use Rattle.local_view.proofs.Cutting.{AreCutting, IsCutting, all_cut, next_cut, no_order, none_cut, number_at}
+use Rattle.local_view.proofs.Cutting.{AreCutting, all_cut, all_rows, next_passed, next_taken, none_cut, seen_small, within_all}
+use Rattle.local_view.proofs.Drafting.{fit-kept, kept-on}
 use Rattle.local_view.proofs.cuts.Cuts.along.Goals as goal
+use Rattle.local_view.proofs.cuts.Cuts.along.Goals.{then-place-self+in_ok-add_row, else-place-self}
 
 pub loop-place-init : goal.loop-place-init
 loop-place-init g c = record {
-  given_are = refl;
-  size = record { rest = c.told-given; last = refl; places = refl };
-  cutting =
-      let numbers : List ℕ → ℕ → ℕ = number_at in
-      subst (IsCutting g.line 0 (numbers c.args.given.now) (numbers c.args.given.now) (numbers (replicate 64 0)) (numbers (replicate 64 (length c.args.orders.now)))) (sym c.clear.ensures.items)
-      (none_cut g.line c.args.given.now (length c.args.orders.now));
+  cutting = subst (AreCutting g.line 0 _) (sym c.clear.ensures.items) (none_cut g.line _ refl refl);
+  size = c.requires.1.1.1.0;
+  kept = λ arc. refl;
 }
 
-pub take_of-lots-requires : goal.take_of-lots-requires
-take_of-lots-requires g c = record { zone = c.requires.1 _ (at_place c.args.orders.now c.loop-place.place no_order c.loop-place-test.true) }
+pub bounds-self-order : goal.bounds-self-order
+bounds-self-order g c = seen_small g.line c.args.orders.now c.loop-place.place no_order c.requires.0 c.loop-place-test.true c.requires.1.0
+
+pub obtain-lots-requires : goal.obtain-lots-requires
+obtain-lots-requires g c = record {
+  zone = seen_small g.line c.args.orders.now c.loop-place.place no_order c.requires.0 c.loop-place-test.true c.requires.1.0;
+  size = c.loop-place.invariant.size;
+  fit = fit-kept c.args.grid.now c.args.left.now c.loop-place.left c.requires.1.1.1.1 c.loop-place.invariant.kept;
+}
+
+pub take-requires : goal.take-requires
+take-requires g c = record {
+  zone = seen_small g.line c.args.orders.now c.loop-place.place no_order c.requires.0 c.loop-place-test.true c.requires.1.0;
+  few =
+      let all = within_all g.line c.args.orders.now c.requires.0 c.requires.1.0 c.loop-place.place no_order c.loop-place-test.true c.loop-place.self c.loop-place.rows.items c.loop-place.invariant.cutting
+      c.if-place-self.true in
+      omega (arith, all, c.obtain-lots.ensures.most, c.requires.1.1.0);
+  place = c.if-place-self.true;
+}
 
 pub loop-place-preserved : goal.loop-place-preserved
-loop-place-preserved g c =
-    let taken = c.take_of-lots.ensures in
-    let small = c.requires.1 _ (at_place c.args.orders.now c.loop-place.place no_order c.loop-place-test.true) in
-    subst (λ rows. AreCutting g.line (c.loop-place.place + 1) c.args.given.now c.take_of-lots.new.self rows) (sym c.in_ok-add_row.ensures) (next_cut g.line c.args.orders.now c.requires.0 c.loop-place.place no_order c.loop-place-test.true small c.args.given.now c.loop-place.self c.take_of-lots.new.self c.loop-place.rows.items
-    c.take_of-lots.result c.loop-place.invariant taken.given (record { lots_are = taken.lots; rest = taken.rest; some = taken.some; none = taken.none; part = taken.part; all = taken.all }))
+loop-place-preserved g c = elim c.if-place-self.branch [
+  | then-place-self+in_ok-add_row w ↦
+      let taken = w.take.ensures in
+      let rows = c.loop-place.rows.items ++ row_if (get_or c.args.orders.now c.loop-place.place no_order).price w.obtain-lots.result.0 [] in
+      let rows_are : c.if-place-self.rows.items ≡ rows = ap (λ (list : Vec ViewRow Global). list.items) w.rows-is ∙ w.in_ok-add_row.ensures in
+      record {
+        cutting =
+            subst (AreCutting g.line (c.loop-place.place + 1) c.if-place-self.self) (sym rows_are)
+            (subst (λ (cuts : Cuts). AreCutting g.line (c.loop-place.place + 1) cuts rows) (sym w.self-is)
+            (next_taken g.line c.args.orders.now c.requires.0 c.requires.1.0 c.loop-place.place no_order c.loop-place-test.true c.loop-place.self c.loop-place.rows.items c.loop-place.invariant.cutting
+            w.take.new.self w.obtain-lots.result.0
+            (record { most = w.obtain-lots.ensures.most; early = w.if-place-self.true; given = taken.given; size = taken.size; cuts = taken.cuts; part = taken.part; all = taken.all })));
+        size = ap length w.left-is ∙ w.obtain-lots.ensures.size;
+        kept =
+            subst (AreKept c.args.left.now) (sym w.left-is)
+            (kept-on c.args.left.now c.loop-place.left w.obtain-lots.new.left c.loop-place.invariant.kept w.obtain-lots.ensures.kept);
+      }
+  | else-place-self w ↦ record {
+    cutting =
+        subst (AreCutting g.line (c.loop-place.place + 1) c.if-place-self.self) (sym (ap (λ (list : Vec ViewRow Global). list.items) w.rows-is))
+        (subst (λ (cuts : Cuts). AreCutting g.line (c.loop-place.place + 1) cuts c.loop-place.rows.items) (sym w.self-is)
+        (next_passed g.line c.args.orders.now c.requires.0 c.requires.1.0 c.loop-place.place no_order c.loop-place-test.true c.loop-place.self c.loop-place.rows.items c.loop-place.invariant.cutting
+        w.if-place-self.false));
+    size = ap length w.left-is ∙ c.loop-place.invariant.size;
+    kept = subst (AreKept c.args.left.now) (sym w.left-is) c.loop-place.invariant.kept;
+  }
+]
 
 pub returns : goal.returns
 returns g c = record {
   along =
-      all_cut g.line c.args.given.now c.loop-place.self c.loop-place.rows.items c.loop-place.place
-      (omega (arith, c.loop-place-test.false, ap length c.requires.0 ∙ length-map g.line in_line)) c.loop-place.invariant;
+      all_cut g.line c.loop-place.self c.loop-place.rows.items c.loop-place.place (omega (arith, c.loop-place-test.false, ap length c.requires.0 ∙ length-map g.line in_line))
+      c.loop-place.invariant.cutting;
+  rows =
+      all_rows g.line c.loop-place.self c.loop-place.rows.items c.loop-place.place (omega (arith, c.loop-place-test.false, ap length c.requires.0 ∙ length-map g.line in_line))
+      c.loop-place.invariant.cutting;
+  size = c.loop-place.invariant.size;
+  kept = c.loop-place.invariant.kept;
 }

@@ -1,6 +1,13 @@
+use Rattle.std.proofs.Common.{◌≡◌, length}
+use Rattle.zone_graph.specs.Graph.{border_count}
+use Rattle.local_view.specs.Drafts.{AreKept}
 use Rattle.local_view.proofs.Cutting.{AreCutting}
 use Rattle.local_view.proofs.cuts.Cuts.along.Given as goal
 
--- the orders so far are gone along
+-- the orders so far are gone along, and what is left so far keeps the sums
 abbrev pub invariant-loop-place : goal.invariant-loop-place
-invariant-loop-place g l = AreCutting g.line l.place l.fn.given l.self l.rows.items
+invariant-loop-place g l = record {
+  cutting : AreCutting g.line l.place l.self l.rows.items;
+  size : length l.left ≡ border_count l.grid;
+  kept : AreKept l.fn.left l.left;
+}

@@ -8,6 +8,6 @@ loop-other-preserved g c = below_more _ _ c.loop-other.invariant (c.stands.ensur
 
 pub returns : goal.returns
 returns g c = λ is_own.
-    certified c.args.grid.now g.of.rooms c.args.left.now c.requires.1.1.1.1.0 c.zones-zones.ensures.grid c.args.side c.args.zone g.of.line g.of.rows c.args.self.now c.args.wide.now
-    (λ other there. c.loop-other.invariant other (omega (arith, there, c.loop-other-test.false, c.zones-zones.ensures.count)))
-    (sym (eqb-true (cut_by c.args.self.now c.args.zone) c.args.end is_own ∙ c.requires.1.0)) c.requires.0 c.requires.1.1.1.1.1
+    certified c.args.grid.now c.args.rooms.now c.args.left.now c.requires.1.1.1.1.1 c.zones-other-end.ensures.grid c.args.side c.args.zone g.line c.args.self.now
+    (λ other there. c.loop-other.invariant other (omega (arith, there, c.loop-other-test.false, c.zones-other-end.ensures.count)))
+    (sym (eqb-true (cut_by c.args.self.now c.args.zone) c.args.end is_own ∙ c.requires.1.0)) c.requires.0

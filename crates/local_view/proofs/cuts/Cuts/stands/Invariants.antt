@@ -9,4 +9,5 @@ abbrev pub invariant-loop-neighbour : goal.invariant-loop-neighbour
 invariant-loop-neighbour l = record {
   closed : AreClosed (room_of l.left) l.side l.self.places l.neighbours l.neighbour-index (cut_by l.self l.zone);
   sum : l.lots ≡ min (given_by l.self l.zone + room_to (room_of l.left) l.side (take l.neighbour-index l.neighbours)) 4294967295;
+  wide : l.wide ≡ min (0 + room_to (room_of l.rooms) l.side (take l.neighbour-index l.neighbours)) 4294967295;
 }

@@ -3,14 +3,6 @@ use Rattle.zone_graph.specs.Graph.{border_count}
 use Rattle.local_view.specs.Drafts.{AreKept}
 use Rattle.local_view.proofs.draft.Draft.bring.Given as goal
 
+-- what is left so far keeps the sums
 abbrev pub invariant-loop-zone : goal.invariant-loop-zone
-invariant-loop-zone l = record {
-  size : length l.left ≡ border_count l.grid;
-  kept : AreKept l.fn.left l.left;
-}
-
-abbrev pub invariant-loop-zone-then-short-ne0 : goal.invariant-loop-zone-then-short-ne0
-invariant-loop-zone-then-short-ne0 l = record {
-  size : length l.left ≡ border_count l.grid;
-  kept : AreKept l.fn.left l.left;
-}
+invariant-loop-zone l = record { size : length l.left ≡ border_count l.grid; kept : AreKept l.fn.left l.left }

@@ -1,0 +1,8 @@
+use Rattle.std.proofs.Common.{◌≡◌, length}
+use Rattle.zone_graph.specs.Graph.{border_count}
+use Rattle.local_view.specs.Drafts.{AreKept}
+use Rattle.local_view.proofs.draft.Draft.bring_more.Given as goal
+
+-- what is left so far keeps the sums
+abbrev pub invariant-loop-zone : goal.invariant-loop-zone
+invariant-loop-zone l = record { size : length l.left ≡ border_count l.grid; kept : AreKept l.fn.left l.left }
