@@ -1,10 +1,11 @@
 -- Rows in a list that grows, and of which one is set.
-use Rattle.std.proofs.Common.{◌≡◌, ◌≢◌, ◌∙◌, ◌+◌, ◌<◌, ◌||◌, inl, inr, ℕ, zero, suc, Bool, List, [], ◌∷◌, ◌++◌, get_or, length, set, sym, ap, subst, arith}
-use Rattle.std.proofs.lemmas.Bool.{cases_eq}
+use Rattle.std.proofs.Common.{◌≡◌, ◌≢◌, ◌∙◌, ◌+◌, ◌<◌, ◌||◌, inl, inr, ℕ, zero, suc, Bool, true, List, [], ◌∷◌, ◌++◌, get_or, length, set, refl, sym, ap, subst, arith}
+use Rattle.std.proofs.lemmas.Bool.{cases_eq, or_cases, true≢false}
 use Rattle.std.proofs.lemmas.List.{get_or-set_other, get_or-set_same}
 use Rattle.std.proofs.lemmas.List.Folds.{list_any-append}
 use Rattle.std.specs.List.{list_any, range_with_len}
 use Rattle.cut_proof.proofs.ArcSums.{range_more}
+use Rattle.zone_graph.specs.Route.{IsIn}
 use Rattle.zone_graph.proofs.Again.{or-false}
 
 -- what holds of each item and of one more behind them
@@ -30,3 +31,11 @@ any-range-more p n =
     ∙ ap (λ k. range_with_len 0 n ++ k ∷ []) (let plain : 0 + n ≡ n = omega arith in plain))
     ∙ list_any-append p (range_with_len 0 n) (n ∷ [])
     ∙ ap (λ b. list_any p (range_with_len 0 n) || b) (or-false (p n))
+
+-- where some item passes one does
+pub from_some : {X : Type 0} (p : X → Bool) (xs : List X) → list_any p xs ≡ true → (x : X) × IsIn x xs × (p x ≡ true)
+from_some p [] is = absurd (true≢false (sym is))
+from_some p (x ∷ xs) is = elim (or_cases (p x) (list_any p xs) is) [
+  | inl here ↦ (x, inl refl, here)
+  | inr later ↦ (let found = from_some p xs later in (found.0, inr found.1, found.2))
+]

@@ -1,6 +1,9 @@
 -- What is next after a refresh.
 use Rattle.std.proofs.Common.{◌≡◌, ◌∙◌, ◌<◌, ◌≤◌, ℕ, zero, suc, Bool, true, false, List, [], get_or, length, replicate, unwrap_or, refl, sym, ap, arith}
+use Rattle.std.proofs.lemmas.Bool.{true≢false}
 use Rattle.std.specs.Int.RustNames.{bit_or}
+use Rattle.cut_proof.specs.ZoneSet.{holds}
+use Rattle.local_view.proofs.Bits.{holds-zero}
 use Rattle.contract_book.specs.Book.{line_number}
 use Rattle.order_kinds.specs.declared.side.Side.{Side}
 use Rattle.order_kinds.specs.Contract.{contract_at}
@@ -17,10 +20,10 @@ use Rattle.laws_of_views.specs.Changes.{RoomsDifferWithin}
 use Rattle.desk_views.specs.Desk.{DeskState, views_with_made}
 use Rattle.desk_views.specs.Insides.{planned_if}
 use Rattle.desk_views.specs.Moved.{AreMoved, touched_of}
-use Rattle.desk_views.specs.Standing.{AreComing, IsNext, StandAt}
+use Rattle.desk_views.specs.Standing.{AreComing, IsNext, RoomsMoveAt, StandAt}
 use Rattle.desk_views.proofs.Bits.{has-first}
 use Rattle.desk_views.proofs.Rows.{adopted-count, adopted-line, forgotten-count}
-use Rattle.desk_views.proofs.Touched.{differ-touched, moved-within, none-moved}
+use Rattle.desk_views.proofs.Touched.{differ-touched, from-moved, moved-within, none-moved}
 
 module _ (hour : HourState) (boards : AreBoards hour) where
   within : (part : ℕ) → part < 7 → part < hour.board.parts
@@ -54,6 +57,18 @@ module _ (hour : HourState) (boards : AreBoards hour) where
         (settled part low).are (are refl part low).are (get_or moved part 0) (told refl part low)
     rooms-within is_graph few false planned moved still are told part low =
         none-moved hour.board.grid hour.settled hour.board.events (contract_at hour.board.hour part) (zones_touched hour.board.grid (get_or moved part 0)) (λ arc known. still refl part arc low known)
+
+    -- and they are where an arc begins or ends whose room is another one
+    pub rooms-move : (is_graph : IsGraph hour.board.grid) → (few : zone_count hour.board.grid ≤ 64) → (asked : Bool) (planned : List (List (ℕ × ℕ))) (moved : List ℕ)
+        → (asked ≡ false → (part : ℕ) → part < 7 → get_or moved part 0 ≡ 0)
+        → (asked ≡ true → (part : ℕ) → part < 7 → AreRoomsOf hour.board part (get_or planned part []))
+        → (asked ≡ true → (part : ℕ) → part < 7 → AreMoved hour.board.grid (get_or rooms part []) (get_or planned part []) (get_or moved part 0))
+        → (part zone : ℕ) → part < 7 → zone < 64 → holds (get_or moved part 0) zone ≡ true → RoomsMoveAt hour part zone
+    rooms-move is_graph few true planned moved none are told part zone low small is =
+        from-moved hour.board.grid is_graph few hour.settled hour.board.events (contract_at hour.board.hour part) (get_or rooms part []) (get_or planned part [])
+        (settled part low).are (are refl part low).are (get_or moved part 0) (told refl part low) zone small is
+    rooms-move is_graph few false planned moved none are told part zone low small is =
+        absurd (true≢false (sym is ∙ ap (λ bits. holds bits zone) (none refl part low) ∙ holds-zero zone))
 
   module _ (old : DeskState) (stands : StandAt (settled_board hour) old) where
     pub rooms-settled : (part : ℕ) → part < 7 → AreRoomsOf (settled_board hour) part (get_or old.rooms part [])

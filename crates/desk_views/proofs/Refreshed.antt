@@ -1,12 +1,16 @@
 -- What a desk's refresh is given, and what it leaves.
-use Rattle.std.proofs.Common.{◌≡◌, ◌∙◌, ◌++◌, ◌<◌, ◌≤◌, ℕ, Bool, true, false, List, [], get_or, length, take, None, unwrap_or, sym, ap, subst, arith}
+use Rattle.std.proofs.Common.{◌≡◌, ◌∙◌, inl, inr, ◌++◌, ◌<◌, ◌≤◌, ℕ, Bool, true, false, List, [], get_or, length, take, None, unwrap_or, refl, sym, ap, subst, arith}
 use Rattle.std.proofs.Math.Seq.{take-append_seam}
+use Rattle.std.proofs.lemmas.Bool.{or_cases, true≢false}
 use Rattle.order_kinds.specs.declared.side.Side.{Side}
 use Rattle.order_kinds.specs.Contract.{contract_at}
 use Rattle.zone_graph.specs.Graph.{Graph, IsGraph, zone_count}
 use Rattle.zone_graph.specs.Grid.{IsGrid}
+use Rattle.cut_proof.specs.ZoneSet.{holds}
+use Rattle.hour_store.specs.Changed.{zones_of}
+use Rattle.local_view.proofs.Bits.{holds-or}
 use Rattle.laws_of_views.specs.Changes.{RoomsDifferWithin}
-use Rattle.kept_hour.specs.Changed.{AreBoards, AreRoomsSettled, AreSeenElsewhere}
+use Rattle.kept_hour.specs.Changed.{AreBoards, AreRoomsSettled, AreSeenElsewhere, AreZonesPlanned}
 use Rattle.kept_hour.specs.State.{HourState, settled_board}
 use Rattle.local_view.specs.Boards.{AreRoomsOf}
 use Rattle.local_view.specs.Kept.{Views, line_of, made_after, views_forgotten}
@@ -15,7 +19,7 @@ use Rattle.desk_views.specs.Desk.{DeskState, forgotten, views_with_made, with_ma
 use Rattle.desk_views.specs.Insides.{IsInside, planned_if}
 use Rattle.desk_views.specs.Moved.{AreMoved, touched_of}
 use Rattle.desk_views.specs.Standing.{AreComing, IsMadeNear, IsNext, StandAt, near_of_parts}
-use Rattle.desk_views.proofs.Next.{differs, is-next, rooms-next, rooms-settled, rooms-within, were-views}
+use Rattle.desk_views.proofs.Next.{differs, is-next, rooms-move, rooms-next, rooms-settled, rooms-within, were-views}
 
 -- a list that was lent as a slice and written back whole
 pub written-back : {X : Type 0} (lent new rest : List X) (many : ℕ) → length lent ≡ many → length new ≡ length lent → take many (new ++ rest) ≡ new
@@ -54,6 +58,11 @@ module _ (views : Views) (rooms planned : List (List (ℕ × ℕ))) (asked : Boo
       ∙ ap (λ next. record { views = views; rooms = rooms; next = next }) (sym no-rooms-next)
       ∙ is
 
+-- no rooms are next where none were asked for
+pub next-unasked : (asked planned : Bool) (rows : List (List (ℕ × ℕ))) → (asked ≡ true → planned ≡ true) → planned ≡ false → planned_if asked rows ≡ None
+next-unasked true planned rows told none = absurd (true≢false (sym (told refl) ∙ none))
+next-unasked false planned rows told none = refl
+
 -- the rooms that are shown are those of the hour as it is settled
 pub shown-settled : (hour : HourState) → AreBoards hour → (views : Views) (rooms planned shown : List (List (ℕ × ℕ))) (asked : Bool) (old : DeskState)
     → record { views = views; rooms = rooms; next = planned_if asked planned } ≡ old → shown ≡ rooms → StandAt (settled_board hour) old
@@ -63,7 +72,7 @@ shown-settled hour boards views rooms planned shown asked old view_is same stand
     (rooms-settled hour boards old stands part low)
 
 -- a refresh of the views and rooms of a desk: of the rooms that are shown, those that are next are written anew if the hour's flows have changed
-module _ (hour : HourState) (boards : AreBoards hour) (grid : Graph) (own : grid ≡ hour.board.grid) (is : IsGrid grid)
+module _ (hour : HourState) (boards : AreBoards hour) (grid : Graph) (own : grid ≡ hour.board.grid) (is_grid : IsGrid grid)
     (views : Views) (rooms planned shown : List (List (ℕ × ℕ))) (was : Bool) (old : DeskState)
     (view_is : record { views = views; rooms = rooms; next = planned_if was planned } ≡ old) (same : shown ≡ rooms) (stands : StandAt (settled_board hour) old)
     (changed moved : List ℕ) (seen : AreSeenElsewhere hour changed) (asked : Bool) (written : List (List (ℕ × ℕ)))
@@ -88,16 +97,22 @@ module _ (hour : HourState) (boards : AreBoards hour) (grid : Graph) (own : grid
   rooms-differ : (part : ℕ) → part < 7
       → RoomsDifferWithin hour.board.grid hour.settled hour.board.events (contract_at hour.board.hour part) (zones_touched hour.board.grid (get_or moved part 0))
   rooms-differ =
-      rooms-within hour boards shown (rooms-settled hour boards kept stands-shown) (subst IsGraph own is.is_graph) (subst (λ g. zone_count g ≤ 64) own is.few_zones) asked written moved still are
+      rooms-within hour boards shown (rooms-settled hour boards kept stands-shown) (subst IsGraph own is_grid.is_graph) (subst (λ g. zone_count g ≤ 64) own is_grid.few_zones) asked written moved still are
       (λ yes part low. subst (λ g. AreMoved g (get_or shown part []) (get_or written part []) (get_or moved part 0)) own (told yes part low))
 
   pub near : (part : ℕ) (side : Side) → part < 7 → WereViews hour.board part side (touched_of changed moved part side) (get_or shown part []) (line_of views part side).kept
   near = were-views hour boards kept stands-shown changed moved seen rooms-differ
 
-  pub near-made : (new : DeskState) → new.views.made ≡ made_after views.made (near_of_parts grid shown (touched_of changed moved) 7) → IsMadeNear hour old new
-  near-made new made = record {
+  pub near-made : AreZonesPlanned hour changed → (asked ≡ false → (part : ℕ) → part < 7 → get_or moved part 0 ≡ 0) → (new : DeskState) → new.views.made ≡ made_after views.made (near_of_parts grid shown (touched_of changed moved) 7) → IsMadeNear hour old new
+  near-made named none new made = record {
     touched = touched_of changed moved;
     differ = differs hour boards kept stands-shown changed moved seen rooms-differ;
+    touches = λ part side zone low small is. elim (or_cases (holds (zones_of changed part side) zone) (holds (get_or moved part 0) zone)
+        (sym (holds-or (zones_of changed part side) (get_or moved part 0) zone) ∙ is)) [
+          | inl order ↦ inl (named part side zone low small order)
+          | inr room ↦ inr (rooms-move hour boards shown (rooms-settled hour boards kept stands-shown) (subst IsGraph own is_grid.is_graph) (subst (λ g. zone_count g ≤ 64) own is_grid.few_zones)
+              asked written moved none are (λ yes p low_p. subst (λ g. AreMoved g (get_or shown p []) (get_or written p []) (get_or moved p 0)) own (told yes p low_p)) part zone low small room)
+        ];
     made =
         made
         ∙ ap (λ (d : DeskState). made_after d.views.made (near_of_parts grid shown (touched_of changed moved) 7)) view_is

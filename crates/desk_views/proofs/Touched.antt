@@ -1,6 +1,6 @@
 -- An hour as it is planned differs from the hour as it is settled in touched zones alone.
-use Rattle.std.proofs.Common.{◌≡◌, ◌∙◌, inl, inr, ℕ, ◌≤◌, ◌==◌, ◌&&◌, ◌||◌, Bool, true, false, not, List, refl, sym, ap, arith, eq-eqb}
-use Rattle.std.proofs.lemmas.Bool.{and_from, and_parts, cases_eq, ne_eqb, true≢false}
+use Rattle.std.proofs.Common.{◌≡◌, ◌≢◌, ◌⊎◌, ◌∙◌, inl, inr, ℕ, ◌<◌, ◌≤◌, ◌==◌, ◌&&◌, ◌||◌, Bool, true, false, not, List, refl, sym, ap, arith, eq-eqb, eqb-true}
+use Rattle.std.proofs.lemmas.Bool.{and_from, and_parts, cases_eq, ne_eqb, or_cases, true≢false}
 use Rattle.std.specs.Int.RustNames.{bit_or}
 use Rattle.std.specs.List.{range_with_len}
 use Rattle.order_kinds.specs.declared.contract.Contract.{Contract}
@@ -11,7 +11,7 @@ use Rattle.zone_graph.specs.Graph.{Graph, HasArc, HasZone, IsGraph, border_count
 use Rattle.zone_graph.specs.Rooms.{room_of}
 use Rattle.zone_graph.specs.Route.{IsIn, has}
 use Rattle.zone_graph.proofs.Again.{or-true}
-use Rattle.zone_graph.proofs.Membership.{IsIn-has, IsIn-range, has-IsIn}
+use Rattle.zone_graph.proofs.Membership.{IsIn-has, IsIn-range, from_range, has-IsIn}
 use Rattle.contract_book.proofs.BookShapes.{any-some}
 use Rattle.market_model.specs.declared.event.Event.{Event}
 use Rattle.market_model.specs.Room.{room}
@@ -19,7 +19,9 @@ use Rattle.laws_of_views.specs.Changes.{AreAmong, RoomsDifferWithin}
 use Rattle.laws_of_views.specs.Nearby.{DifferWithin, is_within, seen_elsewhere}
 use Rattle.local_view.specs.Nearness.{zones_touched}
 use Rattle.desk_views.specs.Moved.{AreMoved, has_moved, is_moved, moves_in}
+use Rattle.cut_proof.specs.ZoneSet.{holds}
 use Rattle.desk_views.proofs.Bits.{among-second, in_touched}
+use Rattle.desk_views.proofs.Lists.{from_some}
 
 within-more : (graph : Graph) (zones others : List ℕ) (arc : Arc) → AreAmong zones others → is_within graph zones arc ≡ true → is_within graph others arc ≡ true
 within-more graph zones others arc among is =
@@ -92,3 +94,35 @@ module _ (graph : Graph) (is : IsGraph graph) (few : zone_count graph ≤ 64) (b
           (touched (ends_of graph arc.border).1 within.1
           (ap (λ b. ((ends_of graph arc.border).0 == (ends_of graph arc.border).1) || b) (eq-eqb (ends_of graph arc.border).1 (ends_of graph arc.border).1 refl)
           ∙ or-true ((ends_of graph arc.border).0 == (ends_of graph arc.border).1)))
+
+  -- and only there
+  pub from-moved : (zone : ℕ) → zone < 64 → holds zones zone ≡ true
+      → (arc : Arc) × HasArc graph arc × ((start_of graph arc ≡ zone) ⊎ (end_of graph arc ≡ zone)) × (room after (contract_quarters contract) arc ≢ room before (contract_quarters contract) arc)
+  from-moved zone small is =
+      let border = from_some (moves_in graph old new zone) (range_with_len 0 (border_count graph)) (sym (moved zone small) ∙ is) in
+      let known : border.0 < border_count graph = (let within = (from_range border.0 0 (border_count graph) border.1).1 in omega (arith, within)) in
+      let both = and_parts (has_moved old new border.0) (((ends_of graph border.0).0 == zone) || ((ends_of graph border.0).1 == zone)) border.2 in
+      let forward = from_arc border.0 both.0 in
+      let arc : Arc = record { border = border.0; forward = forward.0 } in (
+        arc,
+        known,
+        from_ends border.0 forward.0 zone both.1,
+        λ same. true≢false (sym forward.1 ∙ ap not (eq-eqb (room_of old arc) (room_of new arc) (were arc known ∙ sym same ∙ sym (are arc known)))),
+      )
+    where
+      from_arc : (border : ℕ) → has_moved old new border ≡ true → (forward : Bool) × (is_moved old new (record { border = border; forward = forward }) ≡ true)
+      from_arc border is = elim (or_cases (is_moved old new (record { border = border; forward = true })) (is_moved old new (record { border = border; forward = false })) is) [
+        | inl forward ↦ (true, forward)
+        | inr backward ↦ (false, backward)
+      ]
+
+      from_ends : (border : ℕ) (forward : Bool) (end : ℕ) → (((ends_of graph border).0 == end) || ((ends_of graph border).1 == end)) ≡ true
+          → (start_of graph (record { border = border; forward = forward }) ≡ end) ⊎ (end_of graph (record { border = border; forward = forward }) ≡ end)
+      from_ends border forward end is = go forward (or_cases ((ends_of graph border).0 == end) ((ends_of graph border).1 == end) is)
+        where
+          go : (way : Bool) → (((ends_of graph border).0 == end) ≡ true) ⊎ (((ends_of graph border).1 == end) ≡ true)
+              → (start_of graph (record { border = border; forward = way }) ≡ end) ⊎ (end_of graph (record { border = border; forward = way }) ≡ end)
+          go true (inl first) = inl (eqb-true (ends_of graph border).0 end first)
+          go true (inr second) = inr (eqb-true (ends_of graph border).1 end second)
+          go false (inl first) = inr (eqb-true (ends_of graph border).0 end first)
+          go false (inr second) = inl (eqb-true (ends_of graph border).1 end second)

@@ -1,7 +1,9 @@
 //! The views of a desk.
 
-ghost use Rattle.std.specs.Prelude.{◌≡◌, ℕ, ◌<◌, [], None, IfOk, IsOk, OnErr, OnOk, get_or, length};
+ghost use Rattle.std.specs.Prelude.{◌≡◌, ℕ, ◌<◌, [], None, IfOk, IsOk, OnErr, OnOk, false, get_or, length};
+ghost use Rattle.std.specs.List.{list_any};
 ghost use Rattle.local_view.specs.Kept.{kept_of};
+ghost use Rattle.kept_hour.specs.Planned.{moves_flows, planned_of};
 ghost use Rattle.kept_hour.specs.State.{empty_board, settled_board};
 ghost use Rattle.desk_views.specs.Desk.{adopted, forgotten, with_made};
 ghost use Rattle.desk_views.specs.Standing.{IsMadeNear, IsNext, StandAt};
@@ -62,10 +64,10 @@ impl DeskViews {
 
     /// Makes what is next: the views and the rooms of the hour as it is planned. What is kept stays.
     ///
-    /// What is kept is of the hour as it is settled, and nothing is next. Where the hour's flows have not
-    /// changed no rooms are next. Of each part and side only the rows are computed that a zone can reach
-    /// in which an order or a room has changed, and `made` rises by their number; where there is no such
-    /// zone, none are next.
+    /// What is kept is of the hour as it is settled, and nothing is next. Where no planned event is of the
+    /// hour's flows no rooms are next. Of each part and side only the rows are computed that a zone can reach
+    /// in which an order is that a planned event names, or in which an arc begins or ends whose room has
+    /// changed, and `made` rises by their number; where there is no such zone, none are next.
     ///
     /// # Errors
     ///
@@ -78,6 +80,7 @@ impl DeskViews {
         ensures next { OnOk result (IsNext hour.now.board self.new) }
         ensures kept { forgotten self.new ≡ with_made self.old self.new.views.made }
         ensures made { OnOk result (IsMadeNear hour.now self.old self.new) }
+        ensures unasked { list_any moves_flows (planned_of hour.now) ≡ false → OnOk result (self.new.next ≡ None) }
         ensures unplanned { hour.now.board.events ≡ hour.now.settled → IsOk result × (self.new ≡ self.old) }
         ensures failed { OnErr result (forgotten self.new ≡ self.new) }
     {

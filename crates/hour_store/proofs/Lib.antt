@@ -13,3 +13,4 @@ pub mod UndoneBlocks
 pub mod Keeps
 pub mod Noted
 pub mod Stores
+pub mod Noting

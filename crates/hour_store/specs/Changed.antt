@@ -1,11 +1,12 @@
 -- What the noted changes of a store say: in which zones the orders of a part and side have changed, and
 -- whether and over which borders the flows have.
-use Rattle.std.specs.Prelude.{◌≡◌, ℕ, ◌<◌, Bool, true, false, ◌==◌, ◌&&◌, ◌*◌, not, List, filter, get_or, replicate, slice_index_or}
+use Rattle.std.specs.Prelude.{◌≡◌, ◌⊎◌, ℕ, ◌<◌, Bool, true, false, ◌==◌, ◌&&◌, ◌*◌, not, List, filter, get_or, replicate, slice_index_or}
 use Rattle.std.specs.List.{list_any}
+use Rattle.std.specs.Option.{IsSomeAnd}
 use Rattle.order_kinds.specs.declared.side.Side.{Side}
 use Rattle.order_kinds.specs.Same.{same_side}
 use Rattle.contract_book.specs.declared.resting.Resting.{Resting}
-use Rattle.contract_book.specs.Book.{line_number, line_of}
+use Rattle.contract_book.specs.Book.{line_number, line_of, order_of}
 use Rattle.cut_proof.specs.ZoneSet.{holds}
 use Rattle.zone_graph.specs.Graph.{most_borders}
 use Rattle.hour_store.specs.declared.change.Change.{Change}
@@ -34,6 +35,23 @@ changes_flows (change.Offered arc number lots) = true
 changes_flows (change.HaltSet border was) = true
 changes_flows (change.PhaseSet was) = true
 changes_flows _ = false
+
+-- of orders changes are noted more at some places alone, each a part, side and zone
+abbrev pub NotesOrdersAt : (at : (part : ℕ) → Side → (zone : ℕ) → Type 0) → (old new : List Change) → Type 0
+NotesOrdersAt at old new = (part : ℕ) (side : Side) (zone : ℕ) → has_changed new part side zone ≡ true
+    → (has_changed old part side zone ≡ true) ⊎ at part side zone
+
+-- the order of a number rests in a book, and as one of its own part it is of this part and side, in this zone
+abbrev pub RestsAt : (book : List (List Resting)) → (number own : ℕ) → (part : ℕ) → Side → (zone : ℕ) → Type 0
+RestsAt book number own part side zone = IsSomeAnd (order_of book number) (λ order. stands_in part side zone own order ≡ true)
+
+-- no change of an order is noted more
+abbrev pub NotesNoOrder : (old new : List Change) → Type 0
+NotesNoOrder old new = (part : ℕ) (side : Side) (zone : ℕ) → has_changed new part side zone ≡ has_changed old part side zone
+
+-- and none of the flows
+abbrev pub NotesNoFlow : (old new : List Change) → Type 0
+NotesNoFlow old new = list_any changes_flows new ≡ list_any changes_flows old
 
 -- a change is of the flows over a border: of an offer, what flows or a halt there, or of the phase
 abbrev pub changes_over : (border : ℕ) → Change → Bool

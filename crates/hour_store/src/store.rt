@@ -11,7 +11,7 @@ ghost use Rattle.flow_netting.specs.Flows as flow;
 ghost use Rattle.flow_netting.specs.QuarterSet.{has};
 ghost use Rattle.laws_of_hours.specs.Standing.{IsCarried, IsHaltSet, IsIdle, IsOffered};
 ghost use Rattle.hour_store.specs.Contents.{AreSame, Contents, IsOfPart, NothingOverdrawn, OffersInRange};
-ghost use Rattle.hour_store.specs.Changed.{AreChangedBorders, AreChangedZones, changes_flows};
+ghost use Rattle.hour_store.specs.Changed.{AreChangedBorders, AreChangedZones, NotesNoFlow, NotesNoOrder, NotesOrdersAt, RestsAt, changes_flows, stands_in};
 ghost use Rattle.hour_store.specs.Store.{GoesBackTo, StillLeadsBack};
 
 use crate::change::Change;
@@ -152,6 +152,8 @@ impl HourStore {
         ensures rests { OnOk result (self.new.contents ≡ record self.old.contents { book = orders.with_order self.old.contents.book part order }) }
         ensures spare { OnOk result (self.new.spare ≡ self.old.spare - 1) }
         ensures back { StillLeadsBack self.old self.new }
+        ensures noted { OnOk result (NotesOrdersAt (λ own side zone. stands_in own side zone part order ≡ true) self.old.changes self.new.changes) }
+        ensures no_flow { NotesNoFlow self.old.changes self.new.changes }
     {
         let Ok(()) = self.kept.book.rest(part, order) else {
             return Err(Full);
@@ -168,6 +170,8 @@ impl HourStore {
         ensures filled { self.new.contents ≡ record self.old.contents { book = orders.filled self.old.contents.book number lots moment } }
         ensures spare { self.new.spare ≡ self.old.spare - 1 }
         ensures back { StillLeadsBack self.old self.new }
+        ensures noted { NotesOrdersAt (RestsAt self.old.contents.book number part) self.old.changes self.new.changes }
+        ensures no_flow { NotesNoFlow self.old.changes self.new.changes }
     {
         let _ = self.kept.book.len();
         let Some(was) = self.kept.book.get(number) else {
@@ -186,6 +190,8 @@ impl HourStore {
         ensures without { self.new.contents ≡ record self.old.contents { book = orders.without self.old.contents.book number } }
         ensures spare { self.new.spare ≡ self.old.spare - length (option_to_list result) }
         ensures back { StillLeadsBack self.old self.new }
+        ensures noted { NotesOrdersAt (RestsAt self.old.contents.book number part) self.old.changes self.new.changes }
+        ensures no_flow { NotesNoFlow self.old.changes self.new.changes }
     {
         let _ = self.kept.book.len();
         let was = self.kept.book.withdraw(number)?;
@@ -201,6 +207,8 @@ impl HourStore {
         ensures reduced { self.new.contents ≡ record self.old.contents { book = orders.reduced self.old.contents.book number by } }
         ensures spare { self.new.spare ≡ self.old.spare - 1 }
         ensures back { StillLeadsBack self.old self.new }
+        ensures noted { NotesOrdersAt (RestsAt self.old.contents.book number part) self.old.changes self.new.changes }
+        ensures no_flow { NotesNoFlow self.old.changes self.new.changes }
     {
         let _ = self.kept.book.len();
         let Some(was) = self.kept.book.get(number) else {
@@ -223,6 +231,8 @@ impl HourStore {
         ensures rests { OnOk result (self.new.contents ≡ record self.old.contents { blocks = blocks.with_block self.old.contents.blocks block }) }
         ensures spare { OnOk result (self.new.spare ≡ self.old.spare - 1) }
         ensures back { StillLeadsBack self.old self.new }
+        ensures noted { NotesNoOrder self.old.changes self.new.changes }
+        ensures no_flow { NotesNoFlow self.old.changes self.new.changes }
     {
         let Ok(()) = self.kept.blocks.rest(block) else {
             return Err(Full);
@@ -241,6 +251,8 @@ impl HourStore {
         ensures without { self.new.contents ≡ record self.old.contents { blocks = blocks.without self.old.contents.blocks number } }
         ensures spare { self.new.spare ≡ self.old.spare - length (option_to_list result) }
         ensures back { StillLeadsBack self.old self.new }
+        ensures noted { NotesNoOrder self.old.changes self.new.changes }
+        ensures no_flow { NotesNoFlow self.old.changes self.new.changes }
     {
         let _ = self.kept.blocks.len();
         let was = self.kept.blocks.withdraw(number)?;
@@ -258,6 +270,7 @@ impl HourStore {
         ensures blocks { self.new.contents.blocks ≡ self.old.contents.blocks }
         ensures spare { self.new.spare ≡ self.old.spare - length route.now }
         ensures back { StillLeadsBack self.old self.new }
+        ensures noted { NotesNoOrder self.old.changes self.new.changes }
     {
         self.carry_arcs(route.as_slice(), set, lots);
     }
@@ -272,6 +285,7 @@ impl HourStore {
         ensures blocks { self.new.contents.blocks ≡ self.old.contents.blocks }
         ensures spare { self.new.spare ≡ self.old.spare - length route.now }
         ensures back { StillLeadsBack self.old self.new }
+        ensures noted { NotesNoOrder self.old.changes self.new.changes }
     {
         for arc in route {
             self.grant(*arc, set, lots);
@@ -288,6 +302,7 @@ impl HourStore {
         ensures blocks { self.new.contents.blocks ≡ self.old.contents.blocks }
         ensures spare { self.new.spare ≡ self.old.spare - 1 }
         ensures back { StillLeadsBack self.old self.new }
+        ensures noted { NotesNoOrder self.old.changes self.new.changes }
     {
         self.log.note(Change::Carried { arc, set, lots });
         grant_in(&mut self.kept.flows, arc, set, lots);
@@ -305,6 +320,7 @@ impl HourStore {
         ensures blocks { self.new.contents.blocks ≡ self.old.contents.blocks }
         ensures spare { self.old.spare ≤ self.new.spare + 4 }
         ensures back { StillLeadsBack self.old self.new }
+        ensures noted { NotesNoOrder self.old.changes self.new.changes }
     {
         for number in 1..5 {
             self.offer_if(set.contains(number), arc, number, lots);
@@ -324,6 +340,7 @@ impl HourStore {
         ensures blocks { self.new.contents.blocks ≡ self.old.contents.blocks }
         ensures spare { self.old.spare ≤ self.new.spare + 1 }
         ensures back { StillLeadsBack self.old self.new }
+        ensures noted { NotesNoOrder self.old.changes self.new.changes }
     {
         if !counts {
             return;
@@ -346,6 +363,7 @@ impl HourStore {
         ensures blocks { self.new.contents.blocks ≡ self.old.contents.blocks }
         ensures spare { self.new.spare ≡ self.old.spare - 1 }
         ensures back { StillLeadsBack self.old self.new }
+        ensures noted { NotesNoOrder self.old.changes self.new.changes }
     {
         let was = self.kept.flows.halted(border);
         self.log.note(Change::HaltSet { border, was });
@@ -360,6 +378,7 @@ impl HourStore {
         ensures blocks { self.new.contents.blocks ≡ self.old.contents.blocks }
         ensures spare { self.new.spare ≡ self.old.spare - 1 }
         ensures back { StillLeadsBack self.old self.new }
+        ensures noted { NotesNoOrder self.old.changes self.new.changes }
     {
         let was = self.kept.flows.phase();
         self.log.note(Change::PhaseSet { was });

@@ -12,6 +12,7 @@ use Rattle.hour_store.specs.Store.{Store}
 use Rattle.kept_hour.specs.Kept.{AreOf, IsKept, hour_of}
 use Rattle.kept_hour.specs.State.{empty_board}
 use Rattle.kept_hour.proofs.Keeping.{leads-here}
+use Rattle.kept_hour.proofs.Noting.{noted-none}
 
 module _ (grid : Graph) (number : ℕ) (store : Store) (is_graph : IsGraph grid) (no_order : store.contents.book ≡ replicate (2 * 7) [])
     (no_block : store.contents.blocks ≡ []) (is_idle : IsIdle grid store.contents.flows) (settled : store.changes ≡ []) where
@@ -38,6 +39,7 @@ module _ (grid : Graph) (number : ℕ) (store : Store) (is_graph : IsGraph grid)
       target = store.contents;
       back = leads-here store settled;
       target_of = contents;
+      noted = noted-none (hour_of grid number [] 0 None) store.changes refl refl settled;
     };
   }
 

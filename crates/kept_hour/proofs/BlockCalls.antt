@@ -15,6 +15,7 @@ use Rattle.laws_of_hours.specs.Standing.{Stands}
 use Rattle.laws_of_hours.specs.BlockEvents.{RestsAsBlock}
 use Rattle.laws_of_hours.proofs.BlockEntries.{enters}
 use Rattle.laws_of_hours.proofs.Numbers.{count-more, one_if}
+use Rattle.hour_store.specs.Changed.{NotesNoFlow, NotesNoOrder}
 use Rattle.hour_store.specs.Contents.{Contents}
 use Rattle.hour_store.specs.Store.{StillLeadsBack, Store}
 use Rattle.kept_hour.specs.Kept.{IsKept, hour_of}
@@ -23,6 +24,7 @@ use Rattle.kept_hour.proofs.BoardCalls.{leads-through, same-leads}
 use Rattle.kept_hour.proofs.Changing.{bare-book}
 use Rattle.kept_hour.proofs.Entering.{free-count}
 use Rattle.kept_hour.proofs.Keeping.{own}
+use Rattle.kept_hour.proofs.Noting.{notes-nothing}
 use Rattle.kept_hour.proofs.Wrapped.{kept-by, to-own}
 
 module _ (grid : Graph) (number : ℕ) (events : List Event) (settled : ℕ) (hand : Option ℕ) (numbers settled_numbers : ℕ) (store : Store)
@@ -76,8 +78,9 @@ module _ (grid : Graph) (number : ℕ) (events : List Event) (settled : ℕ) (ha
       → after ≡ events ++ event.EnteredBlock (record { hour = number; number = numbers + 1 }) caller order ∷ []
       → moment ≡ length after → given ≡ entered_resting_block (record { hour = number; number = numbers + 1 }) caller order moment
       → new.contents ≡ record reserved.contents { blocks = with_block reserved.contents.blocks given } → StillLeadsBack reserved new
+      → NotesNoOrder reserved.changes new.changes → NotesNoFlow reserved.changes new.changes
       → IsKept (hour_of grid number after settled hand) settled (numbers + 1) settled_numbers new
-  block-kept after new given moment after_is moment_is given_is contents_are back =
+  block-kept after new given moment after_is moment_is given_is contents_are back noted no_flow =
       let entry : Event = block_entry_of mine caller order in
       let long = length-append events (entry ∷ []) in
       let as_named : after ≡ events ++ entry ∷ [] =
@@ -105,4 +108,6 @@ module _ (grid : Graph) (number : ℕ) (events : List Event) (settled : ℕ) (ha
             let now = kept.keeps.numbered in omega (arith, more, one, now));
         in_hand = λ other holds. absurd (let no : ⊥ = cc in no);
         back = leads-through store reserved new (same-leads store reserved same_contents same_changes) back;
+        noted = notes-nothing mine (entry ∷ []) store.changes new.changes (subst (λ cs. NotesNoOrder cs new.changes) same_changes noted)
+            (subst (λ cs. NotesNoFlow cs new.changes) same_changes no_flow);
       }))

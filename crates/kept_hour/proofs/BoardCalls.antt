@@ -17,10 +17,12 @@ use Rattle.market_model.specs.Board.{CanBeMade, Rests, RestsIn, resting_line, sh
 use Rattle.laws_of_books.proofs.Updates.{from_stands}
 use Rattle.laws_of_hours.proofs.Entries.{in-orders}
 use Rattle.laws_of_hours.proofs.OrderlyBooks.{orders_in}
+use Rattle.hour_store.specs.declared.change.Change.{Change}
+use Rattle.hour_store.specs.Contents.{Contents}
 use Rattle.hour_store.specs.Store.{StillLeadsBack, Store}
 use Rattle.hour_store.specs.TakenBack.{LeadsBack}
 use Rattle.kept_hour.specs.Kept.{IsKept, hour_of}
-use Rattle.kept_hour.specs.Legs.{CanMakeIn, IsMadeIn}
+use Rattle.kept_hour.specs.Legs.{CanMakeIn, IsMadeIn, NotesLeg}
 use Rattle.kept_hour.specs.Showing.{shown_record}
 use Rattle.kept_hour.specs.State.{HourState}
 use Rattle.kept_hour.proofs.Keeping.{own}
@@ -33,6 +35,11 @@ pub same-leads : (old new : Store) → new.contents ≡ old.contents → new.cha
 same-leads old new contents changes target leads =
     subst (λ rs. LeadsBack (reverse rs) new.contents target) (sym changes)
     (subst (λ c. LeadsBack (reverse old.changes) c target) (sym contents) leads)
+
+-- what is said of its contents and changes is said of those
+pub from-reserved : (P : Contents → List Change → Type 0) (old new : Store) → new.contents ≡ old.contents → new.changes ≡ old.changes
+    → P new.contents new.changes → P old.contents old.changes
+from-reserved P old new contents changes holds = subst (λ cs. P old.contents cs) changes (subst (λ c. P c new.changes) contents holds)
 
 pub leads-through : (a b c : Store) → StillLeadsBack a b → StillLeadsBack b c → StillLeadsBack a c
 leads-through a b c one two target leads = two target (one target leads)
@@ -96,12 +103,15 @@ module _ (grid : Graph) (number : ℕ) (events : List Event) (settled : ℕ) (ha
         (can-make mine numbers settled_numbers store kept.keeps part low_own leg can_own))
 
     pub made-kept : (new : Store) → IsMadeIn hand part leg moment reserved.contents new.contents → StillLeadsBack reserved new
+        → NotesLeg hand part leg moment reserved.contents.book reserved.changes new.changes
         → IsKept (hour_of grid number after settled hand) settled numbers settled_numbers new
-    made-kept new made back =
+    made-kept new made back noted =
         kept-by grid number events settled hand numbers settled_numbers store kept seen view_is
         (event.Leg (contract_at number part) leg) hand numbers new after
         (after_is ∙ ap₂ (λ k l. events ++ event.Leg k l ∷ []) contract_is copy_is)
         (made-next mine numbers settled_numbers store kept.keeps part low_own leg can_own new
         (subst (λ n. IsMadeIn hand part leg n store.contents new.contents) moment-own
         (subst (λ c. IsMadeIn hand part leg moment c new.contents) same_contents made))
-        (leads-through store reserved new (same-leads store reserved same_contents same_changes) back))
+        (leads-through store reserved new (same-leads store reserved same_contents same_changes) back)
+        (subst (λ n. NotesLeg hand part leg n store.contents.book store.changes new.changes) moment-own
+        (from-reserved (λ c cs. NotesLeg hand part leg moment c.book cs new.changes) store reserved same_contents same_changes noted)))

@@ -42,8 +42,9 @@ use Rattle.hour_store.specs.Contents.{AreAlikeOver}
 use Rattle.hour_store.specs.Store.{Store}
 use Rattle.hour_store.proofs.BordersChange.{borders-change}
 use Rattle.hour_store.proofs.ChangesLeave.{flows-change, lines-change}
-use Rattle.kept_hour.specs.Changed.{AreRoomsSettled, AreRoomsSettledBut, AreSeenElsewhere, HasTouched}
+use Rattle.kept_hour.specs.Changed.{AreRoomsSettled, AreRoomsSettledBut, AreSeenElsewhere, AreZonesPlanned, HasTouched}
 use Rattle.kept_hour.specs.Kept.{IsKept}
+use Rattle.kept_hour.specs.Planned.{moves_flows, planned_of}
 use Rattle.kept_hour.specs.State.{HourState}
 use Rattle.kept_hour.proofs.Keeping.{alike-stands, own}
 use Rattle.kept_hour.proofs.Shows.{known-at, number-at}
@@ -115,7 +116,7 @@ module _ (graph : Graph) (hour : ℕ) (events : List Event) (of : IsHourOf graph
         ap (is_untouched changes part side) from.2 ∙ out-untouched from.0 from.1 (ap is_out (sym from.2) ∙ out))))
 
 -- the line of a book
-line-of-book : (events : List Event) (hour part : ℕ) (side : Side) → part < 7 → line_of (book_of events hour) part side ≡ map resting_of (line events (contract_at hour part) side)
+pub line-of-book : (events : List Event) (hour part : ℕ) (side : Side) → part < 7 → line_of (book_of events hour) part side ≡ map resting_of (line events (contract_at hour part) side)
 line-of-book events hour part side low =
     ap (λ n. line_of (book_of events hour) n side) (sym (number-at part low)) ∙ line_of-book events hour (part_at part) side (known-at part low)
 
@@ -165,6 +166,13 @@ module _ (grid : Graph) (number : ℕ) (events : List Event) (settled : ℕ) (ha
       ∙ ap seen_in (lines-change store keeps.target part side keeps.back)
       ∙ ap (λ l. seen_in (filter (is_untouched store.changes part side) l)) (ap (λ b. line_of b part side) keeps.target_of.book ∙ then)
       ∙ sym (seen-untouched grid number (take settled events) keeps.settled.stands part side small store.changes touched are low zones among))
+
+  pub zones-planned : (touched : List ℕ) → AreChangedZones store.changes touched → AreZonesPlanned seen touched
+  zones-planned touched are =
+      subst (λ h. AreZonesPlanned h touched) view_is (λ part side zone low small is. kept.keeps.noted.orders part side zone low (sym (are part side zone low small) ∙ is))
+
+  pub flows-planned : list_any changes_flows store.changes ≡ true → list_any moves_flows (planned_of seen) ≡ true
+  flows-planned is = subst (λ h. list_any moves_flows (planned_of h) ≡ true) view_is (kept.keeps.noted.flows is)
 
   pub rooms-settled : list_any changes_flows store.changes ≡ false → AreRoomsSettled seen
   rooms-settled none =

@@ -6,7 +6,7 @@ use Rattle.block_match.specs.Market.{deal_events}
 use Rattle.market_model.specs.declared.event.Event.{Event}
 use Rattle.hour_store.specs.Contents.{Contents}
 use Rattle.hour_store.specs.Store.{StillLeadsBack, Store}
-use Rattle.kept_hour.specs.Deals.{CanCarryAll, ClosesBoth, IsDealtIn}
+use Rattle.kept_hour.specs.Deals.{CanCarryAll, ClosesBoth, IsDealtIn, NotesDeal}
 use Rattle.kept_hour.specs.Kept.{IsKept, hour_of}
 use Rattle.kept_hour.specs.Planned.{CanFollow}
 use Rattle.kept_hour.specs.State.{HourState}
@@ -39,8 +39,8 @@ module _ (grid : Graph) (number : ℕ) (events : List Event) (settled : ℕ) (ha
 
   pub dealt-kept : (seen.board.hour ≡ first → ClosesBoth seen first last deal) → (after : List Event) → after ≡ events ++ deal_events first last deal
       → (new : Store) → IsDealtIn (number == first) deal reserved.contents new.contents → StillLeadsBack reserved new
-      → IsKept (hour_of grid number after settled hand) settled numbers settled_numbers new
-  dealt-kept whole after is new made back =
+      → NotesDeal deal reserved.changes new.changes → IsKept (hour_of grid number after settled hand) settled numbers settled_numbers new
+  dealt-kept whole after is new made back noted =
       let whole_own : number ≡ first → ClosesBoth mine first last deal = here (λ h. h.board.hour ≡ first → ClosesBoth h first last deal) whole in
       let long = length-append events (deal_events first last deal) in
       subst (λ es. IsKept (hour_of grid number es settled hand) settled numbers settled_numbers new) (sym is)
@@ -49,5 +49,6 @@ module _ (grid : Graph) (number : ℕ) (events : List Event) (settled : ℕ) (ha
         first_part = (let few = kept.first_part in omega (arith, few, long));
         keeps = dealt-keeps mine numbers settled_numbers store kept.keeps free_own first last deal next_own whole_own new
             (subst (λ c. IsDealtIn (number == first) deal c new.contents) same_contents made)
-            (leads-through store reserved new (same-leads store reserved same_contents same_changes) back);
+            (leads-through store reserved new (same-leads store reserved same_contents same_changes) back)
+            (subst (λ cs. NotesDeal deal cs new.changes) same_changes noted);
       }))

@@ -29,12 +29,13 @@ use Rattle.laws_of_hours.proofs.NextEvents.{first_of_many, next}
 use Rattle.laws_of_hours.proofs.Numbers.{count-more, one_if}
 use Rattle.laws_of_hours.proofs.OpenCounts.{all_rest}
 use Rattle.hour_store.specs.Store.{StillLeadsBack, Store}
-use Rattle.kept_hour.specs.Deals.{CanCarryAll, ClosesBoth, IsDealtIn, dealt_entry, with_entry}
+use Rattle.kept_hour.specs.Deals.{CanCarryAll, ClosesBoth, IsDealtIn, NotesDeal, dealt_entry, with_entry}
 use Rattle.kept_hour.specs.Kept.{Keeps}
 use Rattle.kept_hour.specs.Planned.{CanFollow, after_events}
 use Rattle.kept_hour.specs.State.{HourState, block_entry_of}
 use Rattle.kept_hour.proofs.Changing.{bare-book, few-before}
 use Rattle.kept_hour.proofs.MadeDeals.{IsDealt, both-out, can-carry, dealt, stand-after}
+use Rattle.kept_hour.proofs.Noting.{deal-flows, noted-next, notes-plain}
 
 -- ---- books
 
@@ -148,8 +149,8 @@ module _ (hour : HourState) (numbers settled_numbers : ℕ) (store : Store) (kee
         omega (arith, now, was, few, book, blocks, one, two)
 
     pub entry-keeps : (new : Store) → IsDealtIn true deal store.contents new.contents → StillLeadsBack store new
-        → Keeps (after_events hour (dealt_entry hour caller order deal)) (numbers + 1) settled_numbers new
-    entry-keeps new made back = record {
+        → NotesDeal deal store.changes new.changes → Keeps (after_events hour (dealt_entry hour caller order deal)) (numbers + 1) settled_numbers new
+    entry-keeps new made back noted = record {
       board = record {
         stands = follows;
         few = subst (λ es. resting_count es hour.board.hour None ≤ desk_room) whole-is few-after;
@@ -170,4 +171,7 @@ module _ (hour : HourState) (numbers settled_numbers : ℕ) (store : Store) (kee
       target = keeps.target;
       back = back keeps.target keeps.back;
       target_of = keeps.target_of;
+      noted = noted-next hour (dealt_entry hour caller order deal) None store.changes new.changes keeps.noted
+          (notes-plain hour (dealt_entry hour caller order deal) store.changes new.changes noted.orders
+          (deal-flows order.first order.last deal store.changes new.changes noted));
     }

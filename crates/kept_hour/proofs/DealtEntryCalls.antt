@@ -9,7 +9,7 @@ use Rattle.market_model.specs.declared.event.Event.TheVariants as event
 use Rattle.market_model.specs.Orders.{next_name}
 use Rattle.hour_store.specs.Contents.{Contents}
 use Rattle.hour_store.specs.Store.{StillLeadsBack, Store}
-use Rattle.kept_hour.specs.Deals.{CanCarryAll, ClosesBoth, IsDealtIn, dealt_entry, with_entry}
+use Rattle.kept_hour.specs.Deals.{CanCarryAll, ClosesBoth, IsDealtIn, NotesDeal, dealt_entry, with_entry}
 use Rattle.kept_hour.specs.Kept.{IsKept, hour_of}
 use Rattle.kept_hour.specs.Planned.{CanFollow}
 use Rattle.kept_hour.specs.State.{HourState}
@@ -44,8 +44,8 @@ module _ (grid : Graph) (number : ℕ) (events : List Event) (settled : ℕ) (ha
       → (after : List Event)
       → after ≡ events ++ event.EnteredBlock (record { hour = number; number = numbers + 1 }) caller order ∷ deal_events order.first order.last deal
       → (new : Store) → IsDealtIn true deal reserved.contents new.contents → StillLeadsBack reserved new
-      → IsKept (hour_of grid number after settled hand) settled (numbers + 1) settled_numbers new
-  entry-kept takes whole after after_is new made back =
+      → NotesDeal deal reserved.changes new.changes → IsKept (hour_of grid number after settled hand) settled (numbers + 1) settled_numbers new
+  entry-kept takes whole after after_is new made back noted =
       let takes_own : deal.taker ≡ (next_name events number).number = here (λ h. deal.taker ≡ (next_name h.board.events h.board.hour).number) takes in
       let whole_own : ClosesBoth (with_entry mine caller order) order.first order.last deal =
       here (λ h. ClosesBoth (with_entry h caller order) order.first order.last deal) whole in
@@ -61,5 +61,6 @@ module _ (grid : Graph) (number : ℕ) (events : List Event) (settled : ℕ) (ha
         first_part = (let few = kept.first_part in omega (arith, few, long));
         keeps = entry-keeps mine numbers settled_numbers store kept.keeps free_own caller order deal next_own takes_own whole_own new
             (subst (λ c. IsDealtIn true deal c new.contents) same_contents made)
-            (leads-through store reserved new (same-leads store reserved same_contents same_changes) back);
+            (leads-through store reserved new (same-leads store reserved same_contents same_changes) back)
+            (subst (λ cs. NotesDeal deal cs new.changes) same_changes noted);
       }))

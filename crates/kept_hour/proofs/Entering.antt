@@ -1,5 +1,5 @@
 -- An order enters a kept hour.
-use Rattle.std.proofs.Common.{◌≡◌, ◌∙◌, inl, ℕ, ◌+◌, ◌≤◌, List, [], ◌∷◌, length, Some, None, eq-eqb, refl, sym, ap, subst, arith}
+use Rattle.std.proofs.Common.{◌≡◌, ◌∙◌, inl, inr, ℕ, ◌+◌, ◌≤◌, List, [], ◌∷◌, length, Some, None, eq-eqb, refl, sym, ap, subst, arith}
 use Rattle.order_kinds.specs.declared.order.Order.{Order}
 use Rattle.order_kinds.specs.declared.order.OrderName.{OrderName}
 use Rattle.zone_graph.proofs.Membership.{IsIn-right}
@@ -17,6 +17,7 @@ use Rattle.kept_hour.specs.Kept.{Keeps}
 use Rattle.kept_hour.specs.State.{CanBeNext, HourState, entry_of, name_in}
 use Rattle.kept_hour.proofs.Keeping.{KeepsNext}
 use Rattle.kept_hour.proofs.Lists.{all-pass}
+use Rattle.kept_hour.proofs.NamedOrders.{named-zone}
 
 -- with no order in hand all open names count
 pub free-count : (events : List Event) (hour : ℕ) → resting_count events hour None ≡ length (open_names events hour)
@@ -59,4 +60,11 @@ module _ (hour : HourState) (numbers settled_numbers : ℕ) (store : Store) (kee
           ap (name_in hour) same,
         );
     back = λ target leads. leads;
+    noted = record {
+      orders = λ part side zone low is. inl is;
+      held = λ number order is there named.
+          let same : name.number ≡ number = cc in
+          inr (named-zone hour.board.events entry order there (inl (named ∙ ap (name_in hour) (sym same))));
+      flows = λ is. inl is;
+    };
   }

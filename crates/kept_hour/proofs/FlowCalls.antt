@@ -17,13 +17,15 @@ use Rattle.laws_of_hours.specs.Standing.{IsCarried, IsHaltSet, IsOffered, Stands
 use Rattle.laws_of_hours.specs.OrderEvents.{CanReduce}
 use Rattle.laws_of_hours.proofs.FlowChanges.{grants_fit, halts_fit, offers_fit, resumptions_fit}
 use Rattle.laws_of_hours.proofs.Reduced.{is_reduced}
+use Rattle.hour_store.specs.Changed.{NotesNoOrder}
 use Rattle.hour_store.specs.Contents.{Contents, IsOfPart}
 use Rattle.hour_store.specs.Store.{StillLeadsBack, Store}
 use Rattle.kept_hour.specs.Kept.{IsKept, hour_of}
 use Rattle.kept_hour.specs.State.{CanBeNext, HourState, gate_of, grant_of, halt_of, name_in, offer_of, reduction_of, resumption_of, withdrawal_of}
-use Rattle.kept_hour.proofs.BoardCalls.{leads-through, same-leads}
+use Rattle.kept_hour.proofs.BoardCalls.{from-reserved, leads-through, same-leads}
 use Rattle.kept_hour.proofs.Changing.{bare-book, gated-next, granted-next, halted-next, offered-next, reduced-next, resumed-next, withdrawn-next}
 use Rattle.kept_hour.proofs.Keeping.{KeepsNext, own}
+use Rattle.kept_hour.proofs.NamedOrders.{IsFoundIn, NotesChanged}
 use Rattle.kept_hour.proofs.Wrapped.{kept-by, to-own}
 
 module _ (grid : Graph) (number : ℕ) (events : List Event) (settled : ℕ) (hand : Option ℕ) (numbers settled_numbers : ℕ) (store : Store)
@@ -56,42 +58,54 @@ module _ (grid : Graph) (number : ℕ) (events : List Event) (settled : ℕ) (ha
     back_own : StillLeadsBack store new
     back_own = leads-through store reserved new (same-leads store reserved same_contents same_changes) back
 
+    changed_own : (part changed : ℕ) → NotesChanged reserved.contents.book part changed reserved.changes new.changes
+        → NotesChanged store.contents.book part changed store.changes new.changes
+    changed_own part changed noted =
+        from-reserved (λ c cs. NotesChanged c.book part changed cs new.changes) store reserved same_contents same_changes noted
+
     -- ---- orders and blocks
 
     pub withdrawn-kept : (withdrawn lots : ℕ) → CanBeNext seen (withdrawal_of seen withdrawn lots) → after ≡ events ++ withdrawal_of mine withdrawn lots ∷ []
         → new.contents.book ≡ without reserved.contents.book withdrawn → new.contents.blocks ≡ block_books.without reserved.contents.blocks withdrawn
-        → new.contents.flows ≡ reserved.contents.flows
+        → new.contents.flows ≡ reserved.contents.flows → (part : ℕ) → IsFoundIn seen part withdrawn
+        → NotesChanged reserved.contents.book part withdrawn reserved.changes new.changes
         → IsKept (hour_of grid number after settled hand) settled numbers settled_numbers new
-    withdrawn-kept withdrawn lots next is book blocks flows =
+    withdrawn-kept withdrawn lots next is book blocks flows part of_part noted =
         kept-bare (withdrawal_of mine withdrawn lots) after is new
         (withdrawn-next mine numbers settled_numbers store kept.keeps free_own withdrawn lots (here (λ h. CanBeNext h (withdrawal_of h withdrawn lots)) next) new
         (book ∙ ap (λ (c : Contents). without c.book withdrawn) same_contents) (blocks ∙ ap (λ (c : Contents). block_books.without c.blocks withdrawn) same_contents)
-        (flows ∙ ap (λ (c : Contents). c.flows) same_contents) back_own)
+        (flows ∙ ap (λ (c : Contents). c.flows) same_contents) back_own part (here (λ h. IsFoundIn h part withdrawn) of_part) (changed_own part withdrawn noted))
 
     pub reduced-kept : (lessened by : ℕ) → CanBeNext seen (reduction_of seen lessened by) → after ≡ events ++ reduction_of mine lessened by ∷ []
-        → new.contents ≡ record reserved.contents { book = reduced reserved.contents.book lessened by }
+        → new.contents ≡ record reserved.contents { book = reduced reserved.contents.book lessened by } → (part : ℕ) → IsFoundIn seen part lessened
+        → NotesChanged reserved.contents.book part lessened reserved.changes new.changes
         → IsKept (hour_of grid number after settled hand) settled numbers settled_numbers new
-    reduced-kept lessened by next is contents =
+    reduced-kept lessened by next is contents part of_part noted =
         kept-bare (reduction_of mine lessened by) after is new
         (reduced-next mine numbers settled_numbers store kept.keeps free_own lessened by (here (λ h. CanBeNext h (reduction_of h lessened by)) next) new
         (ap (λ (c : Contents). c.book) contents ∙ ap (λ (c : Contents). reduced c.book lessened by) same_contents)
         (ap (λ (c : Contents). c.blocks) contents ∙ ap (λ (c : Contents). c.blocks) same_contents)
-        (ap (λ (c : Contents). c.flows) contents ∙ ap (λ (c : Contents). c.flows) same_contents) back_own)
+        (ap (λ (c : Contents). c.flows) contents ∙ ap (λ (c : Contents). c.flows) same_contents) back_own part (here (λ h. IsFoundIn h part lessened) of_part)
+        (changed_own part lessened noted))
 
     -- ---- flows
 
-    module _ (book : new.contents.book ≡ reserved.contents.book) (blocks : new.contents.blocks ≡ reserved.contents.blocks) where
+    module _ (book : new.contents.book ≡ reserved.contents.book) (blocks : new.contents.blocks ≡ reserved.contents.blocks)
+        (noted : NotesNoOrder reserved.changes new.changes) where
       book_own : new.contents.book ≡ store.contents.book
       book_own = book ∙ ap (λ (c : Contents). c.book) same_contents
 
       blocks_own : new.contents.blocks ≡ store.contents.blocks
       blocks_own = blocks ∙ ap (λ (c : Contents). c.blocks) same_contents
 
+      noted_own : NotesNoOrder store.changes new.changes
+      noted_own = subst (λ cs. NotesNoOrder cs new.changes) same_changes noted
+
       pub halted-kept : (border first last : ℕ) → CanBeNext seen (halt_of border first last) → after ≡ events ++ halt_of border first last ∷ []
           → IsHaltSet border true reserved.contents.flows new.contents.flows → IsKept (hour_of grid number after settled hand) settled numbers settled_numbers new
       halted-kept border first last next is set =
           kept-bare (halt_of border first last) after is new
-          (halted-next mine numbers settled_numbers store kept.keeps free_own new book_own blocks_own back_own border first last
+          (halted-next mine numbers settled_numbers store kept.keeps free_own new book_own blocks_own back_own noted_own border first last
           (here (λ h. CanBeNext h (halt_of border first last)) next)
           (subst (λ (c : Contents). IsHaltSet border true c.flows new.contents.flows) same_contents set))
 
@@ -99,7 +113,7 @@ module _ (grid : Graph) (number : ℕ) (events : List Event) (settled : ℕ) (ha
           → IsHaltSet border false reserved.contents.flows new.contents.flows → IsKept (hour_of grid number after settled hand) settled numbers settled_numbers new
       resumed-kept border first last next is set =
           kept-bare (resumption_of border first last) after is new
-          (resumed-next mine numbers settled_numbers store kept.keeps free_own new book_own blocks_own back_own border first last
+          (resumed-next mine numbers settled_numbers store kept.keeps free_own new book_own blocks_own back_own noted_own border first last
           (here (λ h. CanBeNext h (resumption_of border first last)) next)
           (subst (λ (c : Contents). IsHaltSet border false c.flows new.contents.flows) same_contents set))
 
@@ -107,7 +121,7 @@ module _ (grid : Graph) (number : ℕ) (events : List Event) (settled : ℕ) (ha
           → new.contents.flows ≡ record reserved.contents.flows { phase = phase } → IsKept (hour_of grid number after settled hand) settled numbers settled_numbers new
       gated-kept phase next is set =
           kept-bare (gate_of mine phase) after is new
-          (gated-next mine numbers settled_numbers store kept.keeps free_own new book_own blocks_own back_own phase
+          (gated-next mine numbers settled_numbers store kept.keeps free_own new book_own blocks_own back_own noted_own phase
           (here (λ h. CanBeNext h (gate_of h phase)) next)
           (subst (λ (c : Contents). new.contents.flows ≡ record c.flows { phase = phase }) same_contents set))
 
@@ -116,7 +130,7 @@ module _ (grid : Graph) (number : ℕ) (events : List Event) (settled : ℕ) (ha
           → IsOffered arc counts lots reserved.contents.flows new.contents.flows → IsKept (hour_of grid number after settled hand) settled numbers settled_numbers new
       offered-kept arc first last lots counts next is in_range offered =
           kept-bare (offer_of arc first last lots) after is new
-          (offered-next mine numbers settled_numbers store kept.keeps free_own new book_own blocks_own back_own arc first last lots counts
+          (offered-next mine numbers settled_numbers store kept.keeps free_own new book_own blocks_own back_own noted_own arc first last lots counts
           (here (λ h. CanBeNext h (offer_of arc first last lots)) next) in_range
           (subst (λ (c : Contents). IsOffered arc counts lots c.flows new.contents.flows) same_contents offered))
 
@@ -125,7 +139,7 @@ module _ (grid : Graph) (number : ℕ) (events : List Event) (settled : ℕ) (ha
           → IsCarried (same_arc arc) counts lots reserved.contents.flows new.contents.flows → IsKept (hour_of grid number after settled hand) settled numbers settled_numbers new
       granted-kept arc first last lots counts next is in_range carried =
           kept-bare (grant_of arc first last lots) after is new
-          (granted-next mine numbers settled_numbers store kept.keeps free_own new book_own blocks_own back_own arc first last lots counts
+          (granted-next mine numbers settled_numbers store kept.keeps free_own new book_own blocks_own back_own noted_own arc first last lots counts
           (here (λ h. CanBeNext h (grant_of arc first last lots)) next) in_range
           (subst (λ (c : Contents). IsCarried (same_arc arc) counts lots c.flows new.contents.flows) same_contents carried))
 

@@ -13,7 +13,7 @@ use Rattle.hour_store.specs.Store.{StillLeadsBack, Store}
 use Rattle.kept_hour.specs.Kept.{IsKept, hour_of}
 use Rattle.kept_hour.specs.State.{HourState}
 use Rattle.kept_hour.proofs.BoardCalls.{leads-through, same-leads}
-use Rattle.kept_hour.proofs.Hands.{hand-absent, hand-fits, hand-part, hand-sound, rested-keeps}
+use Rattle.kept_hour.proofs.Hands.{NotesRested, hand-absent, hand-fits, hand-part, hand-sound, rested-keeps}
 use Rattle.kept_hour.proofs.Keeping.{own}
 use Rattle.kept_hour.proofs.Wrapped.{to-own}
 
@@ -52,10 +52,11 @@ module _ (grid : Graph) (number : ℕ) (events : List Event) (settled : ℕ) (ha
   })
 
   pub rested-kept : (new : Store) → new.contents ≡ record reserved.contents { book = with_order reserved.contents.book part order } → StillLeadsBack reserved new
-      → IsKept (hour_of grid number events settled None) settled numbers settled_numbers new
-  rested-kept new is back = record {
+      → NotesRested part order reserved.changes new.changes → IsKept (hour_of grid number events settled None) settled numbers settled_numbers new
+  rested-kept new is back noted = record {
     first_part = kept.first_part;
     keeps = rested-keeps mine numbers settled_numbers store kept.keeps part order held_own of_part_own few_own new
         (subst (λ (c : Contents). new.contents ≡ record c { book = with_order c.book part order }) same_contents is)
-        (leads-through store reserved new (same-leads store reserved same_contents same_changes) back);
+        (leads-through store reserved new (same-leads store reserved same_contents same_changes) back)
+        low (subst (λ cs. NotesRested part order cs new.changes) same_changes noted);
   }

@@ -1,5 +1,5 @@
 -- The order in hand of a kept hour comes to rest, is dropped or is withdrawn.
-use Rattle.std.proofs.Common.{◌≡◌, ◌≢◌, ◌∙◌, inl, ℕ, ◌<◌, ◌≤◌, false, List, [], ◌∷◌, length, Option, Some, None, refl, sym, ap, subst, arith}
+use Rattle.std.proofs.Common.{◌≡◌, ◌≢◌, ◌∙◌, inl, ℕ, ◌<◌, ◌≤◌, true, false, List, [], ◌∷◌, length, Option, Some, None, refl, sym, ap, subst, arith}
 use Rattle.contract_book.specs.declared.resting.Resting.{Resting}
 use Rattle.contract_book.specs.Book.{IsBook, order_count, order_of, parts_of, with_order, without}
 use Rattle.contract_book.specs.Resting.{IsSound}
@@ -15,15 +15,25 @@ use Rattle.laws_of_hours.specs.Standing.{Stands}
 use Rattle.laws_of_hours.specs.OrderEvents.{resting_count, without_hand}
 use Rattle.laws_of_hours.proofs.NextEvents.{agrees, book-is}
 use Rattle.laws_of_hours.proofs.TakenOut.{gone, withdrawn}
+use Rattle.laws_of_views.specs.Changes.{zones_of_events}
+use Rattle.hour_store.specs.declared.change.Change.{Change}
+use Rattle.hour_store.specs.Changed.{NotesNoFlow, NotesOrdersAt, stands_in}
 use Rattle.hour_store.specs.Contents.{Contents, IsOfPart}
 use Rattle.hour_store.specs.Store.{StillLeadsBack, Store}
 use Rattle.hour_store.proofs.Keeps.{parts-without}
 use Rattle.hour_store.proofs.UndoneBooks.{absent-without, book-restored, place-left}
-use Rattle.kept_hour.specs.Kept.{Keeps}
+use Rattle.kept_hour.specs.Kept.{IsNotedOf, Keeps}
+use Rattle.kept_hour.specs.Planned.{planned_of}
 use Rattle.kept_hour.specs.State.{CanBeNext, HourState, name_in, with_board, with_hand}
 use Rattle.kept_hour.proofs.Entering.{free-count}
 use Rattle.kept_hour.proofs.Keeping.{KeepsNext}
 use Rattle.kept_hour.proofs.Making.{names-same}
+use Rattle.kept_hour.proofs.NamedOrders.{has-entered, stands-where}
+use Rattle.kept_hour.proofs.Noting.{noted-bare, notes-nothing}
+
+-- of orders the one that comes to rest is noted, and no flows are
+abbrev pub NotesRested : (part : ℕ) → Resting → (old new : List Change) → Type 0
+NotesRested part order old new = NotesOrdersAt (λ other side zone. stands_in other side zone part order ≡ true) old new × NotesNoFlow old new
 
 module _ (hour : HourState) (numbers settled_numbers : ℕ) (store : Store) (keeps : Keeps hour numbers settled_numbers store) where
   abbrev book : List (List Resting)
@@ -32,8 +42,8 @@ module _ (hour : HourState) (numbers settled_numbers : ℕ) (store : Store) (kee
   -- the hour with no order in hand, kept by another store
   bare : (new : Store) → resting_count hour.board.events hour.board.hour None ≤ desk_room → new.contents.book ≡ book
       → new.contents.blocks ≡ store.contents.blocks → new.contents.flows ≡ store.contents.flows → StillLeadsBack store new
-      → Keeps (with_board hour (with_hand hour.board None)) numbers settled_numbers new
-  bare new few book_is blocks_are flows_are back = record {
+      → IsNotedOf (with_board hour (with_hand hour.board None)) new.changes → Keeps (with_board hour (with_hand hour.board None)) numbers settled_numbers new
+  bare new few book_is blocks_are flows_are back noted = record {
     board = record { stands = keeps.board.stands; few = few };
     contents = record {
       book = book_is;
@@ -47,6 +57,7 @@ module _ (hour : HourState) (numbers settled_numbers : ℕ) (store : Store) (kee
     target = keeps.target;
     back = back keeps.target keeps.back;
     target_of = keeps.target_of;
+    noted = noted;
   }
 
   -- ---- it comes to rest
@@ -81,13 +92,21 @@ module _ (hour : HourState) (numbers settled_numbers : ℕ) (store : Store) (kee
         omega (arith, full, left, same)
 
     pub rested-keeps : (new : Store) → new.contents ≡ record store.contents { book = with_order store.contents.book part order } → StillLeadsBack store new
-        → Keeps (with_board hour (with_hand hour.board None)) numbers settled_numbers new
-    rested-keeps new is back =
+        → part < 7 → NotesRested part order store.changes new.changes → Keeps (with_board hour (with_hand hour.board None)) numbers settled_numbers new
+    rested-keeps new is back low noted =
         bare new (let all = free-count hour.board.events hour.board.hour in omega (arith, all, few))
         (ap (λ (c : Contents). c.book) is ∙ ap (λ b. with_order b part order) store-book ∙ book-restored book is_book part order of_part)
         (ap (λ (c : Contents). c.blocks) is) (ap (λ (c : Contents). c.flows) is) back
+        (noted-bare hour store.changes new.changes (λ other side zone. stands_in other side zone part order ≡ true) keeps.noted noted.0 noted.1
+        (λ other side zone at_low stands.
+        let entry = has-entered hour keeps.board.stands part order low of_part in
+        stands-where hour keeps.board.stands (zones_of_events hour.settled (planned_of hour)) part order entry
+        (keeps.noted.hand order.number entry.own held entry.there entry.named) other side zone stands))
 
   -- ---- nothing is left of it
+
+  as-noted : IsNotedOf (with_board hour (with_hand hour.board None)) store.changes
+  as-noted = noted-bare hour store.changes store.changes (λ part side zone. ⊥) keeps.noted (λ part side zone is. inl is) refl (λ part side zone low no. absurd no)
 
   pub dropped-keeps : (number : ℕ) → hour.board.hand ≡ Some number → is_open hour.board.events (name_in hour number) ≡ false
       → Keeps (with_board hour (with_hand hour.board None)) numbers settled_numbers store
@@ -95,7 +114,7 @@ module _ (hour : HourState) (numbers settled_numbers : ℕ) (store : Store) (kee
       let is = gone hour.board.grid hour.board.hour hour.board.events number keeps.board.stands closed in
       let few : resting_count hour.board.events hour.board.hour (Some number) ≤ desk_room =
       subst (λ h. resting_count hour.board.events hour.board.hour h ≤ desk_room) held keeps.board.few in
-      bare store (let less = is.few in omega (arith, few, less)) (keeps.contents.book ∙ ap (λ h. without_hand h book) held ∙ is.book) refl refl (λ target leads. leads)
+      bare store (let less = is.few in omega (arith, few, less)) (keeps.contents.book ∙ ap (λ h. without_hand h book) held ∙ is.book) refl refl (λ target leads. leads) as-noted
 
   pub dropped-any : ((number : ℕ) → hour.board.hand ≡ Some number → is_open hour.board.events (name_in hour number) ≡ false)
       → Keeps (with_board hour (with_hand hour.board None)) numbers settled_numbers store
@@ -104,7 +123,7 @@ module _ (hour : HourState) (numbers settled_numbers : ℕ) (store : Store) (kee
       go : (hand : Option ℕ) → hour.board.hand ≡ hand → Keeps (with_board hour (with_hand hour.board None)) numbers settled_numbers store
       go None is =
           bare store (subst (λ h. resting_count hour.board.events hour.board.hour h ≤ desk_room) is keeps.board.few)
-          (keeps.contents.book ∙ ap (λ h. without_hand h book) is) refl refl (λ target leads. leads)
+          (keeps.contents.book ∙ ap (λ h. without_hand h book) is) refl refl (λ target leads. leads) as-noted
       go (Some number) is = dropped-keeps number is (closed number is)
 
   -- ---- it is withdrawn
@@ -127,4 +146,5 @@ module _ (hour : HourState) (numbers settled_numbers : ℕ) (store : Store) (kee
         numbered = names-same hour e is.same_next numbers keeps.numbered;
         in_hand = λ other holds. absurd (let no : ⊥ = cc in no);
         back = λ target leads. leads;
+        noted = notes-nothing hour (e ∷ []) store.changes store.changes (λ part side zone. refl) refl;
       }

@@ -17,6 +17,7 @@ use Rattle.hour_store.specs.TakenBack.{LeadsBack}
 use Rattle.kept_hour.specs.Kept.{AreOf, IsKept, Keeps, hour_of, names_given}
 use Rattle.kept_hour.specs.State.{CanBeNext, HourState, after_event, name_in, settled_board, settled_now, undone}
 use Rattle.kept_hour.proofs.Lists.{take-more}
+use Rattle.kept_hour.proofs.Noting.{NotesNext, noted-next, noted-none}
 
 -- flows that say the same stand for the same events
 pub alike-stands : (graph : Graph) (events : List Event) (hour : ℕ) (old new : Flows) → Stands graph events hour old → AreAlike old new → Stands graph events hour new
@@ -58,6 +59,7 @@ pub record KeepsNext (hour : HourState) (event : Event) (hand : Option ℕ) (num
   pub numbered : numbers ≡ names_given (after_event hour event hand).board
   pub in_hand : (number : ℕ) → hand ≡ Some number → IsOfOrder (and_then hour.board.events event) (name_in hour number)
   pub back : StillLeadsBack old new
+  pub noted : NotesNext hour (event ∷ []) hand old.changes new.changes
 
 pub keeps-next : (hour : HourState) (numbers settled_numbers : ℕ) (store : Store) → Keeps hour numbers settled_numbers store
     → (event : Event) (hand : Option ℕ) (more : ℕ) (new : Store) → KeepsNext hour event hand more store new
@@ -72,6 +74,7 @@ keeps-next hour numbers settled_numbers store keeps event hand more new own = re
   target = keeps.target;
   back = own.back keeps.target keeps.back;
   target_of = keeps.target_of;
+  noted = noted-next hour (event ∷ []) hand store.changes new.changes keeps.noted own.noted;
 }
 
 -- the hour as its fields have it is `own`, as a caller sees it `seen`
@@ -96,8 +99,8 @@ module _ (grid : Graph) (number : ℕ) (events : List Event) (settled : ℕ) (ha
     -- a store without changes keeps what it has
     kept-now : (hour : HourState) (more : ℕ) (new : Store) → IsBoard hour.board → IsBoard (settled_board hour) → AreOf hour.board new.contents
         → AreOf (settled_board hour) new.contents → more ≡ names_given hour.board → more ≡ names_given (settled_board hour)
-        → hour.board.hand ≡ None → new.changes ≡ [] → Keeps hour more more new
-    kept-now hour more new board settled_too contents target_of numbered settled_numbered free none = record {
+        → hour.board.events ≡ hour.settled → hour.board.hand ≡ None → new.changes ≡ [] → Keeps hour more more new
+    kept-now hour more new board settled_too contents target_of numbered settled_numbered all free none = record {
       board = board;
       contents = contents;
       numbered = numbered;
@@ -107,6 +110,7 @@ module _ (grid : Graph) (number : ℕ) (events : List Event) (settled : ℕ) (ha
       target = new.contents;
       back = leads-here new none;
       target_of = target_of;
+      noted = noted-none hour new.changes all free none;
     }
 
     -- the hour as it is settled
@@ -118,7 +122,7 @@ module _ (grid : Graph) (number : ℕ) (events : List Event) (settled : ℕ) (ha
         subst (λ h. IsKept h settled settled_numbers settled_numbers new) (sym undone-is)
         (record {
           first_part = (let few = kept.first_part in let long = length-take-le settled events few in omega (arith, long));
-          keeps = kept-now (undone own) settled_numbers new keeps.settled keeps.settled contents contents keeps.settled_numbered keeps.settled_numbered refl none;
+          keeps = kept-now (undone own) settled_numbers new keeps.settled keeps.settled contents contents keeps.settled_numbered keeps.settled_numbered refl refl none;
         })
       where
         undone-is : hour_of grid number (take settled events) settled None ≡ undone own
@@ -139,7 +143,7 @@ module _ (grid : Graph) (number : ℕ) (events : List Event) (settled : ℕ) (ha
         (record {
           first_part = omega arith;
           keeps = kept-now (settled_now own) numbers new keeps.board (subst IsBoard bare keeps.board) contents (subst (λ b. AreOf b new.contents) bare contents)
-              keeps.numbered keeps.numbered free none;
+              keeps.numbered keeps.numbered refl free none;
         })
       where
         settled-is : hour_of grid number events (length events) hand ≡ settled_now own

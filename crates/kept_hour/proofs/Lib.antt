@@ -1,9 +1,11 @@
 pub mod Lists
+pub mod Noting
 pub mod Keeping
 pub mod Beginning
 pub mod Entering
 pub mod Shows
 pub mod Hands
+pub mod NamedOrders
 pub mod Making
 pub mod Changing
 pub mod Quarters

@@ -23,11 +23,12 @@ use Rattle.laws_of_hours.specs.OrderEvents.{resting_count}
 use Rattle.laws_of_hours.proofs.BlockLegs.{carried, closed_gone}
 use Rattle.laws_of_hours.proofs.NextEvents.{first_of_many}
 use Rattle.hour_store.specs.Store.{StillLeadsBack, Store}
-use Rattle.kept_hour.specs.Deals.{AreCarried, CanCarryAll, ClosesBoth, IsDealtIn}
+use Rattle.kept_hour.specs.Deals.{AreCarried, CanCarryAll, ClosesBoth, IsDealtIn, NotesDeal}
 use Rattle.kept_hour.specs.Kept.{Keeps}
 use Rattle.kept_hour.specs.Planned.{CanFollow, after_events}
 use Rattle.kept_hour.specs.State.{HourState}
 use Rattle.kept_hour.proofs.Changing.{bare-book, few-before}
+use Rattle.kept_hour.proofs.Noting.{deal-flows, noted-next, notes-plain}
 
 -- ---- the legs, one after the other
 
@@ -146,8 +147,8 @@ module _ (hour : HourState) (numbers settled_numbers : ℕ) (store : Store) (kee
 
   pub dealt-keeps : (hour.board.hour ≡ first → ClosesBoth hour first last deal) → (new : Store)
       → IsDealtIn (hour.board.hour == first) deal store.contents new.contents → StillLeadsBack store new
-      → Keeps (after_events hour (deal_events first last deal)) numbers settled_numbers new
-  dealt-keeps whole new made back = record {
+      → NotesDeal deal store.changes new.changes → Keeps (after_events hour (deal_events first last deal)) numbers settled_numbers new
+  dealt-keeps whole new made back noted = record {
     board = record {
       stands = next;
       few = (let less = is-dealt.few in let few = few-before hour numbers settled_numbers store keeps free in omega (arith, less, few));
@@ -164,4 +165,6 @@ module _ (hour : HourState) (numbers settled_numbers : ℕ) (store : Store) (kee
     target = keeps.target;
     back = back keeps.target keeps.back;
     target_of = keeps.target_of;
+    noted = noted-next hour (deal_events first last deal) None store.changes new.changes keeps.noted
+        (notes-plain hour (deal_events first last deal) store.changes new.changes noted.orders (deal-flows first last deal store.changes new.changes noted));
   }

@@ -1,27 +1,36 @@
 -- A leg is made in a kept hour.
-use Rattle.std.proofs.Common.{◌≡◌, ◌∙◌, ℕ, ◌+◌, ◌<◌, List, [], ◌∷◌, length, sym, ap, subst, arith}
+use Rattle.std.proofs.Common.{◌≡◌, ◌≢◌, ◌∙◌, inl, inr, ℕ, ◌+◌, ◌<◌, List, [], ◌∷◌, length, refl, sym, ap, subst, arith}
 use Rattle.std.proofs.lemmas.List.Elements.{filter_map-append}
 use Rattle.order_kinds.specs.declared.contract.Contract.{Contract}
 use Rattle.order_kinds.specs.declared.order.OrderName.{OrderName}
 use Rattle.order_kinds.specs.Contract.{contract_at}
 use Rattle.zone_graph.specs.Route.{IsIn}
 use Rattle.zone_graph.proofs.Membership.{IsIn-left}
+use Rattle.contract_book.specs.declared.resting.Resting.{Resting}
+use Rattle.contract_book.specs.Book.{line_of}
 use Rattle.market_model.specs.declared.event.Event.{Event}
 use Rattle.market_model.specs.declared.event.Event.TheVariants as event
 use Rattle.market_model.specs.declared.event.Leg.{Leg}
 use Rattle.market_model.specs.Board.{CanBeMade, IsBoard, after_leg}
 use Rattle.market_model.specs.History.{and_then}
-use Rattle.market_model.specs.Orders.{next_name, placed, placed_by}
+use Rattle.market_model.specs.Orders.{Placed, next_name, placed, placed_by}
+use Rattle.market_model.specs.WellFormed.{IsOpenOrder}
+use Rattle.laws_of_market.proofs.Placed.{picked-same}
 use Rattle.laws_of_boards.proofs.Legs.{leaves}
 use Rattle.laws_of_books.specs.BookOf.{book_of}
 use Rattle.laws_of_books.specs.BlockLaws.{IsOfOrder}
+use Rattle.laws_of_books.proofs.LineOrders.{same_names}
 use Rattle.laws_of_hours.specs.OrderEvents.{CanFill, IsMade, filled_beside, without_hand}
 use Rattle.laws_of_hours.proofs.Legs.{made}
+use Rattle.hour_store.specs.Contents.{IsOfPart}
 use Rattle.hour_store.specs.Store.{StillLeadsBack, Store}
+use Rattle.hour_store.proofs.UndoneBooks.{found-number}
 use Rattle.kept_hour.specs.Kept.{Keeps, names_given}
-use Rattle.kept_hour.specs.Legs.{CanMakeIn, IsMadeIn}
+use Rattle.kept_hour.specs.Legs.{CanMakeIn, IsMadeIn, NotesLeg}
 use Rattle.kept_hour.specs.State.{HourState, name_in}
 use Rattle.kept_hour.proofs.Keeping.{KeepsNext}
+use Rattle.kept_hour.proofs.NamedOrders.{found-where, from_filled, from_hand, named-hour}
+use Rattle.kept_hour.proofs.Noting.{NotesNext}
 use Rattle.kept_hour.proofs.Shows.{number-at}
 
 -- a name that was an order's is one after more events
@@ -70,9 +79,49 @@ module _ (hour : HourState) (numbers settled_numbers : ℕ) (store : Store) (kee
     can_carry = λ set of_part. is_made.can_carry set store.contents.flows keeps.contents.flows of_part;
   }
 
+  -- a maker or taker has the hour's name of its number
+  leg_name : (own : Placed) (name : OrderName) → IsOpenOrder hour.board.events own name → own.order.contract ≡ contract → name_in hour name.number ≡ name
+  leg_name own name opened of_contract =
+      same_names (name_in hour name.number) name
+      (sym (ap (λ (n : OrderName). n.hour) (sym opened.is_named) ∙ named-hour hour keeps.board.stands own opened.is_placed ∙ ap (λ (c : Contract). c.hour) of_contract)) refl
+
+  -- the book once the maker is filled
+  abbrev mid : List (List Resting)
+  mid = filled_beside hour.board.hand leg.maker.number leg.lots moment store.contents.book
+
+  in-book : (order : Resting) → IsIn order (line_of store.contents.book part order.side) → IsOfPart (book_of hour.board.events hour.board.hour) part order
+  in-book order i =
+      from_hand hour.board.hand (book_of hour.board.events hour.board.hour) part order.side order
+      (subst (λ b. IsIn order (line_of b part order.side)) keeps.contents.book i)
+
+  leg-notes : (new : Store) → NotesLeg hour.board.hand part leg moment store.contents.book store.changes new.changes
+      → NotesNext hour (trade ∷ []) hour.board.hand store.changes new.changes
+  leg-notes new noted = record {
+    orders = λ other side zone low more. elim (noted other side zone more) [
+      | inl before ↦ inl before
+      | inr now ↦ inr (elim now [
+        | inl of_maker ↦
+            let found = can-make.maker of_maker.0 in
+            found-where hour keeps.board.stands trade store.contents.book leg.maker.number part found.order found.found (in-book found.order found.in_line)
+            (inr (inl (leg_name can.2.maker leg.maker can.2.maker_open can.2.maker_contract))) other side zone low of_maker.1
+        | inr of_taker ↦
+            let found = can-make.taker of_taker.0 in
+            let apart : found.order.number ≢ leg.maker.number =
+            λ same. is_made.apart (sym same ∙ found-number mid leg.taker.number found.order found.found) in
+            found-where hour keeps.board.stands trade mid leg.taker.number part found.order found.found
+            (in-book found.order (from_filled hour.board.hand store.contents.book leg.maker.number leg.lots moment
+            (λ beside. ((can-make.maker beside).order, (can-make.maker beside).found)) part found.order.side found.order apart found.in_line))
+            (inl (leg_name can.2.taker leg.taker can.2.taker_open can.2.taker_contract)) other side zone low of_taker.1
+      ])
+    ];
+    held = λ number order is there named. inl (is, subst (IsIn order) (picked-same placed_by hour.board.events trade refl) there);
+    flows = λ more. inr refl;
+  }
+
   pub made-next : (new : Store) → IsMadeIn hour.board.hand part leg moment store.contents new.contents → StillLeadsBack store new
+      → NotesLeg hour.board.hand part leg moment store.contents.book store.changes new.changes
       → KeepsNext hour trade hour.board.hand numbers store new
-  made-next new is back = record {
+  made-next new is back noted = record {
     next = board_after.stands;
     few = board_after.few;
     contents = record {
@@ -85,4 +134,5 @@ module _ (hour : HourState) (numbers settled_numbers : ℕ) (store : Store) (kee
     numbered = names-same hour trade is_made.same_next numbers keeps.numbered;
     in_hand = λ number holds. order-more hour.board.events trade (name_in hour number) (keeps.in_hand number holds);
     back = back;
+    noted = leg-notes new noted;
   }

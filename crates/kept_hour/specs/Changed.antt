@@ -11,6 +11,7 @@ use Rattle.market_model.specs.Board.{IsBoard}
 use Rattle.market_model.specs.Room.{room}
 use Rattle.laws_of_views.specs.Nearby.{seen_elsewhere}
 use Rattle.hour_store.specs.Changed.{zones_of}
+use Rattle.kept_hour.specs.Planned.{planned_zones}
 use Rattle.kept_hour.specs.State.{HourState, settled_board}
 
 -- the hour is a board of seven parts as it is planned, and one as it is settled
@@ -28,6 +29,11 @@ HasTouched graph bits zones = (zone : ℕ) → HasZone graph zone → holds bits
 abbrev pub AreSeenElsewhere : HourState → (touched : List ℕ) → Type 0
 AreSeenElsewhere hour touched = (part : ℕ) (side : Side) (zones : List ℕ) → part < 7 → HasTouched hour.board.grid (zones_of touched part side) zones
     → seen_elsewhere hour.board.events (contract_at hour.board.hour part) side zones ≡ seen_elsewhere hour.settled (contract_at hour.board.hour part) side zones
+
+-- the zones of a part and side are none but those of its orders that the planned events name
+abbrev pub AreZonesPlanned : HourState → (touched : List ℕ) → Type 0
+AreZonesPlanned hour touched = (part : ℕ) (side : Side) (zone : ℕ) → part < 7 → zone < 64 → holds (zones_of touched part side) zone ≡ true
+    → IsIn zone (planned_zones hour part side)
 
 -- each arc has the room over each contract of the hour that it has as settled
 abbrev pub AreRoomsSettled : HourState → Type 0

@@ -15,6 +15,8 @@ use Rattle.laws_of_hours.specs.CallLaws.{CanCarry}
 use Rattle.laws_of_hours.specs.Standing.{IsCarried, IsSetOf}
 use Rattle.market_model.specs.declared.event.Event.{Event}
 use Rattle.market_model.specs.Orders.{is_open}
+use Rattle.hour_store.specs.declared.change.Change.{Change}
+use Rattle.hour_store.specs.Changed.{NotesNoFlow, NotesNoOrder}
 use Rattle.hour_store.specs.Contents.{Contents}
 use Rattle.kept_hour.specs.State.{HourState, after_event, block_entry_of}
 
@@ -54,3 +56,8 @@ pub record IsDealtIn (starts : Bool) (deal : BlockDeal) (old new : Contents) : T
   pub book : new.book ≡ old.book
   pub blocks : new.blocks ≡ (if starts then without_both old.blocks deal.taker deal.maker else old.blocks)
   pub flows : AreCarried deal.legs old.flows new.flows
+
+-- a deal notes no order, and no flows where it has no leg
+pub record NotesDeal (deal : BlockDeal) (old new : List Change) : Type 0 where
+  pub orders : NotesNoOrder old new
+  pub flows : deal.legs ≡ [] → NotesNoFlow old new

@@ -3,6 +3,7 @@
 ghost use Rattle.std.specs.Prelude.{◌≡◌, ◌+◌, ◌≤◌, [], ◌∷◌, ◌++◌, IfSome, OnOk, OnErr, if◌then◌else◌};
 ghost use Rattle.laws_of_books.specs.LegLaws.{without_both};
 ghost use Rattle.block_match.specs.Market.{deal_events, leg_event};
+ghost use Rattle.hour_store.specs.Changed.{NotesNoFlow, NotesNoOrder};
 ghost use Rattle.hour_store.specs.Store.{StillLeadsBack};
 ghost use Rattle.market_model.specs.declared.event.Event.TheVariants as event;
 ghost use Rattle.kept_hour.specs.Deals as deals;
@@ -136,6 +137,7 @@ pub(crate) fn deal_in(store: &mut HourStore, starts: bool, deal: &BlockDeal)
     requires can { deals.CanCarryAll store.old.contents.flows deal.now.legs }
     ensures dealt { deals.IsDealtIn starts deal.now store.old.contents store.new.contents }
     ensures back { StillLeadsBack store.old store.new }
+    ensures noted { deals.NotesDeal deal.now store.old.changes store.new.changes }
 {
     take_out(store, starts, deal);
     carry_legs(store, deal.legs.as_slice());
@@ -150,6 +152,8 @@ fn take_out(store: &mut HourStore, starts: bool, deal: &BlockDeal)
     ensures flows { store.new.contents.flows ≡ store.old.contents.flows }
     ensures spare { store.old.spare ≤ store.new.spare + 2 }
     ensures back { StillLeadsBack store.old store.new }
+    ensures noted { NotesNoOrder store.old.changes store.new.changes }
+    ensures no_flow { NotesNoFlow store.old.changes store.new.changes }
 {
     if starts {
         store.withdraw_block(deal.taker);
@@ -165,6 +169,8 @@ fn carry_legs(store: &mut HourStore, legs: &[RouteLeg])
     ensures book { store.new.contents.book ≡ store.old.contents.book }
     ensures blocks { store.new.contents.blocks ≡ store.old.contents.blocks }
     ensures back { StillLeadsBack store.old store.new }
+    ensures noted { NotesNoOrder store.old.changes store.new.changes }
+    ensures no_flow { legs.now ≡ [] → NotesNoFlow store.old.changes store.new.changes }
 {
     for leg in legs {
         store.carry(&leg.route, quarters_of(WHOLE_HOUR), leg.lots);

@@ -7,8 +7,9 @@ ghost use Rattle.zone_graph.specs.Pour.{uses};
 ghost use Rattle.flow_netting.specs.QuarterSet.{has};
 ghost use Rattle.laws_of_hours.specs.Standing.{IsCarried, IsSetOf};
 ghost use Rattle.laws_of_hours.specs.OrderEvents as changes;
+ghost use Rattle.hour_store.specs.Changed.{NotesOrdersAt};
 ghost use Rattle.hour_store.specs.Store.{StillLeadsBack};
-ghost use Rattle.kept_hour.specs.Legs.{CanMakeIn, IsMadeIn};
+ghost use Rattle.kept_hour.specs.Legs.{CanMakeIn, IsMadeIn, NotesLeg, RestsBeside};
 
 use crate::parts::quarters_of;
 use hour_store::HourStore;
@@ -21,6 +22,7 @@ pub(crate) fn make_in(store: &mut HourStore, hand: Option<u32>, part: u32, leg: 
     requires can { CanMakeIn hand part leg.now moment store.old.contents }
     ensures made { IsMadeIn hand part leg.now moment store.old.contents store.new.contents }
     ensures back { StillLeadsBack store.old store.new }
+    ensures noted { NotesLeg hand part leg.now moment store.old.contents.book store.old.changes store.new.changes }
 {
     fill_beside(store, hand, part, leg.maker.number, leg.lots, moment);
     fill_beside(store, hand, part, leg.taker.number, leg.lots, moment);
@@ -41,6 +43,7 @@ fn fill_beside(
     ensures filled { store.new.contents ≡ record store.old.contents { book = changes.filled_beside hand number lots moment store.old.contents.book } }
     ensures spare { store.old.spare ≤ store.new.spare + 1 }
     ensures back { StillLeadsBack store.old store.new }
+    ensures noted { NotesOrdersAt (RestsBeside hand store.old.contents.book number part) store.old.changes store.new.changes }
 {
     if !holds(hand, number) {
         store.fill(part, number, lots, moment);

@@ -1,4 +1,4 @@
-use Rattle.std.proofs.Common.{◌≡◌, ◌∙◌, ◌-◌, ◌<◌, length, arith}
+use Rattle.std.proofs.Common.{◌≡◌, ◌∙◌, ◌-◌, ◌<◌, length, ap, arith}
 use Rattle.hour_store.proofs.Stores.{still-through}
 use Rattle.kept_hour.proofs.Carrying.{arcs-from, can-now, can-then, carried-more}
 use Rattle.kept_hour.proofs.dealing.carry_legs.Goals as goal
@@ -22,4 +22,6 @@ loop-leg-preserved c =
           let after : c.carry.new.self.spare ≡ c.loop-leg.store.spare - length c.leg-item.result.route = c.carry.ensures.spare in
           let arcs = arcs-from c.args.legs.now c.loop-leg.leg-index within c.leg-item.result _ c.leg-item.is in omega (arith, before, after, arcs));
       back = still-through c.args.store.now c.loop-leg.store c.carry.new.self c.loop-leg.invariant.back c.carry.ensures.back;
+      noted = λ part side zone. c.carry.ensures.noted part side zone ∙ c.loop-leg.invariant.noted part side zone;
+      no_flow = λ none. absurd (let no = ap length none in omega (arith, within, no));
     }

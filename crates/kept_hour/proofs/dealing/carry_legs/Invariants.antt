@@ -1,5 +1,6 @@
-use Rattle.std.proofs.Common.{◌≡◌, ◌≤◌, drop}
+use Rattle.std.proofs.Common.{◌≡◌, ◌≤◌, [], drop}
 use Rattle.flow_netting.specs.Flows.{Flows}
+use Rattle.hour_store.specs.Changed.{NotesNoFlow, NotesNoOrder}
 use Rattle.hour_store.specs.Store.{StillLeadsBack}
 use Rattle.kept_hour.specs.Deals.{AreCarried, CanCarryAll, arc_count}
 use Rattle.kept_hour.proofs.dealing.carry_legs.Given as goal
@@ -13,4 +14,6 @@ invariant-loop-leg l = record {
   blocks : l.store.contents.blocks ≡ l.fn.store.contents.blocks;
   spare : arc_count (drop l.leg-index l.legs) ≤ l.store.spare;
   back : StillLeadsBack l.fn.store l.store;
+  noted : NotesNoOrder l.fn.store.changes l.store.changes;
+  no_flow : l.legs ≡ [] → NotesNoFlow l.fn.store.changes l.store.changes;
 }

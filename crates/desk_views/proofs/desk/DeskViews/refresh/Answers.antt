@@ -1,6 +1,8 @@
 use Rattle.std.proofs.Common.{drop, length, refl}
+use Rattle.std.specs.List.{list_any}
+use Rattle.kept_hour.specs.Planned.{moves_flows, planned_of}
 use Rattle.desk_views.proofs.Next.{touched-none}
-use Rattle.desk_views.proofs.Refreshed.{all-still, inside-back, kept-made, near, near-made, next-stands, shown-settled, written-back}
+use Rattle.desk_views.proofs.Refreshed.{all-still, inside-back, kept-made, near, near-made, next-stands, next-unasked, shown-settled, written-back}
 use Rattle.desk_views.proofs.desk.DeskViews.refresh.Goals as goal
 
 pub moved_if-moved-requires-clause-settled : goal.moved_if-moved-requires-clause-settled
@@ -44,7 +46,11 @@ returns-clause-made c =
     near-made c.args.hour.now c.changed_zones-changed.ensures.boards c.args.grid.now c.requires.grid c.zones.ensures.grid c.self.inside.views c.self.inside.rooms.items
     c.self.inside.planned.items c.as_slice-rooms.result.now c.self.inside.asked c.args.self.now c.self.view_is c.as_slice-rooms.ensures.value c.requires.stands c.changed_zones-changed.result
     c.moved_if-moved.result c.changed_zones-changed.ensures.seen c.flows_changed-asked.result c.moved_if-moved.new.planned c.flows_changed-asked.ensures.rooms c.moved_if-moved.ensures.rooms
-    c.moved_if-moved.ensures.moved _ c.in_ok-refresh_lines.ensures.made
+    c.moved_if-moved.ensures.moved c.changed_zones-changed.ensures.named c.moved_if-moved.ensures.none _ c.in_ok-refresh_lines.ensures.made
+
+pub returns-clause-unasked : goal.returns-clause-unasked
+returns-clause-unasked c = λ none.
+    next-unasked c.flows_changed-asked.result (list_any moves_flows (planned_of c.args.hour.now)) _ c.flows_changed-asked.ensures.planned none
 
 pub returns-clause-unplanned : goal.returns-clause-unplanned
 returns-clause-unplanned c = λ alike.

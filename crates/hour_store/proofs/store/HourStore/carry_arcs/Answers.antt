@@ -34,4 +34,5 @@ loop-arc-preserved c =
       blocks = c.grant.ensures.blocks ∙ c.loop-arc.invariant.blocks;
       spare = let before = c.loop-arc.invariant.spare in let after = c.grant.ensures.spare in let room = c.requires.spare in omega (arith, before, after, room);
       back = still-through c.args.self.now c.loop-arc.self c.grant.new.self c.loop-arc.invariant.back c.grant.ensures.back;
+      noted = λ part side zone. c.grant.ensures.noted part side zone ∙ c.loop-arc.invariant.noted part side zone;
     }

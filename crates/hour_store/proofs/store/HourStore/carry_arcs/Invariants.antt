@@ -2,6 +2,7 @@ use Rattle.std.proofs.Common.{◌≡◌, ◌+◌, take}
 use Rattle.zone_graph.specs.Pour.{uses}
 use Rattle.flow_netting.specs.QuarterSet.{has}
 use Rattle.laws_of_hours.specs.Standing.{IsCarried}
+use Rattle.hour_store.specs.Changed.{NotesNoOrder}
 use Rattle.hour_store.specs.Store.{StillLeadsBack}
 use Rattle.hour_store.proofs.store.HourStore.carry_arcs.Given as goal
 
@@ -13,4 +14,5 @@ invariant-loop-arc l = record {
   blocks : l.self.contents.blocks ≡ l.fn.self.contents.blocks;
   spare : l.self.spare + l.arc-index ≡ l.fn.self.spare;
   back : StillLeadsBack l.fn.self l.self;
+  noted : NotesNoOrder l.fn.self.changes l.self.changes;
 }

@@ -1,6 +1,7 @@
 use Rattle.std.proofs.Common.{◌≡◌, ◌+◌, ◌≤◌}
 use Rattle.flow_netting.specs.QuarterSet.{has}
 use Rattle.laws_of_hours.specs.Standing.{IsOffered}
+use Rattle.hour_store.specs.Changed.{NotesNoOrder}
 use Rattle.hour_store.specs.Store.{StillLeadsBack}
 use Rattle.hour_store.proofs.InTurn.{below_in}
 use Rattle.hour_store.proofs.store.HourStore.offer.Given as goal
@@ -13,4 +14,5 @@ invariant-loop-number l = record {
   blocks : l.self.contents.blocks ≡ l.fn.self.contents.blocks;
   spare : l.fn.self.spare + 1 ≤ l.self.spare + l.number;
   back : StillLeadsBack l.fn.self l.self;
+  noted : NotesNoOrder l.fn.self.changes l.self.changes;
 }

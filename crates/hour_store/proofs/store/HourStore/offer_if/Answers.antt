@@ -6,6 +6,7 @@ use Rattle.hour_store.specs.Contents.{Contents}
 use Rattle.hour_store.specs.Inside.{contents_of}
 use Rattle.hour_store.specs.Store.{GoesBackTo, Store}
 use Rattle.hour_store.proofs.Noted.{IsNotedBy, offer-noted}
+use Rattle.hour_store.proofs.Noting.{notes-no_order}
 use Rattle.hour_store.proofs.Stores.{still-goes, still-leads}
 use Rattle.hour_store.proofs.store.HourStore.offer_if.Goals as goal
 
@@ -34,3 +35,6 @@ pub returns-clause-back : goal.returns-clause-back
 returns-clause-back c = λ target leads.
     still-leads c.self.inside.log.records c.note.new.self.records (record_of c) (contents_of c.self.inside.kept) (now c) (log c) (noted c).undone target
     (subst (λ store. GoesBackTo store target) (sym c.self.view_is) leads)
+
+pub returns-clause-noted : goal.returns-clause-noted
+returns-clause-noted c = notes-no_order _ _ _ (ap (λ (s : Store). s.changes) c.self.view_is) (record_of c) (log c) (λ part side zone. refl)

@@ -1,4 +1,4 @@
-use Rattle.std.proofs.Common.{◌≡◌, ◌∷◌, ◌++◌, ◌<◌, ◌≤◌, [], None, IsSomeAnd, ap, refl, sym, subst}
+use Rattle.std.proofs.Common.{◌≡◌, ◌∙◌, ◌∷◌, ◌++◌, ◌<◌, ◌≤◌, [], None, IsSomeAnd, ap, refl, sym, subst}
 use Rattle.contract_book.specs.Book.{order_of}
 use Rattle.hour_store.specs.declared.change.Change.{Change}
 use Rattle.hour_store.specs.declared.change.Change.TheVariants as change
@@ -6,6 +6,7 @@ use Rattle.hour_store.specs.Contents.{Contents, IsOfPart}
 use Rattle.hour_store.specs.Inside.{contents_of}
 use Rattle.hour_store.specs.Store.{GoesBackTo, Store}
 use Rattle.hour_store.proofs.Noted.{IsNotedBy, reduce-noted}
+use Rattle.hour_store.proofs.Noting.{notes-no_flow, notes-order, rests-at}
 use Rattle.hour_store.proofs.Stores.{still-goes, still-leads}
 use Rattle.hour_store.proofs.store.HourStore.reduce.Goals as goal
 
@@ -32,3 +33,11 @@ pub returns-clause-back : goal.returns-clause-back
 returns-clause-back c = λ target leads.
     still-leads c.self.inside.log.records c.note.new.self.records (record_of c) (contents_of c.self.inside.kept) (now c) (log c) (noted c).undone target
     (subst (λ store. GoesBackTo store target) (sym c.self.view_is) leads)
+
+pub returns-clause-noted : goal.returns-clause-noted
+returns-clause-noted c =
+    notes-order _ _ _ (ap (λ (s : Store). s.changes) c.self.view_is) (record_of c) (log c) _
+    (rests-at c.args.self.now.contents.book c.args.number c.args.part c.in-Some.was (ap (λ (s : Store). order_of s.contents.book c.args.number) (sym c.self.view_is) ∙ sym c.in-Some.ensures))
+
+pub returns-clause-no_flow : goal.returns-clause-no_flow
+returns-clause-no_flow c = notes-no_flow _ _ _ (ap (λ (s : Store). s.changes) c.self.view_is) (record_of c) (log c) refl

@@ -7,6 +7,7 @@ use Rattle.hour_store.specs.Contents.{Contents, IsOfPart}
 use Rattle.hour_store.specs.Inside.{CanGoBack, IsKept, LogLeadsBack, contents_of}
 use Rattle.hour_store.specs.Store.{GoesBackTo, Store}
 use Rattle.hour_store.proofs.Noted.{IsNotedBy, nothing-withdrawn, withdraw-noted}
+use Rattle.hour_store.proofs.Noting.{notes-no_flow, notes-order, rests-at}
 use Rattle.hour_store.proofs.Stores.{still-goes, still-leads}
 use Rattle.hour_store.proofs.store.HourStore.withdraw.Goals as goal
 
@@ -46,3 +47,11 @@ pub returns-in_err-was-clause-back : goal.returns-in_err-was-clause-back
 returns-in_err-was-clause-back c = λ target leads.
     subst (λ (b : List (List Resting)). LogLeadsBack c.self.inside.log.records (record { book = b; blocks = c.self.inside.kept.blocks; flows = c.self.inside.kept.flows }) target)
     (sym (nothing c)) (subst (λ store. GoesBackTo store target) (sym c.self.view_is) leads)
+
+pub returns-clause-noted : goal.returns-clause-noted
+returns-clause-noted c =
+    notes-order _ _ _ (ap (λ (s : Store). s.changes) c.self.view_is) (record_of c) (log c) _
+    (rests-at c.args.self.now.contents.book c.args.number c.args.part c.in_ok-was.was' (ap (λ (s : Store). order_of s.contents.book c.args.number) (sym c.self.view_is) ∙ sym c.in_ok-was.ensures.order))
+
+pub returns-clause-no_flow : goal.returns-clause-no_flow
+returns-clause-no_flow c = notes-no_flow _ _ _ (ap (λ (s : Store). s.changes) c.self.view_is) (record_of c) (log c) refl

@@ -4,8 +4,9 @@ use Rattle.hour_store.specs.declared.change.Change.{Change}
 use Rattle.hour_store.specs.declared.change.Change.TheVariants as change
 use Rattle.hour_store.specs.Contents.{Contents}
 use Rattle.hour_store.specs.Inside.{CanGoBack, IsKept, LogLeadsBack, contents_of}
-use Rattle.hour_store.specs.Store.{GoesBackTo}
+use Rattle.hour_store.specs.Store.{GoesBackTo, Store}
 use Rattle.hour_store.proofs.Noted.{IsNotedBy, withdraw_block-noted}
+use Rattle.hour_store.proofs.Noting.{notes-no_flow, notes-no_order}
 use Rattle.hour_store.proofs.Stores.{still-goes, still-leads}
 use Rattle.hour_store.proofs.UndoneBlocks.{no_block-withdrawn}
 use Rattle.hour_store.proofs.store.HourStore.withdraw_block.Goals as goal
@@ -44,3 +45,9 @@ pub returns-in_err-was-clause-back : goal.returns-in_err-was-clause-back
 returns-in_err-was-clause-back c = λ target leads.
     subst (λ (b : List RestingBlock). LogLeadsBack c.self.inside.log.records (record { book = c.self.inside.kept.book; blocks = b; flows = c.self.inside.kept.flows }) target)
     (sym (nothing c)) (subst (λ store. GoesBackTo store target) (sym c.self.view_is) leads)
+
+pub returns-clause-noted : goal.returns-clause-noted
+returns-clause-noted c = notes-no_order _ _ _ (ap (λ (s : Store). s.changes) c.self.view_is) (record_of c) (log c) (λ part side zone. refl)
+
+pub returns-clause-no_flow : goal.returns-clause-no_flow
+returns-clause-no_flow c = notes-no_flow _ _ _ (ap (λ (s : Store). s.changes) c.self.view_is) (record_of c) (log c) refl

@@ -14,4 +14,4 @@ pub invariant_of-self-2 : goal.invariant_of-self-2
 invariant_of-self-2 c =
     block-kept c.self.inside.grid.value c.self.inside.hour c.self.inside.events c.self.inside.settled c.self.inside.hand c.self.inside.numbers c.self.inside.settled_numbers c.self.inside.store c.self.invariant c.args.self.now c.self.view_is c.requires.free c.reserve.new.self c.reserve.ensures.contents c.reserve.ensures.changes c.args.caller c.args.order.now c.requires.room c.requires.next
     c.push.new.self c.rest_block.new.self c.entered_block-block.result c.len-moment.result c.in_ok-push.ensures.ok c.len-moment.ensures
-    (c.entered_block-block.ensures c.self.inside.hour) c.in-Ok.ensures.rests c.rest_block.ensures.back
+    (c.entered_block-block.ensures c.self.inside.hour) c.in-Ok.ensures.rests c.rest_block.ensures.back c.rest_block.ensures.noted c.rest_block.ensures.no_flow

@@ -10,4 +10,4 @@ pub invariant_of-self-2 : goal.invariant_of-self-2
 invariant_of-self-2 c =
     entry-kept c.self.inside.grid.value c.self.inside.hour c.self.inside.events c.self.inside.settled c.self.inside.hand c.self.inside.numbers c.self.inside.settled_numbers c.self.inside.store c.self.invariant c.args.self.now c.self.view_is c.requires.free
     c.reserve_for.new.store c.reserve_for.ensures.contents c.reserve_for.ensures.changes c.args.caller c.args.order.now c.args.deal.now c.requires.next c.requires.takes c.requires.whole
-    c.push_dealt_entry.new.events c.in_ok-push_dealt_entry.ensures.pushed c.deal_in.new.store c.deal_in.ensures.dealt c.deal_in.ensures.back
+    c.push_dealt_entry.new.events c.in_ok-push_dealt_entry.ensures.pushed c.deal_in.new.store c.deal_in.ensures.dealt c.deal_in.ensures.back c.deal_in.ensures.noted

@@ -13,5 +13,5 @@ grant-requires-clause-room c number first last inside =
 pub invariant_of-self-2 : goal.invariant_of-self-2
 invariant_of-self-2 c =
     granted-kept c.self.inside.grid.value c.self.inside.hour c.self.inside.events c.self.inside.settled c.self.inside.hand c.self.inside.numbers c.self.inside.settled_numbers c.self.inside.store c.self.invariant c.args.self.now c.self.view_is c.requires.free c.reserve.new.self c.reserve.ensures.contents c.reserve.ensures.changes
-    c.push.new.self c.grant.new.self c.grant.ensures.back c.grant.ensures.book c.grant.ensures.blocks
+    c.push.new.self c.grant.new.self c.grant.ensures.back c.grant.ensures.book c.grant.ensures.blocks c.grant.ensures.noted
     c.args.arc c.args.first c.args.last c.args.lots (has c.quarters_in_range-quarters.result) c.requires.next c.in_ok-push.ensures.ok c.quarters_in_range-quarters.ensures c.grant.ensures.flows

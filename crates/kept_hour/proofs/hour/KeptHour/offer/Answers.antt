@@ -16,5 +16,5 @@ offer-requires-clause-covers c number first last inside =
 pub invariant_of-self-2 : goal.invariant_of-self-2
 invariant_of-self-2 c =
     offered-kept c.self.inside.grid.value c.self.inside.hour c.self.inside.events c.self.inside.settled c.self.inside.hand c.self.inside.numbers c.self.inside.settled_numbers c.self.inside.store c.self.invariant c.args.self.now c.self.view_is c.requires.free c.reserve.new.self c.reserve.ensures.contents c.reserve.ensures.changes
-    c.push.new.self c.offer.new.self c.offer.ensures.back c.offer.ensures.book c.offer.ensures.blocks
+    c.push.new.self c.offer.new.self c.offer.ensures.back c.offer.ensures.book c.offer.ensures.blocks c.offer.ensures.noted
     c.args.arc c.args.first c.args.last c.args.lots (has c.quarters_in_range-quarters.result) c.requires.next c.in_ok-push.ensures.ok c.quarters_in_range-quarters.ensures c.offer.ensures.flows

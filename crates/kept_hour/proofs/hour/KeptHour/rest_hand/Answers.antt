@@ -15,4 +15,4 @@ pub unreachable-requires : goal.unreachable-requires
 unreachable-requires c = (can-rest c.self.inside.grid.value c.self.inside.hour c.self.inside.events c.self.inside.settled c.self.inside.hand c.self.inside.numbers c.self.inside.settled_numbers c.self.inside.store c.self.invariant c.args.self.now c.self.view_is c.args.part c.args.order c.requires.held c.requires.part c.requires.stands c.requires.room c.reserve.new.self c.reserve.ensures.contents c.reserve.ensures.changes).place (c.in_default.ensures.full.0 refl)
 
 pub invariant_of-self-2 : goal.invariant_of-self-2
-invariant_of-self-2 c = rested-kept c.self.inside.grid.value c.self.inside.hour c.self.inside.events c.self.inside.settled c.self.inside.hand c.self.inside.numbers c.self.inside.settled_numbers c.self.inside.store c.self.invariant c.args.self.now c.self.view_is c.args.part c.args.order c.requires.held c.requires.part c.requires.stands c.requires.room c.reserve.new.self c.reserve.ensures.contents c.reserve.ensures.changes c.rest.new.self c.in-Ok.ensures.rests c.rest.ensures.back
+invariant_of-self-2 c = rested-kept c.self.inside.grid.value c.self.inside.hour c.self.inside.events c.self.inside.settled c.self.inside.hand c.self.inside.numbers c.self.inside.settled_numbers c.self.inside.store c.self.invariant c.args.self.now c.self.view_is c.args.part c.args.order c.requires.held c.requires.part c.requires.stands c.requires.room c.reserve.new.self c.reserve.ensures.contents c.reserve.ensures.changes c.rest.new.self c.in-Ok.ensures.rests c.rest.ensures.back (c.in-Ok.ensures.noted, c.rest.ensures.no_flow)

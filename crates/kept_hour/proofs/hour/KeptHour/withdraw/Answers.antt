@@ -1,6 +1,7 @@
 use Rattle.std.proofs.Common.{◌∙◌, ap}
 use Rattle.block_book.specs.Book.{without}
 use Rattle.hour_store.specs.Contents.{Contents}
+use Rattle.hour_store.proofs.Noting.{notes-then}
 use Rattle.kept_hour.proofs.BoardCalls.{leads-through}
 use Rattle.kept_hour.proofs.FlowCalls.{withdrawn-kept}
 use Rattle.kept_hour.proofs.hour.KeptHour.withdraw.Goals as goal
@@ -13,3 +14,7 @@ invariant_of-self-2 c =
     (ap (λ (k : Contents). k.book) c.withdraw_block.ensures.without ∙ ap (λ (k : Contents). k.book) c.withdraw.ensures.without)
     (ap (λ (k : Contents). k.blocks) c.withdraw_block.ensures.without ∙ ap (λ (k : Contents). without k.blocks c.args.number) c.withdraw.ensures.without)
     (ap (λ (k : Contents). k.flows) c.withdraw_block.ensures.without ∙ ap (λ (k : Contents). k.flows) c.withdraw.ensures.without)
+    c.args.part c.requires.part (
+      notes-then _ c.reserve.new.self.changes c.withdraw.new.self.changes c.withdraw_block.new.self.changes c.withdraw.ensures.noted c.withdraw_block.ensures.noted,
+      c.withdraw_block.ensures.no_flow ∙ c.withdraw.ensures.no_flow,
+    )
