@@ -1,8 +1,11 @@
 -- Lists by hour that gain and lose events.
-use Rattle.std.proofs.Common.{◌≡◌, ◌∙◌, ◌-◌, ◌<◌, ℕ, Bool, true, false, cond, List, [], ◌∷◌, ◌++◌, filter, get_or, length, min, replicate, set, Result, Ok, Err, OnErr, refl, ap, subst, arith}
+use Rattle.std.proofs.Common.{◌≡◌, ◌∙◌, ◌-◌, ◌<◌, ℕ, Bool, true, false, cond, List, [], ◌∷◌, ◌++◌, filter, get_or, length, min, replicate, set, Result, Ok, Err, OnErr, refl, sym, ap, subst, if◌then◌else◌, ◌≤◌, arith}
+use Rattle.std.proofs.lemmas.Bool.{le-ltb, lt-ltb}
+use Rattle.std.proofs.lemmas.List.Elements.{filter-append}
 use Rattle.std.proofs.lemmas.List.{ext_get_or, get_or-replicate, length-replicate, length_push, set-get_or, take_at}
 use Rattle.market_model.specs.declared.event.Event.{Event}
-use Rattle.event_history.specs.ByHour.{AreByHour, Gain, Lose, at_hour, but_last, hour_count, is_from}
+use Rattle.market_model.specs.History.{of_hour, touches}
+use Rattle.event_history.specs.ByHour.{AreByHour, Gain, Lose, at_hour, but_last, has_list, hour_count, is_from, listed}
 use Rattle.event_history.specs.Near.{IsNear}
 
 -- ---- an event comes, and goes again
@@ -57,3 +60,26 @@ near_all hour events lent is = record {
   some = is ∙ filter-all events;
   all = λ event touch. refl;
 }
+
+-- the list of an hour that has its own, and of one that has none
+pub listed_own : (hour : ℕ) (events lent : List Event) → hour < hour_count → lent ≡ of_hour hour events → lent ≡ listed hour events
+listed_own hour events lent few is = is ∙ sym (ap (λ b. if b then of_hour hour events else events) (lt-ltb hour hour_count few))
+
+pub listed_all : (hour : ℕ) (events lent : List Event) → hour_count ≤ hour → lent ≡ events → lent ≡ listed hour events
+listed_all hour events lent many is = is ∙ sym (ap (λ b. if b then of_hour hour events else events) (le-ltb hour hour_count many))
+
+-- the events of the list of an hour are some of all, among them those that touch it
+pub listed_near : (hour : ℕ) (events lent : List Event) → lent ≡ listed hour events → IsNear hour events lent
+listed_near hour events lent = go (has_list hour)
+  where
+    go : (b : Bool) → lent ≡ (if b then of_hour hour events else events) → IsNear hour events lent
+    go true is = record { keeps = touches hour; some = is; all = λ event touch. touch }
+    go false is = near_all hour events lent is
+
+-- the list of an hour among more events
+pub listed-append : (hour : ℕ) (events more : List Event) → listed hour (events ++ more) ≡ listed hour events ++ listed hour more
+listed-append hour events more = go (has_list hour)
+  where
+    go : (b : Bool) → (if b then of_hour hour (events ++ more) else events ++ more) ≡ (if b then of_hour hour events else events) ++ (if b then of_hour hour more else more)
+    go true = filter-append (touches hour) events more
+    go false = refl

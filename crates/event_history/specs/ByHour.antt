@@ -7,6 +7,14 @@ use Rattle.market_model.specs.History.{of_hour}
 abbrev pub hour_count : ℕ
 hour_count = 26
 
+-- an hour has a list of its own
+abbrev pub has_list : (hour : ℕ) → Bool
+has_list hour = nat_lt hour hour_count
+
+-- the list of an hour among some events: those that touch it, or all where it has none of its own
+abbrev pub listed : (hour : ℕ) → List Event → List Event
+listed hour events = if has_list hour then of_hour hour events else events
+
 -- the list of an hour
 abbrev pub at_hour : List (List Event) → (hour : ℕ) → List Event
 at_hour lists hour = slice_index_or lists hour []

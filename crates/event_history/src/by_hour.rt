@@ -8,8 +8,8 @@ use market_model::{Duplicate, Event, Events};
 use std::alloc::Global;
 use zone_graph::NoMemory;
 
-// One for each number up to the last hour of the longest delivery day.
-const HOURS: usize = 26;
+/// How many lists there are: one for each number up to the last hour of the longest delivery day.
+pub(crate) const HOURS: usize = 26;
 
 // After how many events the list of an hour is copied anew.
 const GROWTH: usize = 128;

@@ -2,10 +2,11 @@
 
 ghost use Rattle.std.specs.Prelude.{◌≡◌, ◌<◌, ◌↔◌, [], ◌∷◌, ◌++◌, filter, length, IsSome, IfOk, OnOk, OnErr, if◌then◌else◌};
 ghost use Rattle.std.specs.Option.{option_to_list};
+ghost use Rattle.event_history.specs.ByHour as by_hour;
 ghost use Rattle.event_history.specs.ByHour.{but_last};
 ghost use Rattle.event_history.specs.Near.{AreGates, IsNear, is_gate};
 
-use crate::by_hour::{forget, no_events, note, pop_last};
+use crate::by_hour::{HOURS, forget, no_events, note, pop_last};
 use crate::touching::Span;
 use market_model::{Duplicate, Event, Events};
 use std::alloc::Global;
@@ -74,14 +75,30 @@ impl History {
     }
 
     /// Lends the events that touch an hour, in order; others may stand between them.
-    #[tactic(auto, using(crate::proofs::ByHour::near_all))]
+    #[tactic(auto, using(crate::proofs::ByHour::listed_near))]
     pub fn near(&self, hour: u32) -> &[Event]
         ensures { IsNear hour self.now result.now }
+    {
+        self.listed(hour)
+    }
+
+    /// Lends the list of an hour: the events that touch it, in order, and all events of an hour that
+    /// [`History::has_list`] denies one.
+    #[tactic(auto, using(crate::proofs::ByHour::listed_own, crate::proofs::ByHour::listed_all))]
+    pub fn listed(&self, hour: u32) -> &[Event]
+        ensures { result.now ≡ by_hour.listed hour self.now }
     {
         match self.hours.as_slice().get(hour as usize) {
             Some(list) => list.as_slice(),
             None => self.events.as_slice(),
         }
+    }
+
+    /// Whether an hour is one of those that a list is kept for.
+    pub fn has_list(hour: u32) -> bool
+        ensures { result ≡ by_hour.has_list hour }
+    {
+        (hour as usize) < HOURS
     }
 
     /// Lends the gates of all hours, in order.
