@@ -73,10 +73,11 @@ pub fn carry_in_all(
     ensures fourth { rows.IsCarried route.now lots fourth.old fourth.new }
 {
     for arc in route {
-        take(first, *arc, lots);
-        take(second, *arc, lots);
-        take(third, *arc, lots);
-        take(fourth, *arc, lots);
+        let taken = *arc;
+        take(first, taken, lots);
+        take(second, taken, lots);
+        take(third, taken, lots);
+        take(fourth, taken, lots);
     }
 }
 
