@@ -8,5 +8,5 @@ use Rattle.plain_orders.specs.Tallies.{AreSums, AreSumsOf}
 pub sums-grow : (events more : List Event) (hour : ℕ) (sums : OrderSums) → AreSums events hour sums → AreSums (events ++ more) hour sums
 sums-grow events more hour sums are = record {
   most = omega (arith, are.most, length-append events more);
-  of_first = subst (λ first. AreSumsOf first hour sums.tallies.items sums.orders.items sums.moment) (sym (take-append-le sums.count events more are.most)) are.of_first;
+  of_first = subst (λ first. AreSumsOf first hour sums.tallies.items sums.moment sums.place) (sym (take-append-le sums.count events more are.most)) are.of_first;
 }

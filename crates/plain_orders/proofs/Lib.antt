@@ -9,3 +9,4 @@ pub mod Stable
 pub mod Taken
 pub mod Tells
 pub mod Growing
+pub mod Placing

@@ -1,7 +1,7 @@
 -- The orders, blocks and names of an hour, listed event by event.
-use Rattle.std.proofs.Common.{◌≡◌, ◌∙◌, ℕ, ◌+◌, ◌<◌, ◌≤◌, Bool, true, false, cond, List, [], ◌∷◌, ◌++◌, filter, get_or, length, map, nat_eq, not, suc, take, eqb-true, Option, Some, None, refl, sym, ap, subst, if◌then◌else◌, arith}
+use Rattle.std.proofs.Common.{◌≡◌, ◌∙◌, ℕ, ◌<◌, ◌≤◌, Bool, true, false, cond, List, [], ◌∷◌, ◌++◌, filter, get_or, length, map, nat_eq, not, suc, eqb-true, Option, Some, None, refl, sym, ap, subst, if◌then◌else◌, arith}
 use Rattle.std.proofs.lemmas.Bool.{le-ltb, lt-ltb}
-use Rattle.std.proofs.lemmas.List.{append-nil, map_push, take_more}
+use Rattle.std.proofs.lemmas.List.{append-nil, map_push}
 use Rattle.std.proofs.lemmas.List.Elements.{filter-append, filter_map-append}
 use Rattle.std.proofs.lemmas.List.Sums.{count_by-le-length, length-filter}
 use Rattle.std.specs.List.{cons_option, filter_map}
@@ -12,7 +12,7 @@ use Rattle.zone_graph.proofs.Places.{item_at_place}
 use Rattle.market_model.specs.declared.event.Event.{Event}
 use Rattle.market_model.specs.declared.event.Event.TheVariants as event
 use Rattle.market_model.specs.Blocks.{standing_block}
-use Rattle.market_model.specs.History.{and_then, enters_in, touches}
+use Rattle.market_model.specs.History.{and_then, enters_in}
 use Rattle.market_model.specs.Orders.{Placed, PlacedBlock, block_placed_by, blocks_placed, is_open, left, name_given, placed, placed_by, price_now, shown_lots, standing}
 use Rattle.market_model.specs.Refusals.{desk_room, has_desk_room}
 use Rattle.laws_of_market.proofs.Balances.{left-filled-taken_off}
@@ -20,10 +20,10 @@ use Rattle.laws_of_market.proofs.Members.{IsIn-filter_map, from_filter_map}
 use Rattle.laws_of_market.proofs.Names.{enters_as, names-once}
 use Rattle.laws_of_market.proofs.Placed.{all_are_sound, picked-same}
 use Rattle.laws_of_market.proofs.Tests.{same_name-refl}
-use Rattle.laws_of_market.proofs.Unique.{enters-block_placed, enters-placed, entered-order, times-some}
+use Rattle.laws_of_market.proofs.Unique.{enters-block_placed, entered-order, times-some}
 use Rattle.plain_orders.specs.declared.tally.Tally.{Tally}
 use Rattle.plain_orders.specs.Histories.{HasSoundNumbers, IsSomeHistory}
-use Rattle.plain_orders.specs.Listed.{block_given, is_block_of, is_order_of, kept, open_orders, order_given, stands_open, blocks_of}
+use Rattle.plain_orders.specs.Listed.{block_given, is_block_of, is_order_of, kept, order_given, stands_open, blocks_of}
 use Rattle.plain_orders.specs.Tallies.{AreTallies, Tells, entered_in, name_in, standing_block_by, standing_by}
 use Rattle.plain_orders.proofs.Taken.{has-place, same-name}
 
@@ -85,36 +85,6 @@ pub filtered-listed-more : {Y Z : Type 0} (pick : Event → Option Y) (p : Y →
 filtered-listed-more pick p f front before e y split is passes =
     ap (map f) (filtered-more pick p front before e y split is passes) ∙ map_push f (filter p (filter_map pick before)) y
 
--- an event that does not touch an hour enters no order by it
-pub order-elsewhere : (hour : ℕ) (e : Event) → touches hour e ≡ false → order_given hour e ≡ None
-order-elsewhere hour (event.Entered given caller order) h = rw h refl
-order-elsewhere hour _ h = refl
-
--- one more of some orders, where it is open and where it is not
-module _ (events : List Event) (orders : List Placed) (i : ℕ) (order : Placed) (within : i < length orders) (is : order ≡ get_or orders i order) where
-  one-more : take (i + 1) orders ≡ take i orders ++ order ∷ []
-  one-more = take_more orders i order within ∙ ap (λ o. take i orders ++ o ∷ []) (sym is)
-
-  pub open-more : stands_open events order ≡ true
-      → map (standing events) (filter (stands_open events) (take (i + 1) orders))
-      ≡ map (standing events) (filter (stands_open events) (take i orders)) ++ standing events order ∷ []
-  open-more on =
-      ap (λ os. map (standing events) (filter (stands_open events) os)) one-more
-      ∙ ap (map (standing events)) (filter-append (stands_open events) (take i orders) (order ∷ [])
-      ∙ ap (λ b. filter (stands_open events) (take i orders) ++ cond b (order ∷ []) []) on)
-      ∙ map_push (standing events) (filter (stands_open events) (take i orders)) order
-
-  pub closed-more : stands_open events order ≡ false
-      → map (standing events) (filter (stands_open events) (take (i + 1) orders)) ≡ map (standing events) (filter (stands_open events) (take i orders))
-  closed-more off =
-      ap (λ os. map (standing events) (filter (stands_open events) os)) one-more
-      ∙ ap (map (standing events)) (filter-append (stands_open events) (take i orders) (order ∷ [])
-      ∙ ap (λ b. filter (stands_open events) (take i orders) ++ cond b (order ∷ []) []) off ∙ append-nil (filter (stands_open events) (take i orders)))
-
-pub orders-listed : (events : List Event) (hour : ℕ)
-    → map (standing events) (filter (stands_open events) (filter_map (order_given hour) events)) ≡ open_orders events hour
-orders-listed events hour = ap (λ orders. map (standing events) (filter (stands_open events) orders)) (kept-filter placed_by (is_order_of hour) events)
-
 pub blocks-listed : (events : List Event) (first : ℕ) → map (standing_block events) (filter_map (block_given first) events) ≡ blocks_of events first
 blocks-listed events first = ap (map (standing_block events)) (kept-filter block_placed_by (is_block_of first) events)
 
@@ -122,9 +92,6 @@ blocks-listed events first = ap (map (standing_block events)) (kept-filter block
 
 -- an order that an event of a history enters by an hour
 pub record OrderAt (events : List Event) (hour : ℕ) (order : Placed) : Type 0 where
-  pub is_placed : IsIn order (placed events)
-  pub in_hour : order.name.hour ≡ hour
-  pub has_place : (size : ℕ) → entered_in events hour < size → order.name.number < size
   pub sound : HasSoundNumbers order.order
   pub stands : (tally : Tally) → Tells events (name_in hour order.name.number) tally
       → (standing_by tally order ≡ standing events order) × (tally.filled ≤ order.order.quantity.0)
@@ -138,10 +105,6 @@ order-in events hour order history listed =
     let of_hour : order.name.hour ≡ hour = eqb-true order.name.hour hour from.1 in
     let there = IsIn-filter_map placed_by e order events here from.0 in
     record {
-      is_placed = there;
-      in_hour = of_hour;
-      has_place = λ size room. has-place history.setup events history.fit order.name hour size
-          (times-some order.name e events here (enters-placed order e from.0)) of_hour room;
       sound = record { no_fault = ((all_are_sound history.setup events history.fit).orders order there).sound };
       stands = λ tally tells. stands there of_hour tally tells;
       opens = λ tally tells some. let told = subst (λ n. Tells events n tally) (same-name order.name hour of_hour) tells in

@@ -15,7 +15,7 @@ use Rattle.market_model.specs.History.{and_then, enters_in, of_hour, touches}
 use Rattle.market_model.specs.Orders.{Placed, PlacedBlock, block_placed_by, blocks_placed, left, name_given, placed, placed_by}
 use Rattle.market_model.specs.WellFormed.{FitAfter}
 use Rattle.laws_of_market.proofs.Balances.{left-filled-taken_off}
-use Rattle.laws_of_market.proofs.LocalStates.{Agree, agree-more, blocks_placed-agree, left-agree, next_name-agree, placed-agree}
+use Rattle.laws_of_market.proofs.LocalStates.{Agree, agree-more, blocks_placed-agree, left-agree, next_name-agree}
 use Rattle.laws_of_market.proofs.Members.{from_filter_map}
 use Rattle.laws_of_market.proofs.NamedByHour.{history-named}
 use Rattle.laws_of_market.proofs.Names.{names-once, times_entered}
@@ -23,7 +23,7 @@ use Rattle.laws_of_market.proofs.Restrict.{filter-filter, fold-filter}
 use Rattle.laws_of_market.proofs.Unique.{entered-none, enters-block_placed, enters-placed, times-some}
 use Rattle.event_history.specs.Near.{IsNear}
 use Rattle.plain_orders.specs.Histories.{IsSomeHistory}
-use Rattle.plain_orders.specs.Listed.{block_given, is_block_of, is_order_of, order_given}
+use Rattle.plain_orders.specs.Listed.{block_given, is_block_of}
 use Rattle.plain_orders.specs.Owned.{block_placed_as, placed_as}
 use Rattle.plain_orders.specs.declared.tally.Tally.{Tally}
 use Rattle.plain_orders.specs.Tallies.{AreTallies, CanTakeIn, Tells, after_event, entered_in, name_in, nothing, with_place}
@@ -36,13 +36,13 @@ use Rattle.plain_orders.proofs.Tells.{tells-agree}
 
 -- an item of a part of a list stands in the list, and before it the items of the list whose part is
 -- before it in the part
-record StandsAt {X : Type 0} (keeps : X → Bool) (xs : List X) (place : ℕ) (x : X) : Type 0 where
-  there : ℕ
-  within : there < length xs
-  is : x ≡ get_or xs there x
-  before : take place (filter keeps xs) ≡ filter keeps (take there xs)
+pub record StandsAt {X : Type 0} (keeps : X → Bool) (xs : List X) (place : ℕ) (x : X) : Type 0 where
+  pub there : ℕ
+  pub within : there < length xs
+  pub is : x ≡ get_or xs there x
+  pub before : take place (filter keeps xs) ≡ filter keeps (take there xs)
 
-stands-at : {X : Type 0} (keeps : X → Bool) (xs : List X) (place : ℕ) (x : X) → place < length (filter keeps xs) → x ≡ get_or (filter keeps xs) place x
+pub stands-at : {X : Type 0} (keeps : X → Bool) (xs : List X) (place : ℕ) (x : X) → place < length (filter keeps xs) → x ≡ get_or (filter keeps xs) place x
     → StandsAt keeps xs place x
 stands-at keeps [] place x within is = absurd (omega arith)
 stands-at {X} keeps (y ∷ ys) place x within is = go (keeps y) place refl within is (λ p. stands-at keeps ys p x)
@@ -58,7 +58,7 @@ stands-at {X} keeps (y ∷ ys) place x within is = go (keeps y) place refl withi
         record { there = suc r.there; within = (let low = r.within in omega arith); is = r.is; before = rw e (ap (λ zs. y ∷ zs) r.before) }
 
 -- what is picked of a part that keeps all of which something is picked
-picked-kept : {X Y : Type 0} (pick : X → Option Y) (keeps : X → Bool) (xs : List X) → ((x : X) → keeps x ≡ false → pick x ≡ None)
+pub picked-kept : {X Y : Type 0} (pick : X → Option Y) (keeps : X → Bool) (xs : List X) → ((x : X) → keeps x ≡ false → pick x ≡ None)
     → filter_map pick (filter keeps xs) ≡ filter_map pick xs
 picked-kept pick keeps [] none = refl
 picked-kept {X} {Y} pick keeps (x ∷ xs) none = go (picked-kept pick keeps xs none) (keeps x) refl
@@ -91,7 +91,7 @@ found-kept {X} {Y} pick test keeps (x ∷ xs) other = go (found-kept pick test k
 
 -- ---- events that do not touch an hour
 
-enters-elsewhere : (hour : ℕ) (e : Event) → touches hour e ≡ false → enters_in hour e ≡ false
+pub enters-elsewhere : (hour : ℕ) (e : Event) → touches hour e ≡ false → enters_in hour e ≡ false
 enters-elsewhere hour (event.Entered given caller order) h = h
 enters-elsewhere hour (event.EnteredBlock given caller order) h = h
 enters-elsewhere hour _ h = refl
@@ -126,6 +126,25 @@ module _ (hour : ℕ) (events near : List Event) (lent : IsNear hour events near
       ap (λ es. entered_in es hour) lent.some
       ∙ fold-filter (λ said e. said + cond (enters_in hour e) 1 0) lent.keeps events
       (λ e i out said. rw (enters-elsewhere hour e (untouched e out)) (omega arith)) 0
+
+  -- those that enter by the hour
+  pub near-entries : filter (enters_in hour) near ≡ filter (enters_in hour) events
+  near-entries =
+      ap (filter (enters_in hour)) lent.some
+      ∙ filter-filter (enters_in hour) lent.keeps events (λ e i own. lent.all e (touching e own))
+    where
+      touching : (e : Event) → enters_in hour e ≡ true → touches hour e ≡ true
+      touching (event.Entered given caller order) own = own
+      touching (event.EnteredBlock given caller order) own = own
+      touching (event.Leg contract leg) own = absurd (cc)
+      touching (event.BlockLeg first last leg) own = absurd (cc)
+      touching (event.Granted arc first last lots) own = absurd (cc)
+      touching (event.Offered arc first last lots) own = absurd (cc)
+      touching (event.Halted border first last) own = absurd (cc)
+      touching (event.Resumed border first last) own = absurd (cc)
+      touching (event.Gated gated asked) own = absurd (cc)
+      touching (event.Withdrawn given lots) own = absurd (cc)
+      touching (event.Reduced given by) own = absurd (cc)
 
   pub near-names : filter_map (name_given hour) near ≡ filter_map (name_given hour) events
   near-names =
@@ -191,13 +210,7 @@ module _ (hour : ℕ) (events near : List Event) (history : IsSomeHistory events
             (history-named at.setup (and_then (take found.there events) e) at.fit_more e (IsIn-right e (take found.there events) (e ∷ []) (inl refl)));
       }
 
-  -- the orders and the blocks that enter by the hour
-  pub near-orders : filter_map (order_given hour) near ≡ filter_map (order_given hour) events
-  near-orders =
-      kept-filter placed_by (is_order_of hour) near
-      ∙ placed-agree (hour ∷ []) near events near-agree hour (inl refl)
-      ∙ sym (kept-filter placed_by (is_order_of hour) events)
-
+  -- the blocks that enter by the hour
   pub near-blocks : filter_map (block_given hour) near ≡ filter_map (block_given hour) events
   near-blocks =
       kept-filter block_placed_by (is_block_of hour) near
@@ -228,7 +241,7 @@ near-left-at events near place e name history lent within is =
 agree-back : (hour : ℕ) (a b : List Event) → Agree (hour ∷ []) a b → Agree (hour ∷ []) b a
 agree-back hour a b agree = record { named_a = agree.named_b; named_b = agree.named_a; same = λ other i. sym (agree.same other i) }
 
-tallies-agree : (hour : ℕ) (a b : List Event) (tallies : List Tally) → Agree (hour ∷ []) a b → AreTallies b hour tallies → AreTallies a hour tallies
+pub tallies-agree : (hour : ℕ) (a b : List Event) (tallies : List Tally) → Agree (hour ∷ []) a b → AreTallies b hour tallies → AreTallies a hour tallies
 tallies-agree hour a b tallies agree tell number d within = tells-agree a b hour number (get_or tallies number d) agree (tell number d within)
 
 -- what no event has entered
@@ -341,12 +354,12 @@ module _ (hour : ℕ) (events near : List Event) (place : ℕ) (e : Event) (here
       can-take_in here.at.setup (take here.there events) e hour tallies (comes-at events here.there e here.at) (tallies-there tallies tell) (omega (arith, same, size))
 
   -- and is taken in, where it touches the hour
-  pub near-taken : (moment : ℕ) (old new : List Tally) → touches hour e ≡ true → moment ≡ length (of_hour hour (take place near)) + 1 → length new ≡ length old
-      → ((number : ℕ) (d : Tally) → number < length old → get_or new number d ≡ after_event (record { hour = hour; number = number }) moment e (get_or old number d))
+  pub near-taken : (moment at : ℕ) (old new : List Tally) → touches hour e ≡ true → moment ≡ length (of_hour hour (take place near)) + 1 → length new ≡ length old
+      → ((number : ℕ) (d : Tally) → number < length old → get_or new number d ≡ after_event (record { hour = hour; number = number }) moment at e (get_or old number d))
       → AreTallies (take place near) hour old → AreTallies (take (place + 1) near) hour new
-  near-taken moment old new touch is size changes tell =
+  near-taken moment at old new touch is size changes tell =
       tallies-back new (
-      tallies-more here.at.setup (take here.there events) e hour moment old new (comes-at events here.there e here.at) touch
+      tallies-more here.at.setup (take here.there events) e hour moment at old new (comes-at events here.there e here.at) touch
       (is ∙ ap (λ es. length es + 1) (here.agree.same hour (inl refl))) size changes (tallies-there old tell))
 
   -- and passed over, where it does not

@@ -1,28 +1,27 @@
 -- An event of a history can be taken in, and then the tallies tell what the events with it come to.
-use Rattle.std.proofs.Common.{◌≡◌, ◌≢◌, ◌∙◌, inl, inr, ℕ, ◌+◌, ◌<◌, ◌≤◌, Bool, true, false, cond, List, [], ◌∷◌, ◌++◌, filter, get_or, length, length-append, length-take, Some, take, refl, sym, ap, subst, if◌then◌else◌, arith}
+use Rattle.std.proofs.Common.{◌≡◌, ◌≢◌, ◌∙◌, inl, inr, ℕ, ◌+◌, ◌<◌, ◌≤◌, Bool, true, false, cond, List, [], ◌∷◌, ◌++◌, filter, get_or, length, length-append, length-take, nat_eq, eq-eqb, Some, take, refl, sym, ap, subst, if◌then◌else◌, arith}
 use Rattle.std.proofs.lemmas.Bool.{cases_lt}
 use Rattle.std.proofs.lemmas.List.{get_or_past}
-use Rattle.std.proofs.lemmas.List.Sums.{sum_by-append}
+use Rattle.std.proofs.lemmas.List.Sums.{sum_by-append, sum_by_push}
 use Rattle.order_kinds.specs.declared.order.OrderName.{OrderName}
 use Rattle.order_kinds.specs.declared.side.Side.{Side}
 use Rattle.order_kinds.specs.declared.side.Side.TheVariants.{Buy, Sell}
 use Rattle.order_kinds.specs.Same.{same_name}
 use Rattle.order_kinds.specs.Side.{opposite}
 use Rattle.zone_graph.specs.Route.{IsIn}
-use Rattle.zone_graph.proofs.Membership.{IsIn-right}
 use Rattle.market_model.specs.declared.event.Event.{Event}
 use Rattle.market_model.specs.declared.event.Event.TheVariants as event
 use Rattle.market_model.specs.declared.setup.Setup.{Setup}
 use Rattle.market_model.specs.History.{and_then, enters_in, of_hour, touches}
-use Rattle.market_model.specs.Orders.{Placed, PlacedBlock, block_placed_by, blocks_placed, entered, entered_by, filled, left, placed}
+use Rattle.market_model.specs.Orders.{Placed, PlacedBlock, block_placed_by, blocks_placed, entered, entered_by, filled, left, next_name, placed}
 use Rattle.market_model.specs.WellFormed.{BlockLegFits, FitAfter, LegFits}
 use Rattle.laws_of_market.proofs.Balances.{left-filled-taken_off, maker_has-leg, taker_has-leg}
 use Rattle.laws_of_market.proofs.Members.{from_filter_map}
-use Rattle.laws_of_market.proofs.Names.{enters_as, names-once, times_entered}
+use Rattle.laws_of_market.proofs.Names.{names-once, times_entered}
 use Rattle.laws_of_market.proofs.Placed.{all_are_sound}
 use Rattle.laws_of_market.proofs.Soundness.{block_fault-none, lots_in_range-bounds, order_fault-none}
 use Rattle.laws_of_market.proofs.Tests.{same_name-refl}
-use Rattle.laws_of_market.proofs.Unique.{entered-is, entered-none, entered-order, enters-block_placed, one_block, one_order, times-some}
+use Rattle.laws_of_market.proofs.Unique.{entered-is, entered-none, entered-order, enters-block_placed, one_block, one_order}
 use Rattle.laws_of_market.proofs.Wholes.{other_name}
 use Rattle.plain_orders.specs.Histories.{IsSomeHistory}
 use Rattle.plain_orders.specs.declared.tally.Change.{Change}
@@ -163,19 +162,24 @@ module _ (setup : Setup) (before : List Event) (hour : ℕ) (tallies : List Tall
   can-fall name lots some has of_hour_too =
       (placed-at name some of_hour_too, λ d. let told = tells-of name d some of_hour_too in omega (arith, told.left, has))
 
--- what enters has a place
-entering-place : (setup : Setup) (before : List Event) (e : Event) (name : OrderName) (hour size : ℕ) → Comes setup before e → enters_as name e ≡ true
-    → entered_in (and_then before e) hour < size → name.hour ≡ hour → name.number < size
-entering-place setup before e name hour size comes is room of_hour_too =
-    has-place setup (and_then before e) comes.fit_more name hour size
-    (times-some name e (and_then before e) (IsIn-right e before (e ∷ []) (inl refl)) is) of_hour_too room
+-- what enters gets the next number
+entering-next : (before : List Event) (e : Event) (given : OrderName) (own hour size : ℕ) → given ≡ next_name before own → enters_in hour e ≡ nat_eq given.hour hour
+    → size ≡ entered_in (and_then before e) hour + 1 → given.hour ≡ hour → given.number + 1 ≡ size
+entering-next before e given own hour size named enters room is =
+    let there : own ≡ hour = sym (ap (λ (n : OrderName). n.hour) named) ∙ is in
+    let number : given.number ≡ entered_in before own + 1 = ap (λ (n : OrderName). n.number) named in
+    let same : entered_in before own ≡ entered_in before hour = ap (entered_in before) there in
+    let one : entered_in before hour + cond (enters_in hour e) 1 0 ≡ entered_in before hour + 1 =
+    ap (λ b. entered_in before hour + cond b 1 0) (enters ∙ eq-eqb given.hour hour is) in
+    let more = sum_by_push (λ x. cond (enters_in hour x) 1 0) before e in
+    omega (arith, number, same, one, more, room)
 
 pub can-take_in : (setup : Setup) (before : List Event) (e : Event) (hour : ℕ) (tallies : List Tally) → Comes setup before e → AreTallies before hour tallies
-    → entered_in (and_then before e) hour < length tallies → CanTakeIn hour e tallies
+    → length tallies ≡ entered_in (and_then before e) hour + 1 → CanTakeIn hour e tallies
 can-take_in setup before (event.Entered given caller order) hour tallies comes tell room =
-    entering-place setup before (event.Entered given caller order) given hour (length tallies) comes (same_name-refl given) room
+    entering-next before (event.Entered given caller order) given order.contract.hour hour (length tallies) comes.fits.named refl room
 can-take_in setup before (event.EnteredBlock given caller order) hour tallies comes tell room =
-    entering-place setup before (event.EnteredBlock given caller order) given hour (length tallies) comes (same_name-refl given) room
+    entering-next before (event.EnteredBlock given caller order) given order.first hour (length tallies) comes.fits.named refl room
 can-take_in setup before (event.Leg contract leg) hour tallies comes tell room =
     let fits : LegFits setup before contract leg = comes.fits in
     let less = count-append hour before (event.Leg contract leg ∷ []) in
@@ -231,15 +235,15 @@ second-can hour one other first second old new apart changes size can is =
 -- ---- one event more
 
 -- an event of the hour, taken in
-pub tallies-more : (setup : Setup) (before : List Event) (e : Event) (hour moment : ℕ) (old new : List Tally) → Comes setup before e → touches hour e ≡ true
+pub tallies-more : (setup : Setup) (before : List Event) (e : Event) (hour moment place : ℕ) (old new : List Tally) → Comes setup before e → touches hour e ≡ true
     → moment ≡ length (of_hour hour before) + 1 → length new ≡ length old
-    → ((number : ℕ) (d : Tally) → number < length old → get_or new number d ≡ after_event (record { hour = hour; number = number }) moment e (get_or old number d))
+    → ((number : ℕ) (d : Tally) → number < length old → get_or new number d ≡ after_event (record { hour = hour; number = number }) moment place e (get_or old number d))
     → AreTallies before hour old → AreTallies (and_then before e) hour new
-tallies-more setup before e hour moment old new comes touch is size changes tell number d within =
+tallies-more setup before e hour moment place old new comes touch is size changes tell number d within =
     let here : number < length old = omega (arith, within, size) in
     subst (Tells (and_then before e) (name_in hour number))
-    (sym (changes number d here ∙ ap (λ m. after_event (name_in hour number) m e (get_or old number d)) is))
-    (tells-after setup before e hour number (get_or old number d) comes touch (tell number d here))
+    (sym (changes number d here ∙ ap (λ m. after_event (name_in hour number) m place e (get_or old number d)) is))
+    (tells-after setup before e hour number place (get_or old number d) comes touch (tell number d here))
 
 -- another event
 pub tallies-same : (setup : Setup) (before : List Event) (e : Event) (hour : ℕ) (tallies : List Tally) → Comes setup before e → touches hour e ≡ false

@@ -173,16 +173,16 @@ module _ (setup : Setup) (before : List Event) (e : Event) (hour number : ℕ) (
 
 -- ---- each kind of event
 
-tells-by_order : (setup : Setup) (before : List Event) (given : OrderName) (caller : ℕ) (order : Order) (hour number : ℕ) (tally : Tally)
+tells-by_order : (setup : Setup) (before : List Event) (given : OrderName) (caller : ℕ) (order : Order) (hour number at : ℕ) (tally : Tally)
     → Comes setup before (event.Entered given caller order) → touches hour (event.Entered given caller order) ≡ true → Tells before (name_in hour number) tally
     → Tells (and_then before (event.Entered given caller order)) (name_in hour number)
-    (after_event (name_in hour number) (length (of_hour hour before) + 1) (event.Entered given caller order) tally)
-tells-by_order setup before given caller order hour number tally comes touch tells = go (same_name given (name_in hour number)) refl
+    (after_event (name_in hour number) (length (of_hour hour before) + 1) at (event.Entered given caller order) tally)
+tells-by_order setup before given caller order hour number at tally comes touch tells = go (same_name given (name_in hour number)) refl
   where
     go : (b : Bool) → same_name given (name_in hour number) ≡ b → Tells (and_then before (event.Entered given caller order)) (name_in hour number)
-        (if b then entering order.quantity.0 (length (of_hour hour before) + 1) order.kind else tally)
+        (if b then entering order.quantity.0 (length (of_hour hour before) + 1) order.kind at else tally)
     go true is = tells-entered setup before (event.Entered given caller order) hour number tally comes touch tells
-        (entering order.quantity.0 (length (of_hour hour before) + 1) order.kind) (record {
+        (entering order.quantity.0 (length (of_hour hour before) + 1) order.kind at) (record {
           is_new = subst (λ n. times_entered before n ≡ 0) (same_name-eq given (name_in hour number) is)
               (order_name-new setup before given caller order (names-once setup before comes.fit) comes.fits);
           is_filled = refl;
@@ -204,16 +204,16 @@ tells-by_order setup before given caller order hour number tally comes touch tel
       block_stays = λ b i s. refl;
     })
 
-tells-by_block : (setup : Setup) (before : List Event) (given : OrderName) (caller : ℕ) (order : BlockOrder) (hour number : ℕ) (tally : Tally)
+tells-by_block : (setup : Setup) (before : List Event) (given : OrderName) (caller : ℕ) (order : BlockOrder) (hour number at : ℕ) (tally : Tally)
     → Comes setup before (event.EnteredBlock given caller order) → touches hour (event.EnteredBlock given caller order) ≡ true → Tells before (name_in hour number) tally
     → Tells (and_then before (event.EnteredBlock given caller order)) (name_in hour number)
-    (after_event (name_in hour number) (length (of_hour hour before) + 1) (event.EnteredBlock given caller order) tally)
-tells-by_block setup before given caller order hour number tally comes touch tells = go (same_name given (name_in hour number)) refl
+    (after_event (name_in hour number) (length (of_hour hour before) + 1) at (event.EnteredBlock given caller order) tally)
+tells-by_block setup before given caller order hour number at tally comes touch tells = go (same_name given (name_in hour number)) refl
   where
     go : (b : Bool) → same_name given (name_in hour number) ≡ b → Tells (and_then before (event.EnteredBlock given caller order)) (name_in hour number)
-        (if b then entering order.quantity.0 (length (of_hour hour before) + 1) kind.Limit else tally)
+        (if b then entering order.quantity.0 (length (of_hour hour before) + 1) kind.Limit at else tally)
     go true is = tells-entered setup before (event.EnteredBlock given caller order) hour number tally comes touch tells
-        (entering order.quantity.0 (length (of_hour hour before) + 1) kind.Limit) (record {
+        (entering order.quantity.0 (length (of_hour hour before) + 1) kind.Limit at) (record {
           is_new = subst (λ n. times_entered before n ≡ 0) (same_name-eq given (name_in hour number) is)
               (block_name-new setup before given caller order (names-once setup before comes.fit) comes.fits);
           is_filled = refl;
@@ -234,11 +234,11 @@ tells-by_block setup before given caller order hour number tally comes touch tel
       block_stays = λ b i s. sym (ap (λ t. if t then length (of_hour hour before) + 1 else tally.moment) (subst (λ n. same_name given n ≡ false) (sym s) is));
     })
 
-tells-by_leg : (setup : Setup) (before : List Event) (contract : Contract) (leg : Leg) (hour number : ℕ) (tally : Tally)
+tells-by_leg : (setup : Setup) (before : List Event) (contract : Contract) (leg : Leg) (hour number at : ℕ) (tally : Tally)
     → Comes setup before (event.Leg contract leg) → touches hour (event.Leg contract leg) ≡ true → Tells before (name_in hour number) tally
     → Tells (and_then before (event.Leg contract leg)) (name_in hour number)
-    (after_event (name_in hour number) (length (of_hour hour before) + 1) (event.Leg contract leg) tally)
-tells-by_leg setup before contract leg hour number tally comes touch tells = go (names leg (name_in hour number)) refl
+    (after_event (name_in hour number) (length (of_hour hour before) + 1) at (event.Leg contract leg) tally)
+tells-by_leg setup before contract leg hour number at tally comes touch tells = go (names leg (name_in hour number)) refl
   where
     -- an order that the leg names is no block
     of_orders : (block : PlacedBlock) → IsIn block (blocks_placed before) → block.name ≡ name_in hour number → names leg (name_in hour number) ≡ true → ⊥
@@ -314,11 +314,11 @@ module _ (setup : Setup) (before : List Event) (e : Event) (hour number : ℕ) (
     block_stays = λ b i s. same ∙ sym (ap (λ t. if t then length (of_hour hour before) + 1 else tally.moment) (no_block_moment b (of_hour hour before)));
   })
 
-tells-by_deal : (setup : Setup) (before : List Event) (first last : ℕ) (leg : Leg) (hour number : ℕ) (tally : Tally)
+tells-by_deal : (setup : Setup) (before : List Event) (first last : ℕ) (leg : Leg) (hour number at : ℕ) (tally : Tally)
     → Comes setup before (event.BlockLeg first last leg) → touches hour (event.BlockLeg first last leg) ≡ true → Tells before (name_in hour number) tally
     → Tells (and_then before (event.BlockLeg first last leg)) (name_in hour number)
-    (after_event (name_in hour number) (length (of_hour hour before) + 1) (event.BlockLeg first last leg) tally)
-tells-by_deal setup before first last leg hour number tally comes touch tells = go (names leg (name_in hour number)) refl
+    (after_event (name_in hour number) (length (of_hour hour before) + 1) at (event.BlockLeg first last leg) tally)
+tells-by_deal setup before first last leg hour number at tally comes touch tells = go (names leg (name_in hour number)) refl
   where
     plain : (after : Tally) → after.filled ≡ tally.filled + lots_if (names leg (name_in hour number)) leg.lots
         → after.left ≡ tally.left - (lots_if (names leg (name_in hour number)) leg.lots + 0) → after.kind ≡ tally.kind → after.moment ≡ tally.moment
@@ -350,26 +350,26 @@ fallen setup before e given lots hour number tally plain = go (same_name given (
         plain tally (omega arith) (omega (arith, taken)) refl refl
 
 -- what a tally becomes by an event of its hour tells what the events with it come to
-pub tells-after : (setup : Setup) (before : List Event) (e : Event) (hour number : ℕ) (tally : Tally) → Comes setup before e → touches hour e ≡ true
+pub tells-after : (setup : Setup) (before : List Event) (e : Event) (hour number at : ℕ) (tally : Tally) → Comes setup before e → touches hour e ≡ true
     → Tells before (name_in hour number) tally
-    → Tells (and_then before e) (name_in hour number) (after_event (name_in hour number) (length (of_hour hour before) + 1) e tally)
-tells-after setup before (event.Entered given caller order) hour number tally comes touch tells = tells-by_order setup before given caller order hour number tally comes touch tells
-tells-after setup before (event.EnteredBlock given caller order) hour number tally comes touch tells = tells-by_block setup before given caller order hour number tally comes touch tells
-tells-after setup before (event.Leg contract leg) hour number tally comes touch tells = tells-by_leg setup before contract leg hour number tally comes touch tells
-tells-after setup before (event.BlockLeg first last leg) hour number tally comes touch tells = tells-by_deal setup before first last leg hour number tally comes touch tells
-tells-after setup before (event.Granted arc first last lots) hour number tally comes touch tells =
+    → Tells (and_then before e) (name_in hour number) (after_event (name_in hour number) (length (of_hour hour before) + 1) at e tally)
+tells-after setup before (event.Entered given caller order) hour number at tally comes touch tells = tells-by_order setup before given caller order hour number at tally comes touch tells
+tells-after setup before (event.EnteredBlock given caller order) hour number at tally comes touch tells = tells-by_block setup before given caller order hour number at tally comes touch tells
+tells-after setup before (event.Leg contract leg) hour number at tally comes touch tells = tells-by_leg setup before contract leg hour number at tally comes touch tells
+tells-after setup before (event.BlockLeg first last leg) hour number at tally comes touch tells = tells-by_deal setup before first last leg hour number at tally comes touch tells
+tells-after setup before (event.Granted arc first last lots) hour number at tally comes touch tells =
     tells-plain setup before (event.Granted arc first last lots) hour number tally comes touch tells refl refl refl (λ o xs. refl) (λ b xs. refl) tally (omega arith) (omega arith) refl refl
-tells-after setup before (event.Offered arc first last lots) hour number tally comes touch tells =
+tells-after setup before (event.Offered arc first last lots) hour number at tally comes touch tells =
     tells-plain setup before (event.Offered arc first last lots) hour number tally comes touch tells refl refl refl (λ o xs. refl) (λ b xs. refl) tally (omega arith) (omega arith) refl refl
-tells-after setup before (event.Halted border first last) hour number tally comes touch tells =
+tells-after setup before (event.Halted border first last) hour number at tally comes touch tells =
     tells-plain setup before (event.Halted border first last) hour number tally comes touch tells refl refl refl (λ o xs. refl) (λ b xs. refl) tally (omega arith) (omega arith) refl refl
-tells-after setup before (event.Resumed border first last) hour number tally comes touch tells =
+tells-after setup before (event.Resumed border first last) hour number at tally comes touch tells =
     tells-plain setup before (event.Resumed border first last) hour number tally comes touch tells refl refl refl (λ o xs. refl) (λ b xs. refl) tally (omega arith) (omega arith) refl refl
-tells-after setup before (event.Gated gated asked) hour number tally comes touch tells =
+tells-after setup before (event.Gated gated asked) hour number at tally comes touch tells =
     tells-plain setup before (event.Gated gated asked) hour number tally comes touch tells refl refl refl (λ o xs. refl) (λ b xs. refl) tally (omega arith) (omega arith) refl refl
-tells-after setup before (event.Withdrawn given lots) hour number tally comes touch tells =
+tells-after setup before (event.Withdrawn given lots) hour number at tally comes touch tells =
     fallen setup before (event.Withdrawn given lots) given lots hour number tally
     (tells-plain setup before (event.Withdrawn given lots) hour number tally comes touch tells refl refl refl (λ o xs. refl) (λ b xs. refl))
-tells-after setup before (event.Reduced given by) hour number tally comes touch tells =
+tells-after setup before (event.Reduced given by) hour number at tally comes touch tells =
     fallen setup before (event.Reduced given by) given by hour number tally
     (tells-plain setup before (event.Reduced given by) hour number tally comes touch tells refl refl refl (λ o xs. refl) (λ b xs. refl))

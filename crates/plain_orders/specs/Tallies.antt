@@ -1,6 +1,5 @@
 -- What the events come to of each order and block of an hour, by its number.
-use Rattle.std.specs.Prelude.{◌≡◌, ◌≢◌, ℕ, ◌+◌, ◌-◌, ◌<◌, ◌≤◌, ◌^◌, List, [], ◌∷◌, ◌++◌, count_by, length, slice_index_or, take, if◌then◌else◌}
-use Rattle.std.specs.List.{filter_map}
+use Rattle.std.specs.Prelude.{◌≡◌, ◌≢◌, ℕ, ◌+◌, ◌-◌, ◌<◌, ◌≤◌, ◌^◌, List, [], ◌∷◌, ◌++◌, count_by, filter, length, slice_index_or, take, if◌then◌else◌}
 use Rattle.order_kinds.specs.declared.order.Kind.{Kind}
 use Rattle.order_kinds.specs.declared.order.Kind.TheVariants as kind
 use Rattle.order_kinds.specs.declared.order.OrderName.{OrderName}
@@ -11,7 +10,7 @@ use Rattle.market_model.specs.declared.event.Event.TheVariants as event
 use Rattle.market_model.specs.Blocks.{StandingBlock}
 use Rattle.market_model.specs.History.{enters_in, of_hour}
 use Rattle.market_model.specs.Orders.{Placed, PlacedBlock, Standing, block_moment, blocks_placed, ends_peak, filled, left, moment, names, placed, price_now, shown_lots}
-use Rattle.plain_orders.specs.Listed.{order_given}
+use Rattle.event_history.specs.ByHour.{listed}
 use Rattle.plain_orders.specs.declared.tally.Change.{Change}
 use Rattle.plain_orders.specs.declared.tally.OrderSums.{OrderSums}
 use Rattle.plain_orders.specs.declared.tally.Change.TheVariants as change
@@ -43,7 +42,6 @@ pub record CanTrade (lots : ℕ) (tally : Tally) : Type 0 where
 
 -- an order or block can change so
 abbrev pub CanChange : Change → Tally → Type 0
-CanChange (change.Enters entering) tally = Unit {0}
 CanChange (change.Trades lots moment) tally = CanTrade lots tally
 CanChange (change.Deals lots) tally = CanFill lots tally
 CanChange (change.Falls lots) tally = lots ≤ tally.left
@@ -55,42 +53,42 @@ traded lots moment tally = record {
   left = tally.left - lots;
   moment = if ends_peak tally.kind (tally.filled + lots) then moment else tally.moment;
   kind = tally.kind;
+  place = tally.place;
 }
 
 -- what an order or block comes to after one more change
 abbrev pub changed : Change → Tally → Tally
-changed (change.Enters entering) tally = entering
 changed (change.Trades lots moment) tally = traded lots moment tally
-changed (change.Deals lots) tally = record { filled = tally.filled + lots; left = tally.left - lots; moment = tally.moment; kind = tally.kind }
-changed (change.Falls lots) tally = record { filled = tally.filled; left = tally.left - lots; moment = tally.moment; kind = tally.kind }
+changed (change.Deals lots) tally = record { filled = tally.filled + lots; left = tally.left - lots; moment = tally.moment; kind = tally.kind; place = tally.place }
+changed (change.Falls lots) tally = record { filled = tally.filled; left = tally.left - lots; moment = tally.moment; kind = tally.kind; place = tally.place }
 
 -- what a new order or block comes to
-abbrev pub entering : (left moment : ℕ) → Kind → Tally
-entering left moment kind = record { filled = 0; left = left; moment = moment; kind = kind }
+abbrev pub entering : (left moment : ℕ) → Kind → (place : ℕ) → Tally
+entering left moment kind place = record { filled = 0; left = left; moment = moment; kind = kind; place = place }
 
 -- what nothing has entered comes to
 abbrev pub nothing : Tally
-nothing = entering 0 0 kind.Limit
+nothing = entering 0 0 kind.Limit 0
 
 -- with a place for what an event enters by the hour
 abbrev pub with_place : (hour : ℕ) → Event → List Tally → List Tally
 with_place hour event tallies = if enters_in hour event then tallies ++ nothing ∷ [] else tallies
 
--- what the order or block of a name comes to after an event, which has this place in its hour
-abbrev pub after_event : OrderName → (moment : ℕ) → Event → Tally → Tally
-after_event name moment (event.Entered given caller order) tally =
-    if same_name given name then entering order.quantity.0 moment order.kind else tally
-after_event name moment (event.EnteredBlock given caller order) tally =
-    if same_name given name then entering order.quantity.0 moment kind.Limit else tally
-after_event name moment (event.Leg contract leg) tally =
+-- what the order or block of a name comes to after an event, which is the one of this moment and stands at this place
+abbrev pub after_event : OrderName → (moment place : ℕ) → Event → Tally → Tally
+after_event name moment place (event.Entered given caller order) tally =
+    if same_name given name then entering order.quantity.0 moment order.kind place else tally
+after_event name moment place (event.EnteredBlock given caller order) tally =
+    if same_name given name then entering order.quantity.0 moment kind.Limit place else tally
+after_event name moment place (event.Leg contract leg) tally =
     if names leg name then traded leg.lots moment tally else tally
-after_event name moment (event.BlockLeg first last leg) tally =
+after_event name moment place (event.BlockLeg first last leg) tally =
     if names leg name then changed (change.Deals leg.lots) tally else tally
-after_event name moment (event.Withdrawn given lots) tally =
+after_event name moment place (event.Withdrawn given lots) tally =
     if same_name given name then changed (change.Falls lots) tally else tally
-after_event name moment (event.Reduced given by) tally =
+after_event name moment place (event.Reduced given by) tally =
     if same_name given name then changed (change.Falls by) tally else tally
-after_event name moment _ tally = tally
+after_event name moment place _ tally = tally
 
 -- the order or block of a name, where it is of the hour, has a place and can change so
 abbrev pub CanApply : (hour : ℕ) → OrderName → Change → List Tally → Type 0
@@ -99,8 +97,8 @@ CanApply hour name change tallies = name.hour ≡ hour
 
 -- an event can be taken in
 abbrev pub CanTakeIn : (hour : ℕ) → Event → List Tally → Type 0
-CanTakeIn hour (event.Entered given caller order) tallies = given.hour ≡ hour → given.number < length tallies
-CanTakeIn hour (event.EnteredBlock given caller order) tallies = given.hour ≡ hour → given.number < length tallies
+CanTakeIn hour (event.Entered given caller order) tallies = given.hour ≡ hour → given.number + 1 ≡ length tallies
+CanTakeIn hour (event.EnteredBlock given caller order) tallies = given.hour ≡ hour → given.number + 1 ≡ length tallies
 CanTakeIn hour (event.Leg contract leg) tallies = (leg.taker ≢ leg.maker)
     × ((moment : ℕ) → CanApply hour leg.taker (change.Trades leg.lots moment) tallies)
     × ((moment : ℕ) → CanApply hour leg.maker (change.Trades leg.lots moment) tallies)
@@ -127,17 +125,32 @@ AreTallies events hour tallies = (number : ℕ) (d : Tally) → number < length 
 abbrev pub left_at : List Tally → (number : ℕ) → ℕ
 left_at tallies number = (slice_index_or tallies number nothing).left
 
--- the tallies of an hour after some events, its orders, and how many of the events touch it
-pub record AreSumsOf (events : List Event) (hour : ℕ) (tallies : List Tally) (orders : List Placed) (moment : ℕ) : Type 0 where
+-- the events of a list that enter an order or block by an hour
+abbrev pub entries : (hour : ℕ) → List Event → List Event
+entries hour events = filter (enters_in hour) events
+
+-- the event of this place is the one of this number among those that enter, counted from 0
+pub record IsPlaceOf (list entering : List Event) (number place : ℕ) : Type 0 where
+  pub within : place < length list
+  pub is : (e : Event) → slice_index_or list place e ≡ slice_index_or entering number e
+
+-- each tally but the first tells the place of the event that entered its order or block
+abbrev pub ArePlaces : (list : List Event) (hour : ℕ) → List Tally → Type 0
+ArePlaces list hour tallies = (number : ℕ) (d : Tally) → number < length (entries hour list)
+    → IsPlaceOf list (entries hour list) number (slice_index_or tallies (number + 1) d).place
+
+-- the tallies of an hour after some events, how many of the events touch it, and how many are in its list
+pub record AreSumsOf (events : List Event) (hour : ℕ) (tallies : List Tally) (moment place : ℕ) : Type 0 where
   pub size : length tallies ≡ entered_in events hour + 1
   pub tell : AreTallies events hour tallies
-  pub orders_are : orders ≡ filter_map (order_given hour) events
+  pub places : ArePlaces (listed hour events) hour tallies
   pub moment_is : moment ≡ length (of_hour hour events)
+  pub place_is : place ≡ length (listed hour events)
 
 -- these are the sums of an hour over the first of some events
 pub record AreSums (events : List Event) (hour : ℕ) (sums : OrderSums) : Type 0 where
   pub most : sums.count ≤ length events
-  pub of_first : AreSumsOf (take sums.count events) hour sums.tallies.items sums.orders.items sums.moment
+  pub of_first : AreSumsOf (take sums.count events) hour sums.tallies.items sums.moment sums.place
 
 -- the sums are those over all of some events
 abbrev pub AreCurrent : List Event → OrderSums → Type 0

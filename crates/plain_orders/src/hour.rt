@@ -8,7 +8,7 @@ ghost use Rattle.plain_orders.specs.Histories.{IsSomeHistory};
 ghost use Rattle.plain_orders.specs.Listed as listed;
 ghost use Rattle.plain_orders.specs.Tallies.{AreCurrent, AreSums, AreSumsOf};
 
-use crate::placed::PlacedBlock;
+use crate::placed::{PlacedBlock, order_given};
 use crate::standing::{StandingBlock, StandingOrder};
 use crate::tally::{OrderSums, sum_up, tallies_of};
 use event_history::History;
@@ -67,14 +67,17 @@ fn list_open(
     sums: &OrderSums,
 ) -> Result<Vec<StandingOrder>, NoMemory>
     requires history { IsSomeHistory events.now }
-    requires sums { AreSumsOf events.now hour sums.now.tallies.items sums.now.orders.items sums.now.moment }
+    requires sums { AreSumsOf events.now hour sums.now.tallies.items sums.now.moment sums.now.place }
     ensures { IfOk result (λ made. made.items ≡ listed.open_orders events.now hour) }
 {
+    let list = events.listed(hour);
     let mut standing = Vec::with_capacity(alloc, FEW)?;
-    for placed in sums.orders.as_slice() {
-        let tally = sums.tallies[placed.name().number as usize];
+    for tally in &sums.tallies.as_slice()[1..] {
         if tally.left > 0 {
-            standing.push(StandingOrder::new(placed, tally))?;
+            match order_given(&list[tally.place], hour) {
+                Some(placed) => standing.push(StandingOrder::new(&placed, *tally))?,
+                None => {}
+            }
         }
     }
     Ok(standing)
@@ -133,7 +136,7 @@ pub(crate) fn list_names(
     sums: &OrderSums,
 ) -> Result<Vec<OrderName>, NoMemory>
     requires history { IsSomeHistory events.now }
-    requires sums { AreSumsOf events.now hour sums.now.tallies.items sums.now.orders.items sums.now.moment }
+    requires sums { AreSumsOf events.now hour sums.now.tallies.items sums.now.moment sums.now.place }
     ensures { IfOk result (λ made. made.items ≡ orders.open_names events.now hour) }
 {
     let mut names = Vec::new(alloc);

@@ -158,7 +158,7 @@ fn has_room_by(
     name: OrderName,
 ) -> Result<bool, NoMemory>
     requires history { IsSomeHistory events.now }
-    requires sums { AreSumsOf events.now name.hour sums.now.tallies.items sums.now.orders.items sums.now.moment }
+    requires sums { AreSumsOf events.now name.hour sums.now.tallies.items sums.now.moment sums.now.place }
     ensures { IfOk result (λ has. has ≡ refusals.has_desk_room events.now name) }
 {
     let places = sums.tallies.len();

@@ -1,16 +1,13 @@
 //! The sums of the orders and blocks of one hour, taken in one pass over the events.
 
-ghost use Rattle.std.specs.Prelude.{◌≡◌, ◌≢◌, ℕ, ◌+◌, ◌<◌, ◌≤◌, true, [], ◌∷◌, ◌++◌, IfOk, IfSome, OnOk, length, slice_index_or, take, if◌then◌else◌};
-ghost use Rattle.event_history.specs.Near.{IsNear};
+ghost use Rattle.std.specs.Prelude.{◌≡◌, ◌≢◌, ℕ, ◌+◌, ◌<◌, true, List, IfOk, IfSome, OnOk, length, slice_index_or, if◌then◌else◌};
+ghost use Rattle.market_model.specs.declared.event.Event.{Event as TheEvent};
 ghost use Rattle.market_model.specs.History as history;
 ghost use Rattle.market_model.specs.Orders as orders;
 ghost use Rattle.order_kinds.specs.Same.{same_name};
 ghost use Rattle.plain_orders.specs.Histories.{IsSomeHistory};
-ghost use Rattle.std.specs.List.{filter_map};
-ghost use Rattle.plain_orders.specs.Listed.{order_given};
 ghost use Rattle.plain_orders.specs.Tallies as sums;
 
-use crate::placed::{PlacedOrder, order_given};
 use event_history::History;
 use market_model::{Event, Kind, Leg, NoMemory, OrderName};
 use std::alloc::Global;
@@ -26,13 +23,13 @@ pub(crate) struct Tally {
     pub(crate) moment: u64,
     /// How it is executed: a block never in peaks.
     pub(crate) kind: Kind,
+    /// Where in the list of its hour the event stands that entered it.
+    pub(crate) place: usize,
 }
 
 /// What an event does to an order or block that it names.
 #[derive(Clone, Copy, Debug, PartialEq, Eq)]
 pub(crate) enum Change {
-    /// It enters.
-    Enters(Tally),
     /// The event of this place fills so many lots of an order.
     Trades { lots: u32, moment: u64 },
     /// So many lots of a block are filled.
@@ -48,20 +45,8 @@ impl Tally {
         left: 0,
         moment: 0,
         kind: Kind::Limit,
+        place: 0,
     };
-
-    // A new order or block.
-    #[inline(always)]
-    fn new(left: u32, moment: u64, kind: Kind) -> Tally
-        ensures { result ≡ record { filled = 0; left = left; moment = moment; kind = kind } }
-    {
-        Tally {
-            filled: 0,
-            left,
-            moment,
-            kind,
-        }
-    }
 
     // Lets one more change count.
     #[inline(always)]
@@ -70,7 +55,6 @@ impl Tally {
         ensures { self.new ≡ sums.changed change self.old }
     {
         match change {
-            Change::Enters(tally) => *self = tally,
             Change::Trades { lots, moment } => self.trade(lots, moment),
             Change::Deals { lots } => {
                 self.filled += lots;
@@ -113,10 +97,10 @@ pub struct OrderSums {
     // What the events come to of each order and block, at its number in the hour: numbers count from 1,
     // so the first place says nothing.
     pub(crate) tallies: Vec<Tally>,
-    // The orders that entered, open or not.
-    pub(crate) orders: Vec<PlacedOrder>,
     // How many of the events touch the hour.
-    moment: u64,
+    pub(crate) moment: u64,
+    // How long the list of the hour is.
+    pub(crate) place: usize,
     // How many events there are in all.
     count: usize,
 }
@@ -142,64 +126,63 @@ pub(crate) fn sum_up(
 ) -> Result<OrderSums, NoMemory>
     requires history { IsSomeHistory events.now }
     requires given { IfSome given (sums.AreSums events.now hour) }
-    ensures sums { IfOk result (λ made. sums.AreSumsOf events.now hour made.tallies.items made.orders.items made.moment) }
+    ensures sums { IfOk result (λ made. sums.AreSumsOf events.now hour made.tallies.items made.moment made.place) }
     ensures count { IfOk result (λ made. made.count ≡ length events.now) }
 {
     match given {
-        Some(given) => sum_on(events, events.as_slice(), hour, given.count, given),
-        None => {
-            let near = events.near(hour);
-            sum_on(events, near, hour, 0, no_sums(alloc, near.len())?)
-        }
+        Some(given) => sum_on(events, hour, given),
+        None => sum_on(events, hour, no_sums(alloc, events.listed(hour).len())?),
     }
 }
 
 // The sums over no event, with room for so many orders.
 fn no_sums(alloc: Global, room: usize) -> Result<OrderSums, NoMemory>
-    ensures { (hour : ℕ) → IfOk result (λ made. sums.AreSumsOf [] hour made.tallies.items made.orders.items made.moment) }
+    ensures { (events : List TheEvent) (hour : ℕ) → IfOk result (sums.AreSums events hour) }
 {
     let mut tallies = Vec::with_capacity(alloc, room)?;
     tallies.push(Tally::NOTHING)?;
     Ok(OrderSums {
         tallies,
-        orders: Vec::with_capacity(alloc, room)?,
         moment: 0,
+        place: 0,
         count: 0,
     })
 }
 
-// Takes in the events of a list from a place on, so that the sums of an hour are those of all events. The
-// list has all that touch the hour.
-fn sum_on(
-    events: &History,
-    near: &[Event],
-    hour: u32,
-    start: usize,
-    before: OrderSums,
-) -> Result<OrderSums, NoMemory>
+// Takes in the events that have come since, so that the sums of an hour are those of all events.
+fn sum_on(events: &History, hour: u32, before: OrderSums) -> Result<OrderSums, NoMemory>
     requires history { IsSomeHistory events.now }
-    requires near { IsNear hour events.now near.now }
-    requires start { start ≤ length near.now }
-    requires before { sums.AreSumsOf (take start near.now) hour before.tallies.items before.orders.items before.moment }
-    ensures sums { IfOk result (λ made. sums.AreSumsOf events.now hour made.tallies.items made.orders.items made.moment) }
+    requires before { sums.AreSums events.now hour before }
+    ensures sums { IfOk result (λ made. sums.AreSumsOf events.now hour made.tallies.items made.moment made.place) }
     ensures count { IfOk result (λ made. made.count ≡ length events.now) }
 {
+    let list = events.listed(hour);
+    let own = History::has_list(hour);
+    let end = list.len();
     let mut tallies = before.tallies;
-    let mut orders = before.orders;
     let mut moment = before.moment;
-    for place in start..near.len() {
-        let event = &near[place];
-        if touches(event, hour) {
+    for place in before.place..end {
+        let event = &list[place];
+        if is_of_hour(own, event, hour) {
             moment += 1;
-            take_in(&mut tallies, &mut orders, hour, moment, event)?;
+            take_in(&mut tallies, hour, moment, place, event)?;
         }
     }
     Ok(OrderSums {
         tallies,
-        orders,
         moment,
+        place: end,
         count: events.len(),
     })
+}
+
+// Whether an event of the list of an hour touches the hour: each does where the list is the hour's own.
+#[inline(always)]
+fn is_of_hour(own: bool, event: &Event, hour: u32) -> bool
+    requires { own ≡ true → history.touches hour event.now ≡ true }
+    ensures { result ≡ history.touches hour event.now }
+{
+    own || touches(event, hour)
 }
 
 /// How many orders and blocks entered that are named by an hour.
@@ -227,41 +210,37 @@ fn enters_in(event: &Event, hour: u32) -> bool
     }
 }
 
-// Takes in one event of the hour, which is the one of this place. What it enters by the hour gets a place,
-// and an order stands behind the others.
+// Takes in one event of the hour, which is the one of this moment and stands at this place of its list. What
+// it enters by the hour is the next one.
 #[inline(always)]
 fn take_in(
     tallies: &mut Vec<Tally>,
-    orders: &mut Vec<PlacedOrder>,
     hour: u32,
     moment: u64,
+    place: usize,
     event: &Event,
 ) -> Result<(), NoMemory>
     requires own { history.touches hour event.now ≡ true }
     requires can { sums.CanTakeIn hour event.now (sums.with_place hour event.now tallies.old.items) }
     ensures size { OnOk result (length tallies.new.items ≡ length (sums.with_place hour event.now tallies.old.items)) }
-    ensures tallies { OnOk result ((number : ℕ) (d : Tally) → number < length (sums.with_place hour event.now tallies.old.items) → slice_index_or tallies.new.items number d ≡ sums.after_event (record { hour = hour; number = number }) moment event.now (slice_index_or (sums.with_place hour event.now tallies.old.items) number d)) }
-    ensures orders { OnOk result (orders.new.items ≡ orders.old.items ++ filter_map (order_given hour) (event.now ∷ [])) }
+    ensures tallies { OnOk result ((number : ℕ) (d : Tally) → number < length (sums.with_place hour event.now tallies.old.items) → slice_index_or tallies.new.items number d ≡ sums.after_event (record { hour = hour; number = number }) moment place event.now (slice_index_or (sums.with_place hour event.now tallies.old.items) number d)) }
 {
     match event {
         Event::Leg { leg, .. } => take_leg(tallies.as_mut_slice(), hour, moment, leg),
-        Event::Entered {
-            name,
-            caller,
-            order,
-        } => {
-            let entering = Tally::new(order.quantity.0, moment, order.kind);
-            enter(tallies, hour, *name, entering)?;
-            orders.push(PlacedOrder {
-                name: *name,
-                caller: *caller,
-                order: *order,
-            })?;
-        }
-        Event::EnteredBlock { name, order, .. } => {
-            let entering = Tally::new(order.quantity.0, moment, Kind::Limit);
-            enter(tallies, hour, *name, entering)?;
-        }
+        Event::Entered { order, .. } => tallies.push(Tally {
+            filled: 0,
+            left: order.quantity.0,
+            moment,
+            kind: order.kind,
+            place,
+        })?,
+        Event::EnteredBlock { order, .. } => tallies.push(Tally {
+            filled: 0,
+            left: order.quantity.0,
+            moment,
+            kind: Kind::Limit,
+            place,
+        })?,
         Event::BlockLeg { leg, .. } => take_block_leg(tallies.as_mut_slice(), hour, leg),
         Event::Withdrawn { name, lots } | Event::Reduced { name, by: lots } => {
             let fall = Change::Falls { lots: *lots };
@@ -269,23 +248,6 @@ fn take_in(
         }
         _ => {}
     }
-    Ok(())
-}
-
-// Makes the next place, and puts what enters by the hour at its number.
-#[inline(always)]
-fn enter(
-    tallies: &mut Vec<Tally>,
-    hour: u32,
-    name: OrderName,
-    entering: Tally,
-) -> Result<(), NoMemory>
-    requires { name.hour ≡ hour → name.number < length (tallies.old.items ++ sums.nothing ∷ []) }
-    ensures size { OnOk result (length tallies.new.items ≡ length (tallies.old.items ++ sums.nothing ∷ [])) }
-    ensures tallies { OnOk result ((number : ℕ) (d : Tally) → number < length (tallies.old.items ++ sums.nothing ∷ []) → slice_index_or tallies.new.items number d ≡ (if same_name name (record { hour = hour; number = number }) then entering else slice_index_or (tallies.old.items ++ sums.nothing ∷ []) number d)) }
-{
-    tallies.push(Tally::NOTHING)?;
-    apply(tallies.as_mut_slice(), hour, name, Change::Enters(entering));
     Ok(())
 }
 

@@ -1,8 +1,8 @@
-use Rattle.std.proofs.Common.{◌≡◌, filter, map, take}
-use Rattle.market_model.specs.Orders.{standing}
-use Rattle.plain_orders.specs.Listed.{stands_open}
+use Rattle.std.proofs.Common.{◌≡◌, take}
+use Rattle.plain_orders.specs.Tallies.{entries}
+use Rattle.plain_orders.proofs.Placing.{open_among}
 use Rattle.plain_orders.proofs.hour.list_open.Given as goal
 
--- those of the orders so far that are open
-abbrev pub invariant-loop-placed : goal.invariant-loop-placed
-invariant-loop-placed l = l.standing.items ≡ map (standing l.events) (filter (stands_open l.events) (take l.placed-index l.sums.orders.items))
+-- the open ones of the orders so far
+abbrev pub invariant-loop-tally : goal.invariant-loop-tally
+invariant-loop-tally l = l.standing.items ≡ open_among l.events l.hour (take l.tally-index (entries l.hour l.events))

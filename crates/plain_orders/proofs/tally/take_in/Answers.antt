@@ -23,9 +23,9 @@ returns-in-Leg-clause-tallies c =
     ≡ (if names c.in-Leg.leg (name_in c.args.hour number) then traded c.in-Leg.leg.lots c.args.moment (get_or old number d) else get_or old number d))
     c.as_mut_slice.ensures.value c.take_leg.ensures in
     subst (λ new. (number : ℕ) (d : Tally) → number < length (with_place c.args.hour c.args.event.now c.args.tallies.now.items) → get_or new number d
-    ≡ after_event (name_in c.args.hour number) c.args.moment c.args.event.now (get_or (with_place c.args.hour c.args.event.now c.args.tallies.now.items) number d)) (sym items)
+    ≡ after_event (name_in c.args.hour number) c.args.moment c.args.place c.args.event.now (get_or (with_place c.args.hour c.args.event.now c.args.tallies.now.items) number d)) (sym items)
     (subst (λ e. (number : ℕ) (d : Tally) → number < length (with_place c.args.hour e c.args.tallies.now.items) → get_or c.take_leg.new.tallies number d
-    ≡ after_event (name_in c.args.hour number) c.args.moment e (get_or (with_place c.args.hour e c.args.tallies.now.items) number d)) (sym c.in-Leg.is) changes)
+    ≡ after_event (name_in c.args.hour number) c.args.moment c.args.place e (get_or (with_place c.args.hour e c.args.tallies.now.items) number d)) (sym c.in-Leg.is) changes)
 
 pub returns-in-BlockLeg-clause-tallies : goal.returns-in-BlockLeg-clause-tallies
 returns-in-BlockLeg-clause-tallies c =
@@ -34,6 +34,6 @@ returns-in-BlockLeg-clause-tallies c =
     ≡ (if names c.in-BlockLeg.leg (name_in c.args.hour number) then changed (change.Deals c.in-BlockLeg.leg.lots) (get_or old number d) else get_or old number d))
     c.as_mut_slice-in-BlockLeg.ensures.value c.take_block_leg.ensures in
     subst (λ new. (number : ℕ) (d : Tally) → number < length (with_place c.args.hour c.args.event.now c.args.tallies.now.items) → get_or new number d
-    ≡ after_event (name_in c.args.hour number) c.args.moment c.args.event.now (get_or (with_place c.args.hour c.args.event.now c.args.tallies.now.items) number d)) (sym items)
+    ≡ after_event (name_in c.args.hour number) c.args.moment c.args.place c.args.event.now (get_or (with_place c.args.hour c.args.event.now c.args.tallies.now.items) number d)) (sym items)
     (subst (λ e. (number : ℕ) (d : Tally) → number < length (with_place c.args.hour e c.args.tallies.now.items) → get_or c.take_block_leg.new.tallies number d
-    ≡ after_event (name_in c.args.hour number) c.args.moment e (get_or (with_place c.args.hour e c.args.tallies.now.items) number d)) (sym c.in-BlockLeg.is) changes)
+    ≡ after_event (name_in c.args.hour number) c.args.moment c.args.place e (get_or (with_place c.args.hour e c.args.tallies.now.items) number d)) (sym c.in-BlockLeg.is) changes)
