@@ -79,15 +79,7 @@ pub no_entry-rules : (graph : Graph) (events : List Event) (caller : ℕ) (given
 no_entry-rules graph events caller (command.Enter order) entry = absurd entry
 no_entry-rules graph events caller (command.EnterBlock order) entry = absurd entry
 no_entry-rules graph events caller (command.EnterBasket orders) entry = absurd entry
-no_entry-rules graph events caller (command.Cancel name) entry = refl
-no_entry-rules graph events caller (command.Reduce name to) entry = refl
-no_entry-rules graph events caller (command.Blocks first last) entry = refl
-no_entry-rules graph events caller (command.Offer from to first last lots) entry = refl
-no_entry-rules graph events caller (command.Request from to first last lots) entry = refl
-no_entry-rules graph events caller (command.Halt from to first last) entry = refl
-no_entry-rules graph events caller (command.Resume from to first last) entry = refl
-no_entry-rules graph events caller (command.Gate hour phase) entry = refl
-no_entry-rules graph events caller (command.View contract side zone) entry = refl
+no_entry-rules graph events caller _ entry = refl
 
 -- a command that is none of the entries enters nothing
 pub is-no_entry : (given : Command) → ((order : Order) → ¬ (given ≡ command.Enter order)) → ((order : BlockOrder) → ¬ (given ≡ command.EnterBlock order))
@@ -95,12 +87,4 @@ pub is-no_entry : (given : Command) → ((order : Order) → ¬ (given ≡ comma
 is-no_entry (command.Enter order) a b c = absurd (a order refl)
 is-no_entry (command.EnterBlock order) a b c = absurd (b order refl)
 is-no_entry (command.EnterBasket orders) a b c = absurd (c orders refl)
-is-no_entry (command.Cancel name) a b c = tt
-is-no_entry (command.Reduce name to) a b c = tt
-is-no_entry (command.Blocks first last) a b c = tt
-is-no_entry (command.Offer from to first last lots) a b c = tt
-is-no_entry (command.Request from to first last lots) a b c = tt
-is-no_entry (command.Halt from to first last) a b c = tt
-is-no_entry (command.Resume from to first last) a b c = tt
-is-no_entry (command.Gate hour phase) a b c = tt
-is-no_entry (command.View contract side zone) a b c = tt
+is-no_entry _ a b c = tt

@@ -60,18 +60,8 @@ seen setup events after caller given contract side zone is let_in same =
 -- every other command is done
 done-is : (setup : Setup) (events : List Event) (caller : ℕ) (given : Command) → ((contract : Contract) (side : Side) (zone : ℕ) → ¬ (given ≡ command.View contract side zone))
     → reply.Done (events_done all_parts setup events caller given) ≡ reply_let_in all_parts setup events caller given
-done-is setup events caller (command.Enter order) n = refl
-done-is setup events caller (command.EnterBlock order) n = refl
-done-is setup events caller (command.EnterBasket orders) n = refl
-done-is setup events caller (command.Cancel name) n = refl
-done-is setup events caller (command.Reduce name to) n = refl
-done-is setup events caller (command.Blocks first last) n = refl
-done-is setup events caller (command.Offer from to first last lots) n = refl
-done-is setup events caller (command.Request from to first last lots) n = refl
-done-is setup events caller (command.Halt from to first last) n = refl
-done-is setup events caller (command.Resume from to first last) n = refl
-done-is setup events caller (command.Gate hour phase) n = refl
 done-is setup events caller (command.View contract side zone) n = absurd (n contract side zone refl)
+done-is setup events caller _ n = refl
 
 back-of : (front back : List Event) → drop (length front) (front ++ back) ≡ back
 back-of [] back = refl

@@ -63,21 +63,15 @@ named_off before withdrawn name lots most = go (same_name withdrawn name) refl
 -- what a fitting event fills and takes off of a name is no more than is left of it
 pub takes-le-left : (setup : Setup) (before : List Event) (e : Event) → Fits setup before e → (name : OrderName)
     → filled_by name e + taken_off_by name e ≤ left before name
-takes-le-left setup before (event.Entered given caller order) fits name = omega arith
-takes-le-left setup before (event.EnteredBlock given caller order) fits name = omega arith
 takes-le-left setup before (event.Leg contract leg) fits name =
     let most = named_has before leg name (taker_has-leg setup before contract leg fits) (maker_has-leg setup before contract leg fits) in omega arith
 takes-le-left setup before (event.BlockLeg first last leg) fits name =
     let most = named_has before leg name fits.taker_has fits.maker_has in omega arith
-takes-le-left setup before (event.Granted arc first last lots) fits name = omega arith
-takes-le-left setup before (event.Offered arc first last lots) fits name = omega arith
-takes-le-left setup before (event.Halted border first last) fits name = omega arith
-takes-le-left setup before (event.Resumed border first last) fits name = omega arith
-takes-le-left setup before (event.Gated hour phase) fits name = omega arith
 takes-le-left setup before (event.Withdrawn given lots) fits name =
     let all = fits.all_left in let most = named_off before given name lots (omega arith) in omega arith
 takes-le-left setup before (event.Reduced given by) fits name =
     let less = fits.less in let most = named_off before given name by (omega arith) in omega arith
+takes-le-left setup before _ fits name = omega arith
 
 -- what is filled and taken off is no more than what was entered
 abbrev pub IsCovered : List Event → Type 0

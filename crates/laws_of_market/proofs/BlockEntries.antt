@@ -147,6 +147,19 @@ pub record MayEnterBlock (setup : Setup) (caller : ℕ) (order : BlockOrder) : T
   pub in_zone : HasZone (graph_of setup) order.zone
   pub sound : block_fault order ≡ None
 
+-- so it enters under the next name of its first hour
+pub block-may-enters : (setup : Setup) (caller : ℕ) (order : BlockOrder) (events : List Event) → MayEnterBlock setup caller order
+    → BlockEnters setup events (next_name events order.first) caller order
+block-may-enters setup caller order events may = record {
+  named = refl;
+  of_caller = may.of_caller;
+  from_hour = may.from_hour;
+  to_hour = may.to_hour;
+  of_period = may.of_period;
+  in_zone = may.in_zone;
+  sound = may.sound;
+}
+
 -- how many blocks stand in a buy line
 block_line-length : (events : List Event) (first last : ℕ) → length (block_line events first last Buy) ≡ length (filter (block_stands_in events first last Buy) (blocks_placed events))
 unfolding block_line
@@ -200,15 +213,7 @@ module _ (setup : Setup) (is_setup : IsMarketSetup setup) where
       let entered : Event = event.EnteredBlock name caller order in
       let entry : List Event = entered ∷ [] in
       let block : PlacedBlock = record { name = name; caller = caller; order = order } in
-      let may_fit : BlockEnters setup events name caller order = record {
-        named = refl;
-        of_caller = may.of_caller;
-        from_hour = may.from_hour;
-        to_hour = may.to_hour;
-        of_period = may.of_period;
-        in_zone = may.in_zone;
-        sound = may.sound;
-      } in
+      let may_fit = block-may-enters setup caller order events may in
       let start = history-more setup events entered history may_fit tt in
       let whole : left (events ++ entry) name ≡ order.quantity.0 = new_block-whole setup events history.fit block entered may_fit refl in
       let some = (lots_in_range-bounds order.quantity (block_fault-none order may.sound).quantity).0 in

@@ -84,15 +84,7 @@ given-enters hour name (event.EnteredBlock given caller order) h = by_test (nat_
     by_test : (b : Bool) → (if b then Some given else None) ≡ Some name → same_name given name ≡ true
     by_test true k = let same : given ≡ name = cc in subst (λ n. same_name given n ≡ true) same (same_name-refl given)
     by_test false k = absurd (cc)
-given-enters hour name (event.Leg contract leg) h = absurd (cc)
-given-enters hour name (event.BlockLeg first last leg) h = absurd (cc)
-given-enters hour name (event.Granted arc first last lots) h = absurd (cc)
-given-enters hour name (event.Offered arc first last lots) h = absurd (cc)
-given-enters hour name (event.Halted border first last) h = absurd (cc)
-given-enters hour name (event.Resumed border first last) h = absurd (cc)
-given-enters hour name (event.Gated gated phase) h = absurd (cc)
-given-enters hour name (event.Withdrawn given lots) h = absurd (cc)
-given-enters hour name (event.Reduced given by) h = absurd (cc)
+given-enters hour name _ h = absurd (cc)
 
 -- the names that are given by an hour differ
 names-differ : (hour : ℕ) (events : List Event) → ((name : OrderName) → times_entered events name ≤ 1) → AreDifferent (filter_map (name_given hour) events)

@@ -183,17 +183,7 @@ module _ (setup : Setup) (is_setup : IsMarketSetup setup) where
   answer-uncrossed : (events : List Event) (caller : ℕ) (given : Command) → FitAfter setup [] (events ++ events_of (reply_let_in all_parts setup events caller given))
       → (hour : ℕ) → IsUncrossed graph hour events → IsIn hour (hours_concerned given) → IsUncrossed graph hour (events ++ events_of (reply_let_in all_parts setup events caller given))
   answer-uncrossed events caller (command.View contract side zone) fit hour was h = subst (IsUncrossed graph hour) (sym (append-nil events)) was
-  answer-uncrossed events caller (command.Enter order) fit hour was h = done-uncrossed events caller (command.Enter order) fit hour was h
-  answer-uncrossed events caller (command.EnterBlock order) fit hour was h = done-uncrossed events caller (command.EnterBlock order) fit hour was h
-  answer-uncrossed events caller (command.EnterBasket orders) fit hour was h = done-uncrossed events caller (command.EnterBasket orders) fit hour was h
-  answer-uncrossed events caller (command.Cancel name) fit hour was h = done-uncrossed events caller (command.Cancel name) fit hour was h
-  answer-uncrossed events caller (command.Reduce name to) fit hour was h = done-uncrossed events caller (command.Reduce name to) fit hour was h
-  answer-uncrossed events caller (command.Blocks first last) fit hour was h = done-uncrossed events caller (command.Blocks first last) fit hour was h
-  answer-uncrossed events caller (command.Offer from to first last lots) fit hour was h = done-uncrossed events caller (command.Offer from to first last lots) fit hour was h
-  answer-uncrossed events caller (command.Request from to first last lots) fit hour was h = done-uncrossed events caller (command.Request from to first last lots) fit hour was h
-  answer-uncrossed events caller (command.Halt from to first last) fit hour was h = done-uncrossed events caller (command.Halt from to first last) fit hour was h
-  answer-uncrossed events caller (command.Resume from to first last) fit hour was h = done-uncrossed events caller (command.Resume from to first last) fit hour was h
-  answer-uncrossed events caller (command.Gate gated asked) fit hour was h = done-uncrossed events caller (command.Gate gated asked) fit hour was h
+  answer-uncrossed events caller given fit hour was h = done-uncrossed events caller given fit hour was h
 
   by_refusal : (events : List Event) (caller : ℕ) (given : Command) (hour : ℕ) → IsUncrossed graph hour events → IsIn hour (hours_concerned given) → (o : Option Refusal)
       → FitAfter setup [] (events ++ events_of (refused_or o (λ _. reply_let_in all_parts setup events caller given)))

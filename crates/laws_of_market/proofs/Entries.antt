@@ -20,7 +20,7 @@ use Rattle.market_model.specs.Lines.{partner}
 use Rattle.market_model.specs.Orders.{left}
 use Rattle.market_model.specs.Sweep.{sweep, sweep_leg, sweeps}
 use Rattle.market_model.specs.Taking.{next_leg, standing_order, take}
-use Rattle.market_model.specs.WellFormed.{IsHistory, IsMarketSetup}
+use Rattle.market_model.specs.WellFormed.{IsHistory, IsMarketSetup, OrderEnters}
 use Rattle.laws_of_market.proofs.Falls.{sweep_leg-hour, trade-leg}
 use Rattle.laws_of_market.proofs.Legs.{next_leg-fits, sweep_leg-fits}
 use Rattle.laws_of_market.proofs.Repeats.{bind-some, history-keep}
@@ -44,6 +44,17 @@ pub record MayEnter (setup : Setup) (caller : ℕ) (order : Order) : Type 0 wher
   pub in_part : is_known order.contract.part ≡ true
   pub in_zone : HasZone (graph_of setup) order.zone
   pub sound : order_fault order ≡ None
+
+-- so it enters under its next name
+pub may-enters : (setup : Setup) (caller : ℕ) (order : Order) (events : List Event) → MayEnter setup caller order → OrderEnters setup events (name_of_next events order) caller order
+may-enters setup caller order events may = record {
+  named = refl;
+  of_caller = may.of_caller;
+  in_hour = may.in_hour;
+  in_part = may.in_part;
+  in_zone = may.in_zone;
+  sound = may.sound;
+}
 
 module _ (setup : Setup) (is_setup : IsMarketSetup setup) where
   -- a taking leaves a history well-formed
@@ -87,14 +98,7 @@ module _ (setup : Setup) (is_setup : IsMarketSetup setup) where
       let name : OrderName = name_of_next events order in
       let entered : Event = event.Entered name caller order in
       let entry : List Event = entered ∷ [] in
-      let start = history-more setup events entered history (record {
-        named = refl;
-        of_caller = may.of_caller;
-        in_hour = may.in_hour;
-        in_part = may.in_part;
-        in_zone = may.in_zone;
-        sound = may.sound;
-      }) tt in
+      let start = history-more setup events entered history (may-enters setup caller order events may) tt in
       let legs : List Event = take (graph_of setup) (events ++ entry) name in
       let taken = take-history (events ++ entry) name start in
       let rest : List Event = rest_withdrawn order.kind name (left (events ++ entry ++ legs) name) in

@@ -39,16 +39,7 @@ halfless-one e own f h = elim h [ inl s ↦ subst IsHalfless (sym s) own | inr i
 -- where nothing enters no order of a half hour does
 quiet-own : (e : Event) → IsQuiet e → IsHalfless e
 quiet-own (event.Entered given caller order) quiet = absurd (true≢false quiet)
-quiet-own (event.Leg contract leg) quiet = tt
-quiet-own (event.BlockLeg first last leg) quiet = tt
-quiet-own (event.Granted given first last lots) quiet = tt
-quiet-own (event.Offered given first last lots) quiet = tt
-quiet-own (event.Halted border first last) quiet = tt
-quiet-own (event.Resumed border first last) quiet = tt
-quiet-own (event.Gated gated asked) quiet = tt
-quiet-own (event.Withdrawn given lots) quiet = tt
-quiet-own (event.Reduced given by) quiet = tt
-quiet-own (event.EnteredBlock given caller order) quiet = tt
+quiet-own _ quiet = tt
 
 pub quiet-halfless : (events : List Event) → AreQuiet events → AreHalfless events
 quiet-halfless events quiet e i = quiet-own e (quiet e i)
@@ -143,17 +134,7 @@ done-halfless parts setup events caller (command.View contract side zone) none =
 answer-halfless : (parts : List Part) (setup : Setup) (events : List Event) (caller : ℕ) (given : Command) → list_any is_half (parts_named given) ≡ false
     → AreHalfless (events_of (reply_let_in parts setup events caller given))
 answer-halfless parts setup events caller (command.View contract side zone) none = λ e h. absurd h
-answer-halfless parts setup events caller (command.Enter order) none = done-halfless parts setup events caller (command.Enter order) none
-answer-halfless parts setup events caller (command.EnterBlock order) none = done-halfless parts setup events caller (command.EnterBlock order) none
-answer-halfless parts setup events caller (command.EnterBasket orders) none = done-halfless parts setup events caller (command.EnterBasket orders) none
-answer-halfless parts setup events caller (command.Cancel name) none = done-halfless parts setup events caller (command.Cancel name) none
-answer-halfless parts setup events caller (command.Reduce name to) none = done-halfless parts setup events caller (command.Reduce name to) none
-answer-halfless parts setup events caller (command.Blocks first last) none = done-halfless parts setup events caller (command.Blocks first last) none
-answer-halfless parts setup events caller (command.Offer from to first last lots) none = done-halfless parts setup events caller (command.Offer from to first last lots) none
-answer-halfless parts setup events caller (command.Request from to first last lots) none = done-halfless parts setup events caller (command.Request from to first last lots) none
-answer-halfless parts setup events caller (command.Halt from to first last) none = done-halfless parts setup events caller (command.Halt from to first last) none
-answer-halfless parts setup events caller (command.Resume from to first last) none = done-halfless parts setup events caller (command.Resume from to first last) none
-answer-halfless parts setup events caller (command.Gate hour asked) none = done-halfless parts setup events caller (command.Gate hour asked) none
+answer-halfless parts setup events caller given none = done-halfless parts setup events caller given none
 
 -- no order of a half hour enters by the reply to a command that names none
 pub reply-halfless : (parts : List Part) (setup : Setup) (events : List Event) (caller : ℕ) (given : Command) → list_any is_half (parts_named given) ≡ false

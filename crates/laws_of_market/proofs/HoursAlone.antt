@@ -348,17 +348,7 @@ module _ (setup : Setup) (is_setup : IsMarketSetup setup) where
   few-answer : (parts : List Part) (events : List Event) (caller : ℕ) (given : Command) → IsHistory setup events → IsAdmitted setup events caller given
       → FitAfter setup [] (events ++ events_of (reply_let_in parts setup events caller given)) → AreFew events → AreFew (events ++ events_of (reply_let_in parts setup events caller given))
   few-answer parts events caller (command.View contract side zone) history may fit few = subst AreFew (sym (append-nil events)) few
-  few-answer parts events caller (command.Enter order) history may fit few = few-done parts events caller (command.Enter order) history may fit few
-  few-answer parts events caller (command.EnterBlock order) history may fit few = few-done parts events caller (command.EnterBlock order) history may fit few
-  few-answer parts events caller (command.EnterBasket orders) history may fit few = few-done parts events caller (command.EnterBasket orders) history may fit few
-  few-answer parts events caller (command.Cancel name) history may fit few = few-done parts events caller (command.Cancel name) history may fit few
-  few-answer parts events caller (command.Reduce name to) history may fit few = few-done parts events caller (command.Reduce name to) history may fit few
-  few-answer parts events caller (command.Blocks first last) history may fit few = few-done parts events caller (command.Blocks first last) history may fit few
-  few-answer parts events caller (command.Offer from to first last lots) history may fit few = few-done parts events caller (command.Offer from to first last lots) history may fit few
-  few-answer parts events caller (command.Request from to first last lots) history may fit few = few-done parts events caller (command.Request from to first last lots) history may fit few
-  few-answer parts events caller (command.Halt from to first last) history may fit few = few-done parts events caller (command.Halt from to first last) history may fit few
-  few-answer parts events caller (command.Resume from to first last) history may fit few = few-done parts events caller (command.Resume from to first last) history may fit few
-  few-answer parts events caller (command.Gate hour asked) history may fit few = few-done parts events caller (command.Gate hour asked) history may fit few
+  few-answer parts events caller given history may fit few = few-done parts events caller given history may fit few
 
   -- a reply leaves few open where few were
   pub few-reply : (parts : List Part) (events : List Event) (caller : ℕ) (given : Command) → IsHistory setup events → AreFew events

@@ -42,15 +42,7 @@ bounded-by setup before (event.EnteredBlock given caller order) so_far fits name
     let new : given ≡ name → entered before name ≡ 0 = λ same. entered-none name before
     (subst (λ n. times_entered before n ≡ 0) same (block_name-new setup before given caller order (names-once setup before so_far.fit) fits)) in
     new-most before given name order.quantity.0 (lots_in_range-bounds order.quantity (block_fault-none order fits.sound).quantity).1 (so_far.most name) new
-bounded-by setup before (event.Leg contract leg) so_far fits name = let most = so_far.most name in omega arith
-bounded-by setup before (event.BlockLeg first last leg) so_far fits name = let most = so_far.most name in omega arith
-bounded-by setup before (event.Granted arc first last lots) so_far fits name = let most = so_far.most name in omega arith
-bounded-by setup before (event.Offered arc first last lots) so_far fits name = let most = so_far.most name in omega arith
-bounded-by setup before (event.Halted border first last) so_far fits name = let most = so_far.most name in omega arith
-bounded-by setup before (event.Resumed border first last) so_far fits name = let most = so_far.most name in omega arith
-bounded-by setup before (event.Gated hour asked) so_far fits name = let most = so_far.most name in omega arith
-bounded-by setup before (event.Withdrawn given lots) so_far fits name = let most = so_far.most name in omega arith
-bounded-by setup before (event.Reduced given by) so_far fits name = let most = so_far.most name in omega arith
+bounded-by setup before _ so_far fits name = let most = so_far.most name in omega arith
 
 bounded-step : (setup : Setup) (before : List Event) (e : Event) → IsBounded setup before → Fits setup before e → IsBounded setup (and_then before e)
 bounded-step setup before e so_far fits = record {

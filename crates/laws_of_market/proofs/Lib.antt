@@ -59,6 +59,7 @@ pub mod Swept
 pub mod Uncrossed
 pub mod UncrossedReplies
 pub mod OfHours
+pub mod LastOfHour
 pub mod ReplyEntries
 pub mod ReplyNames
 pub mod Halfless

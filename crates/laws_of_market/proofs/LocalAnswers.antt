@@ -83,15 +83,7 @@ picked-nothing {X} {Y} pick p (x ∷ xs) none = go (picked-nothing pick p xs non
 given-elsewhere : (hour : ℕ) (e : Event) → touches hour e ≡ false → name_given hour e ≡ None
 given-elsewhere hour (event.Entered given caller order) t = rw t refl
 given-elsewhere hour (event.EnteredBlock given caller order) t = rw t refl
-given-elsewhere hour (event.Leg contract leg) t = refl
-given-elsewhere hour (event.BlockLeg first last leg) t = refl
-given-elsewhere hour (event.Granted arc first last lots) t = refl
-given-elsewhere hour (event.Offered arc first last lots) t = refl
-given-elsewhere hour (event.Halted border first last) t = refl
-given-elsewhere hour (event.Resumed border first last) t = refl
-given-elsewhere hour (event.Gated gated asked) t = refl
-given-elsewhere hour (event.Withdrawn given lots) t = refl
-given-elsewhere hour (event.Reduced given by) t = refl
+given-elsewhere hour _ t = refl
 
 -- a name that is given by an hour is of it
 given-hour : (hour : ℕ) (name : OrderName) (e : Event) → name_given hour e ≡ Some name → name.hour ≡ hour
@@ -105,15 +97,7 @@ given-hour hour name (event.EnteredBlock given caller order) is = by_test (nat_e
     by_test : (t : Bool) → nat_eq given.hour hour ≡ t → (if t then Some given else None) ≡ Some name → name.hour ≡ hour
     by_test true e k = let same : given ≡ name = cc in ap (λ (n : OrderName). n.hour) (sym same) ∙ eqb-true given.hour hour e
     by_test false e k = absurd (cc)
-given-hour hour name (event.Leg contract leg) is = absurd (cc)
-given-hour hour name (event.BlockLeg first last leg) is = absurd (cc)
-given-hour hour name (event.Granted arc first last lots) is = absurd (cc)
-given-hour hour name (event.Offered arc first last lots) is = absurd (cc)
-given-hour hour name (event.Halted border first last) is = absurd (cc)
-given-hour hour name (event.Resumed border first last) is = absurd (cc)
-given-hour hour name (event.Gated gated asked) is = absurd (cc)
-given-hour hour name (event.Withdrawn given lots) is = absurd (cc)
-given-hour hour name (event.Reduced given by) is = absurd (cc)
+given-hour hour name _ is = absurd (cc)
 
 -- the open names of an hour are of it
 pub open_names-hour : (events : List Event) (hour : ℕ) (name : OrderName) → IsIn name (filter_map (name_given hour) events) → name.hour ≡ hour

@@ -50,16 +50,7 @@ block-named events named block h =
     by_event : (e : Event) (block : PlacedBlock) → IsNamedByHour e → block_placed_by e ≡ Some block → IsPeriodNamed block
     by_event (event.EnteredBlock given caller entering) found own is =
         let same : record { name = given; caller = caller; order = entering } ≡ found = cc in subst IsPeriodNamed same (record { named = own.0; ordered = own.1 })
-    by_event (event.Entered given caller order) found own is = absurd (cc)
-    by_event (event.Leg contract leg) found own is = absurd (cc)
-    by_event (event.BlockLeg first last leg) found own is = absurd (cc)
-    by_event (event.Granted given first last lots) found own is = absurd (cc)
-    by_event (event.Offered given first last lots) found own is = absurd (cc)
-    by_event (event.Halted border first last) found own is = absurd (cc)
-    by_event (event.Resumed border first last) found own is = absurd (cc)
-    by_event (event.Gated gated asked) found own is = absurd (cc)
-    by_event (event.Withdrawn given lots) found own is = absurd (cc)
-    by_event (event.Reduced given by) found own is = absurd (cc)
+    by_event _ found own is = absurd (cc)
 
 -- the hours of a block's quarters are those of its period
 pub period-hours : (hours : List ℕ) (first last : ℕ) → ((hour : ℕ) → IsIn hour (hours_from first last) → IsIn hour hours)

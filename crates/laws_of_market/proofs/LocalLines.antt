@@ -46,16 +46,7 @@ placed-named events named order h =
     by_event : (e : Event) (order : Placed) → IsNamedByHour e → placed_by e ≡ Some order → order.name.hour ≡ order.order.contract.hour
     by_event (event.Entered given caller entering) found own is =
         let same : record { name = given; caller = caller; order = entering } ≡ found = cc in subst (λ (p : Placed). p.name.hour ≡ p.order.contract.hour) same own
-    by_event (event.EnteredBlock given caller order) found own is = absurd (cc)
-    by_event (event.Leg contract leg) found own is = absurd (cc)
-    by_event (event.BlockLeg first last leg) found own is = absurd (cc)
-    by_event (event.Granted given first last lots) found own is = absurd (cc)
-    by_event (event.Offered given first last lots) found own is = absurd (cc)
-    by_event (event.Halted border first last) found own is = absurd (cc)
-    by_event (event.Resumed border first last) found own is = absurd (cc)
-    by_event (event.Gated gated asked) found own is = absurd (cc)
-    by_event (event.Withdrawn given lots) found own is = absurd (cc)
-    by_event (event.Reduced given by) found own is = absurd (cc)
+    by_event _ found own is = absurd (cc)
 
 pub contract-hours : (hours : List ℕ) (contract : Contract) → IsIn contract.hour hours → (quarter : Quarter) → IsIn quarter (contract_quarters contract) → IsIn quarter.hour hours
 contract-hours hours contract h quarter i =

@@ -95,16 +95,7 @@ closed_among a b hours agree =
 closed-agree : (a b : List Event) (given : Command) → Agree (hours_concerned given) a b → closed_hour a given ≡ closed_hour b given
 closed-agree a b (command.Gate hour asked) agree = refl
 closed-agree a b (command.View contract side zone) agree = refl
-closed-agree a b (command.Enter order) agree = closed_among a b (hours_concerned (command.Enter order)) agree
-closed-agree a b (command.EnterBlock order) agree = closed_among a b (hours_concerned (command.EnterBlock order)) agree
-closed-agree a b (command.EnterBasket orders) agree = closed_among a b (hours_concerned (command.EnterBasket orders)) agree
-closed-agree a b (command.Cancel name) agree = closed_among a b (hours_concerned (command.Cancel name)) agree
-closed-agree a b (command.Reduce name to) agree = closed_among a b (hours_concerned (command.Reduce name to)) agree
-closed-agree a b (command.Blocks first last) agree = closed_among a b (hours_concerned (command.Blocks first last)) agree
-closed-agree a b (command.Offer from to first last lots) agree = closed_among a b (hours_concerned (command.Offer from to first last lots)) agree
-closed-agree a b (command.Request from to first last lots) agree = closed_among a b (hours_concerned (command.Request from to first last lots)) agree
-closed-agree a b (command.Halt from to first last) agree = closed_among a b (hours_concerned (command.Halt from to first last)) agree
-closed-agree a b (command.Resume from to first last) agree = closed_among a b (hours_concerned (command.Resume from to first last)) agree
+closed-agree a b given agree = closed_among a b (hours_concerned given) agree
 
 gate-agree : (a b : List Event) (given : Command) → Agree (hours_concerned given) a b → gate_refusal a given ≡ gate_refusal b given
 gate-agree a b (command.Gate hour asked) agree =
@@ -318,17 +309,7 @@ answer-agree : (parts : List Part) (setup : Setup) (a b : List Event) (caller : 
     → reply_let_in parts setup a caller given ≡ reply_let_in parts setup b caller given
 answer-agree parts setup a b caller (command.View contract side zone) good agree =
     ap reply.Seen (view-agree (contract.hour ∷ []) a b agree (graph_of setup) contract side (inl refl) zone)
-answer-agree parts setup a b caller (command.Enter order) good agree = ap reply.Done (done-agree parts setup a b caller (command.Enter order) good agree)
-answer-agree parts setup a b caller (command.EnterBlock order) good agree = ap reply.Done (done-agree parts setup a b caller (command.EnterBlock order) good agree)
-answer-agree parts setup a b caller (command.EnterBasket orders) good agree = ap reply.Done (done-agree parts setup a b caller (command.EnterBasket orders) good agree)
-answer-agree parts setup a b caller (command.Cancel name) good agree = ap reply.Done (done-agree parts setup a b caller (command.Cancel name) good agree)
-answer-agree parts setup a b caller (command.Reduce name to) good agree = ap reply.Done (done-agree parts setup a b caller (command.Reduce name to) good agree)
-answer-agree parts setup a b caller (command.Blocks first last) good agree = ap reply.Done (done-agree parts setup a b caller (command.Blocks first last) good agree)
-answer-agree parts setup a b caller (command.Offer from to first last lots) good agree = ap reply.Done (done-agree parts setup a b caller (command.Offer from to first last lots) good agree)
-answer-agree parts setup a b caller (command.Request from to first last lots) good agree = ap reply.Done (done-agree parts setup a b caller (command.Request from to first last lots) good agree)
-answer-agree parts setup a b caller (command.Halt from to first last) good agree = ap reply.Done (done-agree parts setup a b caller (command.Halt from to first last) good agree)
-answer-agree parts setup a b caller (command.Resume from to first last) good agree = ap reply.Done (done-agree parts setup a b caller (command.Resume from to first last) good agree)
-answer-agree parts setup a b caller (command.Gate hour asked) good agree = ap reply.Done (done-agree parts setup a b caller (command.Gate hour asked) good agree)
+answer-agree parts setup a b caller given good agree = ap reply.Done (done-agree parts setup a b caller given good agree)
 
 -- the reply to a command of a good period
 pub reply-agree : (parts : List Part) (setup : Setup) (a b : List Event) (caller : ℕ) (given : Command) → period_is_good given ≡ true → Agree (hours_concerned given) a b

@@ -69,15 +69,7 @@ entered-elsewhere hour name (event.Entered given caller order) is h =
     ap (λ b. lots_if b order.quantity.0) (not_named given name (λ same. other-hour given.hour hour h (same ∙ is)))
 entered-elsewhere hour name (event.EnteredBlock given caller order) is h =
     ap (λ b. lots_if b order.quantity.0) (not_named given name (λ same. other-hour given.hour hour h (same ∙ is)))
-entered-elsewhere hour name (event.Leg contract leg) is h = refl
-entered-elsewhere hour name (event.BlockLeg first last leg) is h = refl
-entered-elsewhere hour name (event.Granted arc first last lots) is h = refl
-entered-elsewhere hour name (event.Offered arc first last lots) is h = refl
-entered-elsewhere hour name (event.Halted border first last) is h = refl
-entered-elsewhere hour name (event.Resumed border first last) is h = refl
-entered-elsewhere hour name (event.Gated gated phase) is h = refl
-entered-elsewhere hour name (event.Withdrawn given lots) is h = refl
-entered-elsewhere hour name (event.Reduced given by) is h = refl
+entered-elsewhere hour name _ is h = refl
 
 filled-elsewhere : (hour : ℕ) (name : OrderName) (e : Event) → name.hour ≡ hour → IsNamedByHour e → touches hour e ≡ false → filled_by name e ≡ 0
 filled-elsewhere hour name (event.Leg contract leg) is named h =
@@ -94,28 +86,12 @@ filled-elsewhere hour name (event.BlockLeg first last leg) is named h =
   where
     neither : (leg : Leg) (name : OrderName) → same_name leg.taker name ≡ false → same_name leg.maker name ≡ false → names leg name ≡ false
     neither leg name t m = rw (t, m) refl
-filled-elsewhere hour name (event.Entered given caller order) is named h = refl
-filled-elsewhere hour name (event.EnteredBlock given caller order) is named h = refl
-filled-elsewhere hour name (event.Granted arc first last lots) is named h = refl
-filled-elsewhere hour name (event.Offered arc first last lots) is named h = refl
-filled-elsewhere hour name (event.Halted border first last) is named h = refl
-filled-elsewhere hour name (event.Resumed border first last) is named h = refl
-filled-elsewhere hour name (event.Gated gated phase) is named h = refl
-filled-elsewhere hour name (event.Withdrawn given lots) is named h = refl
-filled-elsewhere hour name (event.Reduced given by) is named h = refl
+filled-elsewhere hour name _ is named h = refl
 
 taken_off-elsewhere : (hour : ℕ) (name : OrderName) (e : Event) → name.hour ≡ hour → touches hour e ≡ false → taken_off_by name e ≡ 0
 taken_off-elsewhere hour name (event.Withdrawn given lots) is h = ap (λ b. lots_if b lots) (not_named given name (λ same. other-hour given.hour hour h (same ∙ is)))
 taken_off-elsewhere hour name (event.Reduced given by) is h = ap (λ b. lots_if b by) (not_named given name (λ same. other-hour given.hour hour h (same ∙ is)))
-taken_off-elsewhere hour name (event.Entered given caller order) is h = refl
-taken_off-elsewhere hour name (event.EnteredBlock given caller order) is h = refl
-taken_off-elsewhere hour name (event.Leg contract leg) is h = refl
-taken_off-elsewhere hour name (event.BlockLeg first last leg) is h = refl
-taken_off-elsewhere hour name (event.Granted arc first last lots) is h = refl
-taken_off-elsewhere hour name (event.Offered arc first last lots) is h = refl
-taken_off-elsewhere hour name (event.Halted border first last) is h = refl
-taken_off-elsewhere hour name (event.Resumed border first last) is h = refl
-taken_off-elsewhere hour name (event.Gated gated phase) is h = refl
+taken_off-elsewhere hour name _ is h = refl
 
 -- a quarter of a range is of an hour of it
 range-within : (first last quarter : Quarter) → range_has first last quarter ≡ true → is_within first.hour last.hour quarter.hour ≡ true
@@ -141,14 +117,7 @@ allocated-elsewhere hour quarter arc (event.BlockLeg first last leg) is h = no_l
 allocated-elsewhere hour quarter arc (event.Granted given first last lots) is h = no_lots (range_has first last quarter && same_arc given arc) lots (λ k.
     let both = and_parts (range_has first last quarter) (same_arc given arc) k in
     true≢false (sym (subst (λ t. is_within first.hour last.hour t ≡ true) is (range-within first last quarter both.0)) ∙ h))
-allocated-elsewhere hour quarter arc (event.Entered given caller order) is h = refl
-allocated-elsewhere hour quarter arc (event.EnteredBlock given caller order) is h = refl
-allocated-elsewhere hour quarter arc (event.Offered given first last lots) is h = refl
-allocated-elsewhere hour quarter arc (event.Halted border first last) is h = refl
-allocated-elsewhere hour quarter arc (event.Resumed border first last) is h = refl
-allocated-elsewhere hour quarter arc (event.Gated gated phase) is h = refl
-allocated-elsewhere hour quarter arc (event.Withdrawn given lots) is h = refl
-allocated-elsewhere hour quarter arc (event.Reduced given by) is h = refl
+allocated-elsewhere hour quarter arc _ is h = refl
 
 -- what offers, gates and halts say of an hour is said by events that touch it
 offered-elsewhere : (hour : ℕ) (quarter : Quarter) (arc : Arc) (e : Event) → quarter.hour ≡ hour → touches hour e ≡ false → offered_by quarter arc e ≡ None
@@ -159,29 +128,11 @@ offered-elsewhere hour quarter arc (event.Offered given first last lots) is h = 
         let both = and_parts (range_has first last quarter) (same_arc given arc) k in
         absurd (true≢false (sym (subst (λ t. is_within first.hour last.hour t ≡ true) is (range-within first last quarter both.0)) ∙ h))
     go false k = refl
-offered-elsewhere hour quarter arc (event.Entered given caller order) is h = refl
-offered-elsewhere hour quarter arc (event.EnteredBlock given caller order) is h = refl
-offered-elsewhere hour quarter arc (event.Leg contract leg) is h = refl
-offered-elsewhere hour quarter arc (event.BlockLeg first last leg) is h = refl
-offered-elsewhere hour quarter arc (event.Granted given first last lots) is h = refl
-offered-elsewhere hour quarter arc (event.Halted border first last) is h = refl
-offered-elsewhere hour quarter arc (event.Resumed border first last) is h = refl
-offered-elsewhere hour quarter arc (event.Gated gated phase) is h = refl
-offered-elsewhere hour quarter arc (event.Withdrawn given lots) is h = refl
-offered-elsewhere hour quarter arc (event.Reduced given by) is h = refl
+offered-elsewhere hour quarter arc _ is h = refl
 
 phase-elsewhere : (hour : ℕ) (e : Event) → touches hour e ≡ false → phase_by hour e ≡ None
 phase-elsewhere hour (event.Gated gated asked) h = rw h refl
-phase-elsewhere hour (event.Entered given caller order) h = refl
-phase-elsewhere hour (event.EnteredBlock given caller order) h = refl
-phase-elsewhere hour (event.Leg contract leg) h = refl
-phase-elsewhere hour (event.BlockLeg first last leg) h = refl
-phase-elsewhere hour (event.Granted given first last lots) h = refl
-phase-elsewhere hour (event.Offered given first last lots) h = refl
-phase-elsewhere hour (event.Halted border first last) h = refl
-phase-elsewhere hour (event.Resumed border first last) h = refl
-phase-elsewhere hour (event.Withdrawn given lots) h = refl
-phase-elsewhere hour (event.Reduced given by) h = refl
+phase-elsewhere hour _ h = refl
 
 halt_test : (a b : Bool) (said : Bool) → b ≡ false → (if a && b then Some said else None) ≡ None
 halt_test true b said h = rw h refl
@@ -190,28 +141,12 @@ halt_test false b said h = refl
 halt-elsewhere : (border hour : ℕ) (e : Event) → touches hour e ≡ false → halt_by border hour e ≡ None
 halt-elsewhere border hour (event.Halted halted first last) h = halt_test (nat_eq halted border) (is_within first last hour) true h
 halt-elsewhere border hour (event.Resumed resumed first last) h = halt_test (nat_eq resumed border) (is_within first last hour) false h
-halt-elsewhere border hour (event.Entered given caller order) h = refl
-halt-elsewhere border hour (event.EnteredBlock given caller order) h = refl
-halt-elsewhere border hour (event.Leg contract leg) h = refl
-halt-elsewhere border hour (event.BlockLeg first last leg) h = refl
-halt-elsewhere border hour (event.Granted given first last lots) h = refl
-halt-elsewhere border hour (event.Offered given first last lots) h = refl
-halt-elsewhere border hour (event.Gated gated asked) h = refl
-halt-elsewhere border hour (event.Withdrawn given lots) h = refl
-halt-elsewhere border hour (event.Reduced given by) h = refl
+halt-elsewhere border hour _ h = refl
 
 enters-elsewhere : (hour : ℕ) (e : Event) → touches hour e ≡ false → enters_in hour e ≡ false
 enters-elsewhere hour (event.Entered given caller order) h = h
 enters-elsewhere hour (event.EnteredBlock given caller order) h = h
-enters-elsewhere hour (event.Leg contract leg) h = refl
-enters-elsewhere hour (event.BlockLeg first last leg) h = refl
-enters-elsewhere hour (event.Granted given first last lots) h = refl
-enters-elsewhere hour (event.Offered given first last lots) h = refl
-enters-elsewhere hour (event.Halted border first last) h = refl
-enters-elsewhere hour (event.Resumed border first last) h = refl
-enters-elsewhere hour (event.Gated gated asked) h = refl
-enters-elsewhere hour (event.Withdrawn given lots) h = refl
-enters-elsewhere hour (event.Reduced given by) h = refl
+enters-elsewhere hour _ h = refl
 
 -- ---- so histories that agree on an hour say the same
 
@@ -285,30 +220,12 @@ module _ (hours : List ℕ) (a b : List Event) (agree : Agree hours a b) where
   order_elsewhere : (hour : ℕ) (e : Event) (order : Placed) → touches hour e ≡ false → placed_by e ≡ Some order → nat_eq order.name.hour hour ≡ false
   order_elsewhere hour (event.Entered given caller order) found t is =
       let same : record { name = given; caller = caller; order = order } ≡ found = cc in subst (λ (p : Placed). nat_eq p.name.hour hour ≡ false) same t
-  order_elsewhere hour (event.EnteredBlock given caller order) found t is = absurd (cc)
-  order_elsewhere hour (event.Leg contract leg) found t is = absurd (cc)
-  order_elsewhere hour (event.BlockLeg first last leg) found t is = absurd (cc)
-  order_elsewhere hour (event.Granted given first last lots) found t is = absurd (cc)
-  order_elsewhere hour (event.Offered given first last lots) found t is = absurd (cc)
-  order_elsewhere hour (event.Halted border first last) found t is = absurd (cc)
-  order_elsewhere hour (event.Resumed border first last) found t is = absurd (cc)
-  order_elsewhere hour (event.Gated gated asked) found t is = absurd (cc)
-  order_elsewhere hour (event.Withdrawn given lots) found t is = absurd (cc)
-  order_elsewhere hour (event.Reduced given by) found t is = absurd (cc)
+  order_elsewhere hour _ found t is = absurd (cc)
 
   block_elsewhere : (hour : ℕ) (e : Event) (block : PlacedBlock) → touches hour e ≡ false → block_placed_by e ≡ Some block → nat_eq block.name.hour hour ≡ false
   block_elsewhere hour (event.EnteredBlock given caller order) found t is =
       let same : record { name = given; caller = caller; order = order } ≡ found = cc in subst (λ (p : PlacedBlock). nat_eq p.name.hour hour ≡ false) same t
-  block_elsewhere hour (event.Entered given caller order) found t is = absurd (cc)
-  block_elsewhere hour (event.Leg contract leg) found t is = absurd (cc)
-  block_elsewhere hour (event.BlockLeg first last leg) found t is = absurd (cc)
-  block_elsewhere hour (event.Granted given first last lots) found t is = absurd (cc)
-  block_elsewhere hour (event.Offered given first last lots) found t is = absurd (cc)
-  block_elsewhere hour (event.Halted border first last) found t is = absurd (cc)
-  block_elsewhere hour (event.Resumed border first last) found t is = absurd (cc)
-  block_elsewhere hour (event.Gated gated asked) found t is = absurd (cc)
-  block_elsewhere hour (event.Withdrawn given lots) found t is = absurd (cc)
-  block_elsewhere hour (event.Reduced given by) found t is = absurd (cc)
+  block_elsewhere hour _ found t is = absurd (cc)
 
   -- the orders, and the blocks, that are named by an hour
   pub placed-agree : (hour : ℕ) → IsIn hour hours

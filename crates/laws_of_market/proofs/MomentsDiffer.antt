@@ -114,16 +114,7 @@ entry-of events order h =
           is_there = IsIn-filter (touches given.hour) (event.Entered given caller entering) events i (eq-eqb given.hour given.hour refl);
           gives = λ before. same_name-refl given;
         })
-    by_event (event.EnteredBlock given caller entering) found i is = absurd (cc)
-    by_event (event.Leg contract leg) found i is = absurd (cc)
-    by_event (event.BlockLeg first last leg) found i is = absurd (cc)
-    by_event (event.Granted given first last lots) found i is = absurd (cc)
-    by_event (event.Offered given first last lots) found i is = absurd (cc)
-    by_event (event.Halted border first last) found i is = absurd (cc)
-    by_event (event.Resumed border first last) found i is = absurd (cc)
-    by_event (event.Gated gated asked) found i is = absurd (cc)
-    by_event (event.Withdrawn given lots) found i is = absurd (cc)
-    by_event (event.Reduced given by) found i is = absurd (cc)
+    by_event _ found i is = absurd (cc)
 
 -- where an event stands in a history
 record Stands (e : Event) (events : List Event) : Type 0 where
@@ -172,15 +163,7 @@ module _ (setup : Setup) (events : List Event) (fit : FitAfter setup [] events) 
           | inr n ↦ sym (same_name-eq leg.maker one.name m) ∙ same_name-eq leg.maker other.name n
         ]
       ]
-  one-moment one other one_placed other_placed side before (event.EnteredBlock given caller entering) i of_one of_other = absurd (true≢false (sym of_one))
-  one-moment one other one_placed other_placed side before (event.BlockLeg first last leg) i of_one of_other = absurd (true≢false (sym of_one))
-  one-moment one other one_placed other_placed side before (event.Granted given first last lots) i of_one of_other = absurd (true≢false (sym of_one))
-  one-moment one other one_placed other_placed side before (event.Offered given first last lots) i of_one of_other = absurd (true≢false (sym of_one))
-  one-moment one other one_placed other_placed side before (event.Halted border first last) i of_one of_other = absurd (true≢false (sym of_one))
-  one-moment one other one_placed other_placed side before (event.Resumed border first last) i of_one of_other = absurd (true≢false (sym of_one))
-  one-moment one other one_placed other_placed side before (event.Gated gated asked) i of_one of_other = absurd (true≢false (sym of_one))
-  one-moment one other one_placed other_placed side before (event.Withdrawn given lots) i of_one of_other = absurd (true≢false (sym of_one))
-  one-moment one other one_placed other_placed side before (event.Reduced given by) i of_one of_other = absurd (true≢false (sym of_one))
+  one-moment one other one_placed other_placed side before _ i of_one of_other = absurd (true≢false (sym of_one))
 
   -- where an order's moment is
   moment-place : (order : Placed) → IsIn order (placed events) → IsPlace (gives_moment order) [] (of_hour order.name.hour events) (moment events order)

@@ -51,15 +51,7 @@ module _ (setup : Setup) (before : List Event) (fit : FitAfter setup [] before) 
         is_of = both.0;
         ends = ap (ends_peak order.order.kind) (sym (filled-hour setup order.name.hour before e order.name fit (fit-more setup before e fit fits) refl)) ∙ both.1;
       }
-  empties (event.EnteredBlock given caller entering) fits gives = absurd (true≢false (sym gives))
-  empties (event.BlockLeg first last leg) fits gives = absurd (true≢false (sym gives))
-  empties (event.Granted arc first last lots) fits gives = absurd (true≢false (sym gives))
-  empties (event.Offered arc first last lots) fits gives = absurd (true≢false (sym gives))
-  empties (event.Halted border first last) fits gives = absurd (true≢false (sym gives))
-  empties (event.Resumed border first last) fits gives = absurd (true≢false (sym gives))
-  empties (event.Gated gated asked) fits gives = absurd (true≢false (sym gives))
-  empties (event.Withdrawn given lots) fits gives = absurd (true≢false (sym gives))
-  empties (event.Reduced given by) fits gives = absurd (true≢false (sym gives))
+  empties _ fits gives = absurd (true≢false (sym gives))
 
   -- so one more event keeps the moment of an order, or empties a peak of it
   kept-by : (e : Event) → Fits setup before e → (moment (and_then before e) order ≡ moment before order) ⊎ EmptiesBy before e order
@@ -139,16 +131,7 @@ entry-gives (event.Entered given caller entering) other before is =
     let same : record { name = given; caller = caller; order = entering } ≡ other = cc in
     subst (λ (o : Placed). (touches o.name.hour (event.Entered given caller entering) ≡ true) × (gives_moment o before (event.Entered given caller entering) ≡ true)) same
     (eq-eqb given.hour given.hour refl, same_name-refl given)
-entry-gives (event.EnteredBlock given caller entering) other before is = absurd (cc)
-entry-gives (event.Leg contract leg) other before is = absurd (cc)
-entry-gives (event.BlockLeg first last leg) other before is = absurd (cc)
-entry-gives (event.Granted arc first last lots) other before is = absurd (cc)
-entry-gives (event.Offered arc first last lots) other before is = absurd (cc)
-entry-gives (event.Halted border first last) other before is = absurd (cc)
-entry-gives (event.Resumed border first last) other before is = absurd (cc)
-entry-gives (event.Gated gated asked) other before is = absurd (cc)
-entry-gives (event.Withdrawn given lots) other before is = absurd (cc)
-entry-gives (event.Reduced given by) other before is = absurd (cc)
+entry-gives _ other before is = absurd (cc)
 
 -- the events of an hour do not become fewer
 hour-grows : (hour : ℕ) (V : List Event) (e : Event) → length (of_hour hour V) ≤ length (of_hour hour (and_then V e))

@@ -73,29 +73,11 @@ module _ (parts : List Part) (graph : Graph) (start : List Event) where
   made-next name new before (event.Leg contract leg) is =
       let same = taker-is graph name before contract leg is in
       inl (ap (times_entered start) same ∙ new, ap (λ n. next_leg graph n before) same ∙ is)
-  made-next name new before (event.Entered given caller order) is = tt
-  made-next name new before (event.EnteredBlock given caller order) is = tt
-  made-next name new before (event.BlockLeg first last leg) is = tt
-  made-next name new before (event.Granted arc first last lots) is = tt
-  made-next name new before (event.Offered arc first last lots) is = tt
-  made-next name new before (event.Halted border first last) is = tt
-  made-next name new before (event.Resumed border first last) is = tt
-  made-next name new before (event.Gated hour asked) is = tt
-  made-next name new before (event.Withdrawn given lots) is = tt
-  made-next name new before (event.Reduced given by) is = tt
+  made-next name new before _ is = tt
 
   made-swept : (hour : ℕ) (before : List Event) (e : Event) → sweep_leg parts graph hour before ≡ Some e → IsMade parts graph start before e
   made-swept hour before (event.Leg contract leg) is = inr (hour, is)
-  made-swept hour before (event.Entered given caller order) is = tt
-  made-swept hour before (event.EnteredBlock given caller order) is = tt
-  made-swept hour before (event.BlockLeg first last leg) is = tt
-  made-swept hour before (event.Granted arc first last lots) is = tt
-  made-swept hour before (event.Offered arc first last lots) is = tt
-  made-swept hour before (event.Halted border first last) is = tt
-  made-swept hour before (event.Resumed border first last) is = tt
-  made-swept hour before (event.Gated gated asked) is = tt
-  made-swept hour before (event.Withdrawn given lots) is = tt
-  made-swept hour before (event.Reduced given by) is = tt
+  made-swept hour before _ is = tt
 
   take-made : (events : List Event) (name : OrderName) → times_entered start name ≡ 0 → HoldAfter Made events (take graph events name)
   unfolding take
@@ -262,17 +244,7 @@ module _ (setup : Setup) (parts : List Part) where
   answer-made : (events : List Event) (caller : ℕ) (given : Command) → FitAfter setup [] (events ++ events_of (reply_let_in parts setup events caller given))
       → HoldAfter (IsMade parts graph events) events (events_of (reply_let_in parts setup events caller given))
   answer-made events caller (command.View contract side zone) fit = tt
-  answer-made events caller (command.Enter order) fit = done-made events caller (command.Enter order) fit
-  answer-made events caller (command.EnterBlock order) fit = done-made events caller (command.EnterBlock order) fit
-  answer-made events caller (command.EnterBasket orders) fit = done-made events caller (command.EnterBasket orders) fit
-  answer-made events caller (command.Cancel name) fit = done-made events caller (command.Cancel name) fit
-  answer-made events caller (command.Reduce name to) fit = done-made events caller (command.Reduce name to) fit
-  answer-made events caller (command.Blocks first last) fit = done-made events caller (command.Blocks first last) fit
-  answer-made events caller (command.Offer from to first last lots) fit = done-made events caller (command.Offer from to first last lots) fit
-  answer-made events caller (command.Request from to first last lots) fit = done-made events caller (command.Request from to first last lots) fit
-  answer-made events caller (command.Halt from to first last) fit = done-made events caller (command.Halt from to first last) fit
-  answer-made events caller (command.Resume from to first last) fit = done-made events caller (command.Resume from to first last) fit
-  answer-made events caller (command.Gate hour asked) fit = done-made events caller (command.Gate hour asked) fit
+  answer-made events caller given fit = done-made events caller given fit
 
   pub reply-made : (events : List Event) (caller : ℕ) (given : Command) → FitAfter setup [] (events ++ events_of (reply_by parts setup events caller given))
       → HoldAfter (IsMade parts graph events) events (events_of (reply_by parts setup events caller given))

@@ -56,13 +56,7 @@ named-fits setup before (event.BlockLeg first last leg) sound fits =
       ap (λ n. n.hour) (sym fits.maker_open.is_named) ∙ maker.named ∙ fits.maker_first,
       omega arith,
     )
-named-fits setup before (event.Granted arc first last lots) sound fits = tt
-named-fits setup before (event.Offered arc first last lots) sound fits = tt
-named-fits setup before (event.Halted border first last) sound fits = tt
-named-fits setup before (event.Resumed border first last) sound fits = tt
-named-fits setup before (event.Gated hour phase) sound fits = tt
-named-fits setup before (event.Withdrawn name lots) sound fits = tt
-named-fits setup before (event.Reduced name by) sound fits = tt
+named-fits setup before _ sound fits = tt
 
 -- a history that is so named, together with what is needed to go on
 record NamedSoFar (setup : Setup) (events : List Event) : Type 0 where

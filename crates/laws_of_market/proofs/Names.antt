@@ -106,15 +106,7 @@ names-fit setup before (event.Entered name caller order) names fits =
 names-fit setup before (event.EnteredBlock name caller order) names fits =
     let hour : name.hour ≡ order.first = ap (λ (n : OrderName). n.hour) fits.named in
     names-given before (event.EnteredBlock name caller order) name names (subst (λ h. name ≡ next_name before h) (sym hour) fits.named) (λ n. refl) (λ h. refl)
-names-fit setup before (event.Leg contract leg) names fits = names-kept before (event.Leg contract leg) names (λ n. refl) (λ h. refl)
-names-fit setup before (event.BlockLeg first last leg) names fits = names-kept before (event.BlockLeg first last leg) names (λ n. refl) (λ h. refl)
-names-fit setup before (event.Granted arc first last lots) names fits = names-kept before (event.Granted arc first last lots) names (λ n. refl) (λ h. refl)
-names-fit setup before (event.Offered arc first last lots) names fits = names-kept before (event.Offered arc first last lots) names (λ n. refl) (λ h. refl)
-names-fit setup before (event.Halted border first last) names fits = names-kept before (event.Halted border first last) names (λ n. refl) (λ h. refl)
-names-fit setup before (event.Resumed border first last) names fits = names-kept before (event.Resumed border first last) names (λ n. refl) (λ h. refl)
-names-fit setup before (event.Gated hour phase) names fits = names-kept before (event.Gated hour phase) names (λ n. refl) (λ h. refl)
-names-fit setup before (event.Withdrawn name lots) names fits = names-kept before (event.Withdrawn name lots) names (λ n. refl) (λ h. refl)
-names-fit setup before (event.Reduced name by) names fits = names-kept before (event.Reduced name by) names (λ n. refl) (λ h. refl)
+names-fit setup before e names fits = names-kept before e names (λ n. refl) (λ h. refl)
 
 nothing_entered : NamesOnce []
 nothing_entered = record { once = λ name. omega arith; numbered = λ name some. absurd (omega arith) }
@@ -148,15 +140,7 @@ enters-some hour (event.EnteredBlock given caller order) = one (enters_in hour (
     one : (b : Bool) → cond b 1 0 ≤ 1
     one true = omega arith
     one false = omega arith
-enters-some hour (event.Leg contract leg) = omega arith
-enters-some hour (event.BlockLeg first last leg) = omega arith
-enters-some hour (event.Granted arc first last lots) = omega arith
-enters-some hour (event.Offered arc first last lots) = omega arith
-enters-some hour (event.Halted border first last) = omega arith
-enters-some hour (event.Resumed border first last) = omega arith
-enters-some hour (event.Gated gated phase) = omega arith
-enters-some hour (event.Withdrawn given lots) = omega arith
-enters-some hour (event.Reduced given by) = omega arith
+enters-some hour _ = omega arith
 
 pub entered_in-few : (events : List Event) (hour : ℕ) → entered_in events hour ≤ entered_count events
 entered_in-few events hour = sum_by-le-sum_by (λ e. cond (enters_in hour e) 1 0) (λ e. cond (enters e) 1 0) events (enters-some hour)

@@ -53,28 +53,12 @@ fewer-both p q r (x ∷ xs) implies = go (fewer-both p q r xs (λ y i. implies y
 quiet-name : (hour : ℕ) (e : Event) → IsQuiet e → name_given hour e ≡ None
 quiet-name hour (event.Entered given caller order) q = absurd (true≢false q)
 quiet-name hour (event.EnteredBlock given caller order) q = absurd (true≢false q)
-quiet-name hour (event.Leg contract leg) q = refl
-quiet-name hour (event.BlockLeg first last leg) q = refl
-quiet-name hour (event.Granted given first last lots) q = refl
-quiet-name hour (event.Offered given first last lots) q = refl
-quiet-name hour (event.Halted border first last) q = refl
-quiet-name hour (event.Resumed border first last) q = refl
-quiet-name hour (event.Gated gated asked) q = refl
-quiet-name hour (event.Withdrawn given lots) q = refl
-quiet-name hour (event.Reduced given by) q = refl
+quiet-name hour _ q = refl
 
 quiet-entered : (name : OrderName) (e : Event) → IsQuiet e → entered_by name e ≡ 0
 quiet-entered name (event.Entered given caller order) q = absurd (true≢false q)
 quiet-entered name (event.EnteredBlock given caller order) q = absurd (true≢false q)
-quiet-entered name (event.Leg contract leg) q = refl
-quiet-entered name (event.BlockLeg first last leg) q = refl
-quiet-entered name (event.Granted given first last lots) q = refl
-quiet-entered name (event.Offered given first last lots) q = refl
-quiet-entered name (event.Halted border first last) q = refl
-quiet-entered name (event.Resumed border first last) q = refl
-quiet-entered name (event.Gated gated asked) q = refl
-quiet-entered name (event.Withdrawn given lots) q = refl
-quiet-entered name (event.Reduced given by) q = refl
+quiet-entered name _ q = refl
 
 -- the names given by an hour
 abbrev given_in : List Event → ℕ → List OrderName
@@ -132,15 +116,7 @@ given-enters hour (event.EnteredBlock given caller order) name is = go (nat_eq g
     go : (t : Bool) → (if t then Some given else None) ≡ Some name → same_name given name ≡ true
     go true k = let same : given ≡ name = cc in subst (λ n. same_name given n ≡ true) same (same_name-refl given)
     go false k = absurd (cc)
-given-enters hour (event.Leg contract leg) name is = absurd (cc)
-given-enters hour (event.BlockLeg first last leg) name is = absurd (cc)
-given-enters hour (event.Granted given first last lots) name is = absurd (cc)
-given-enters hour (event.Offered given first last lots) name is = absurd (cc)
-given-enters hour (event.Halted border first last) name is = absurd (cc)
-given-enters hour (event.Resumed border first last) name is = absurd (cc)
-given-enters hour (event.Gated gated asked) name is = absurd (cc)
-given-enters hour (event.Withdrawn given lots) name is = absurd (cc)
-given-enters hour (event.Reduced given by) name is = absurd (cc)
+given-enters hour _ name is = absurd (cc)
 
 not_given : (events : List Event) (name : OrderName) → times_entered events name ≡ 0 → (hour : ℕ) (other : OrderName) → IsIn other (given_in events hour) → other ≢ name
 not_given events name never hour other i same =

@@ -79,19 +79,9 @@ order_enters-sound setup before (event.Entered name caller entering) order fits 
       in_zone = fits.in_zone;
       sound = fits.sound;
     })
-order_enters-sound setup before (event.EnteredBlock name caller entering) order fits is = absurd (cc)
-order_enters-sound setup before (event.Leg contract leg) order fits is = absurd (cc)
-order_enters-sound setup before (event.BlockLeg first last leg) order fits is = absurd (cc)
-order_enters-sound setup before (event.Granted arc first last lots) order fits is = absurd (cc)
-order_enters-sound setup before (event.Offered arc first last lots) order fits is = absurd (cc)
-order_enters-sound setup before (event.Halted border first last) order fits is = absurd (cc)
-order_enters-sound setup before (event.Resumed border first last) order fits is = absurd (cc)
-order_enters-sound setup before (event.Gated hour phase) order fits is = absurd (cc)
-order_enters-sound setup before (event.Withdrawn name lots) order fits is = absurd (cc)
-order_enters-sound setup before (event.Reduced name by) order fits is = absurd (cc)
+order_enters-sound setup before _ order fits is = absurd (cc)
 
 block_enters-sound : (setup : Setup) (before : List Event) (e : Event) (block : PlacedBlock) → Fits setup before e → block_placed_by e ≡ Some block → BlockIsSound setup block
-block_enters-sound setup before (event.Entered name caller entering) block fits is = absurd (cc)
 block_enters-sound setup before (event.EnteredBlock name caller entering) block fits is =
     let same : record { name = name; caller = caller; order = entering } ≡ block = cc in
     subst (λ (b : PlacedBlock). BlockIsSound setup b) same (record {
@@ -103,15 +93,7 @@ block_enters-sound setup before (event.EnteredBlock name caller entering) block 
       in_zone = fits.in_zone;
       sound = fits.sound;
     })
-block_enters-sound setup before (event.Leg contract leg) block fits is = absurd (cc)
-block_enters-sound setup before (event.BlockLeg first last leg) block fits is = absurd (cc)
-block_enters-sound setup before (event.Granted arc first last lots) block fits is = absurd (cc)
-block_enters-sound setup before (event.Offered arc first last lots) block fits is = absurd (cc)
-block_enters-sound setup before (event.Halted border first last) block fits is = absurd (cc)
-block_enters-sound setup before (event.Resumed border first last) block fits is = absurd (cc)
-block_enters-sound setup before (event.Gated hour phase) block fits is = absurd (cc)
-block_enters-sound setup before (event.Withdrawn name lots) block fits is = absurd (cc)
-block_enters-sound setup before (event.Reduced name by) block fits is = absurd (cc)
+block_enters-sound setup before _ block fits is = absurd (cc)
 
 sound-fit : (setup : Setup) (before : List Event) (e : Event) → AllAreSound setup before → Fits setup before e → AllAreSound setup (and_then before e)
 sound-fit setup before e sound fits = record {

@@ -1,6 +1,6 @@
 -- The price of each peak of an iceberg that can show is in range.
-use Rattle.std.proofs.Common.{◌≡◌, ℕ, ◌-◌, ◌*◌, ◌/◌, ◌<◌, ◌≤◌, ◌&&◌, true, List, [], ℤ, pos, neg_ℤ, ◌+ℤ◌, ◌-ℤ◌, ◌≤ℤ◌, int_le, nat_lt, nat_le, refl, arith}
-use Rattle.std.proofs.Math.Nat.{div-add-mod, mul-le-mul_left}
+use Rattle.std.proofs.Common.{◌≡◌, ◌∙◌, ℕ, ◌-◌, ◌*◌, ◌/◌, ◌<◌, ◌≤◌, ◌&&◌, true, List, [], ℤ, pos, neg_ℤ, ◌+ℤ◌, ◌-ℤ◌, ◌≤ℤ◌, int_le, nat_lt, nat_le, refl, ap, arith}
+use Rattle.std.proofs.Math.Nat.{div-add-mod, mul-le-mul_left, zero-div}
 use Rattle.std.proofs.lemmas.Bool.{ltb-true, and_parts, and_from}
 use Rattle.std.proofs.lemmas.Nat.{le-div}
 use Rattle.iceberg_peak.specs.Peak.{showing_price}
@@ -81,3 +81,23 @@ prices-in-range setup events fit order h filled less =
         let c = and_parts (nat_lt 0 peak) (nat_lt peak total) b.0 in
         in_range (showing_price side price peak delta filled)
         (showing-between side price total peak delta filled (ltb-true 0 peak c.0) less (between price numbers.price) (between (last_peak_price side price total peak delta) a.1))
+
+-- the first peak shows at the order's own price, and so does an order of any other kind
+pub price-entered : (order : Order) → price_now order 0 ≡ order.price
+price-entered order = go order.kind
+  where
+    first_peak : (side : Side) (price : Price) (peak delta : ℕ) → showing_price side price peak delta 0 ≡ price
+    first_peak Buy price peak delta =
+        let at : ℕ → Price = λ n. record { 0 = price.0 -ℤ pos (delta * n) } in
+        let first : 0 / peak ≡ 0 = zero-div peak in
+        let none : price.0 -ℤ pos (delta * 0) ≡ price.0 = grind arith in
+        ap at first ∙ ap (λ z. record { 0 = z }) none
+    first_peak Sell price peak delta =
+        let at : ℕ → Price = λ n. record { 0 = price.0 +ℤ pos (delta * n) } in
+        let first : 0 / peak ≡ 0 = zero-div peak in
+        let none : price.0 +ℤ pos (delta * 0) ≡ price.0 = grind arith in
+        ap at first ∙ ap (λ z. record { 0 = z }) none
+
+    go : (given : Kind) → price_now (record order { kind = given }) 0 ≡ order.price
+    go (kind.Iceberg peak delta) = first_peak order.side order.price peak.0 delta
+    go _ = refl

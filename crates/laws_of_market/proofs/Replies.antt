@@ -20,6 +20,7 @@ use Rattle.order_kinds.specs.Price.{lots_in_range, price_in_range}
 use Rattle.order_kinds.specs.Same.{same_name}
 use Rattle.zone_graph.specs.declared.route.Arc.{Arc}
 use Rattle.zone_graph.specs.Graph.{zone_count}
+use Rattle.zone_graph.specs.Route.{IsIn}
 use Rattle.zone_graph.proofs.Membership.{IsIn-map}
 use Rattle.market_model.specs.declared.command.Command.{Command}
 use Rattle.market_model.specs.declared.command.Command.TheVariants as command
@@ -39,10 +40,10 @@ use Rattle.market_model.specs.Room.{phase_of}
 use Rattle.market_model.specs.Rules.{has_right, may_give}
 use Rattle.market_model.specs.Sweep.{first_answer}
 use Rattle.market_model.specs.WellFormed.{BorderFits, GateFits, GrantFits, IsHistory, IsMarketSetup, IsRange, OfferFits, ReductionFits, WithdrawalFits}
-use Rattle.laws_of_market.proofs.Admitted.{IsAdmitted, all-pass, refusal-none, unless-none}
-use Rattle.laws_of_market.proofs.BlockEntries.{enter_block-history, match_blocks-history}
+use Rattle.laws_of_market.proofs.Admitted.{IsAdmitted, NamesWhatIs, NumbersAreGood, all-pass, refusal-none, unless-none}
+use Rattle.laws_of_market.proofs.BlockEntries.{MayEnterBlock, enter_block-history, match_blocks-history}
 use Rattle.laws_of_market.proofs.Changes.{arc_between-has, gate-history, offer-covers, request-room, then_sweeps-history}
-use Rattle.laws_of_market.proofs.Entries.{enter-history, enter_all-history}
+use Rattle.laws_of_market.proofs.Entries.{MayEnter, enter-history, enter_all-history}
 use Rattle.laws_of_market.proofs.Legs.{open_order-is}
 use Rattle.laws_of_market.proofs.Soundness.{block_fault-sound, lots_in_range-bounds, order_fault-sound}
 use Rattle.laws_of_market.proofs.Tests.{same_name-eq}
@@ -78,6 +79,45 @@ kills-peaks order e = go order.kind refl e
     go kind.Ioc is h = absurd (true≢false (sym h))
     go kind.Fok is h = rw is refl
     go (kind.Iceberg peak delta) is h = absurd (true≢false (sym h))
+
+-- ---- what no early rule refuses may enter
+
+pub order-may : (setup : Setup) (caller : ℕ) (order : Order) → NamesWhatIs setup caller (command.Enter order) → NumbersAreGood (command.Enter order) → MayEnter setup caller order
+order-may setup caller order names numbers = record {
+  of_caller = right-within setup caller (command.Enter order) names.right;
+  in_hour = one-pass (is_within 1 setup.hours) order.contract.hour names.hours;
+  in_part = one-pass is_known order.contract.part names.parts;
+  in_zone = ltb-true order.zone (zone_count (graph_of setup)) (one-pass (λ zone. nat_lt zone (zone_count (graph_of setup))) order.zone names.zones);
+  sound = order_fault-sound order (one-pass price_in_range order.price numbers.prices) (one-pass lots_in_range order.quantity numbers.quantities) numbers.peaks;
+}
+
+pub block-may : (setup : Setup) (caller : ℕ) (order : BlockOrder) → NamesWhatIs setup caller (command.EnterBlock order) → NumbersAreGood (command.EnterBlock order)
+    → MayEnterBlock setup caller order
+block-may setup caller order names numbers = record {
+  of_caller = right-within setup caller (command.EnterBlock order) names.right;
+  from_hour = all-pass (is_within 1 setup.hours) (order.first ∷ order.last ∷ []) names.hours order.first (inl refl);
+  to_hour = second-pass (is_within 1 setup.hours) order.first order.last names.hours;
+  of_period = names.period;
+  in_zone = ltb-true order.zone (zone_count (graph_of setup)) (one-pass (λ zone. nat_lt zone (zone_count (graph_of setup))) order.zone names.zones);
+  sound = block_fault-sound order (one-pass price_in_range order.price numbers.prices) (one-pass lots_in_range order.quantity numbers.quantities);
+}
+
+-- and each order of a basket
+pub basket-may : (setup : Setup) (caller : ℕ) (orders : List Order) → NamesWhatIs setup caller (command.EnterBasket orders) → NumbersAreGood (command.EnterBasket orders)
+    → (order : Order) → IsIn order orders → MayEnter setup caller order
+basket-may setup caller orders names numbers order h =
+    let kills = (and_parts (is_within 2 8 (length orders) && _) (list_all (λ (order : Order). is_fill_or_kill order.kind) orders) names.basket).1 in
+    record {
+      of_caller = right-within setup caller (command.EnterBasket orders) names.right;
+      in_hour = all-pass (is_within 1 setup.hours) (map (λ (o : Order). o.contract.hour) orders) names.hours order.contract.hour (IsIn-map (λ (o : Order). o.contract.hour) order orders h);
+      in_part = all-pass is_known (map (λ (o : Order). o.contract.part) orders) names.parts order.contract.part (IsIn-map (λ (o : Order). o.contract.part) order orders h);
+      in_zone = ltb-true order.zone (zone_count (graph_of setup)) (all-pass (λ zone. nat_lt zone (zone_count (graph_of setup))) (map (λ (o : Order). o.zone) orders) names.zones
+          order.zone (IsIn-map (λ (o : Order). o.zone) order orders h));
+      sound = order_fault-sound order
+          (all-pass price_in_range (map (λ (o : Order). o.price) orders) numbers.prices order.price (IsIn-map (λ (o : Order). o.price) order orders h))
+          (all-pass lots_in_range (map (λ (o : Order). o.quantity) orders) numbers.quantities order.quantity (IsIn-map (λ (o : Order). o.quantity) order orders h))
+          (kills-peaks order (all-pass (λ (o : Order). is_fill_or_kill o.kind) orders kills order h));
+    }
 
 -- ---- what happens first where a command is admitted that enters nothing fits the events before
 
@@ -209,42 +249,15 @@ module _ (setup : Setup) (events : List Event) (caller : ℕ) where
 module _ (setup : Setup) (is_setup : IsMarketSetup setup) (parts : List Part) (events : List Event) (caller : ℕ) (history : IsHistory setup events) where
   entered : (order : Order) → IsAdmitted setup events caller (command.Enter order) → IsHistory setup (events ++ events_done parts setup events caller (command.Enter order))
   unfolding events_done
-  entered order may =
-      enter-history setup is_setup parts caller order events (record {
-        of_caller = right-within setup caller (command.Enter order) may.names.right;
-        in_hour = one-pass (is_within 1 setup.hours) order.contract.hour may.names.hours;
-        in_part = one-pass is_known order.contract.part may.names.parts;
-        in_zone = ltb-true order.zone (zone_count (graph_of setup)) (one-pass (λ zone. nat_lt zone (zone_count (graph_of setup))) order.zone may.names.zones);
-        sound = order_fault-sound order (one-pass price_in_range order.price may.numbers.prices) (one-pass lots_in_range order.quantity may.numbers.quantities) may.numbers.peaks;
-      }) history
+  entered order may = enter-history setup is_setup parts caller order events (order-may setup caller order may.names may.numbers) history
 
   block_entered : (order : BlockOrder) → IsAdmitted setup events caller (command.EnterBlock order) → IsHistory setup (events ++ events_done parts setup events caller (command.EnterBlock order))
   unfolding events_done
-  block_entered order may =
-      enter_block-history setup is_setup parts caller order events (record {
-        of_caller = right-within setup caller (command.EnterBlock order) may.names.right;
-        from_hour = all-pass (is_within 1 setup.hours) (order.first ∷ order.last ∷ []) may.names.hours order.first (inl refl);
-        to_hour = second-pass (is_within 1 setup.hours) order.first order.last may.names.hours;
-        of_period = may.names.period;
-        in_zone = ltb-true order.zone (zone_count (graph_of setup)) (one-pass (λ zone. nat_lt zone (zone_count (graph_of setup))) order.zone may.names.zones);
-        sound = block_fault-sound order (one-pass price_in_range order.price may.numbers.prices) (one-pass lots_in_range order.quantity may.numbers.quantities);
-      }) history
+  block_entered order may = enter_block-history setup is_setup parts caller order events (block-may setup caller order may.names may.numbers) history
 
   basket_entered : (orders : List Order) → IsAdmitted setup events caller (command.EnterBasket orders) → IsHistory setup (events ++ events_done parts setup events caller (command.EnterBasket orders))
   unfolding events_done
-  basket_entered orders may =
-      let kills = (and_parts (is_within 2 8 (length orders) && _) (list_all (λ (order : Order). is_fill_or_kill order.kind) orders) may.names.basket).1 in
-      enter_all-history setup is_setup parts caller orders events (λ order h. record {
-        of_caller = right-within setup caller (command.EnterBasket orders) may.names.right;
-        in_hour = all-pass (is_within 1 setup.hours) (map (λ (o : Order). o.contract.hour) orders) may.names.hours order.contract.hour (IsIn-map (λ (o : Order). o.contract.hour) order orders h);
-        in_part = all-pass is_known (map (λ (o : Order). o.contract.part) orders) may.names.parts order.contract.part (IsIn-map (λ (o : Order). o.contract.part) order orders h);
-        in_zone = ltb-true order.zone (zone_count (graph_of setup)) (all-pass (λ zone. nat_lt zone (zone_count (graph_of setup))) (map (λ (o : Order). o.zone) orders) may.names.zones
-            order.zone (IsIn-map (λ (o : Order). o.zone) order orders h));
-        sound = order_fault-sound order
-            (all-pass price_in_range (map (λ (o : Order). o.price) orders) may.numbers.prices order.price (IsIn-map (λ (o : Order). o.price) order orders h))
-            (all-pass lots_in_range (map (λ (o : Order). o.quantity) orders) may.numbers.quantities order.quantity (IsIn-map (λ (o : Order). o.quantity) order orders h))
-            (kills-peaks order (all-pass (λ (o : Order). is_fill_or_kill o.kind) orders kills order h));
-      }) history
+  basket_entered orders may = enter_all-history setup is_setup parts caller orders events (basket-may setup caller orders may.names may.numbers) history
 
   -- ---- what enters nothing
 
@@ -313,17 +326,7 @@ module _ (setup : Setup) (is_setup : IsMarketSetup setup) (parts : List Part) (e
   -- so do those of its answer
   answer-history : (given : Command) → IsAdmitted setup events caller given → IsHistory setup (events ++ events_of (reply_let_in parts setup events caller given))
   answer-history (command.View contract side zone) may = subst (IsHistory setup) (sym (append-nil events)) history
-  answer-history (command.Enter order) may = done-history (command.Enter order) may
-  answer-history (command.EnterBlock order) may = done-history (command.EnterBlock order) may
-  answer-history (command.EnterBasket orders) may = done-history (command.EnterBasket orders) may
-  answer-history (command.Cancel name) may = done-history (command.Cancel name) may
-  answer-history (command.Reduce name to) may = done-history (command.Reduce name to) may
-  answer-history (command.Blocks first last) may = done-history (command.Blocks first last) may
-  answer-history (command.Offer from to first last lots) may = done-history (command.Offer from to first last lots) may
-  answer-history (command.Request from to first last lots) may = done-history (command.Request from to first last lots) may
-  answer-history (command.Halt from to first last) may = done-history (command.Halt from to first last) may
-  answer-history (command.Resume from to first last) may = done-history (command.Resume from to first last) may
-  answer-history (command.Gate hour asked) may = done-history (command.Gate hour asked) may
+  answer-history given may = done-history given may
 
   -- every reply leaves a history well-formed
   pub reply-history : (given : Command) → IsHistory setup (events ++ events_of (reply_by parts setup events caller given))

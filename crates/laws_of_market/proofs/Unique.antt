@@ -2,7 +2,7 @@
 use Rattle.std.proofs.Common.{◌≡◌, ◌≢◌, ◌∙◌, inl, inr, ℕ, ◌+◌, ◌≤◌, Bool, true, false, cond, List, [], ◌∷◌, Some, refl, sym, ap, subst, arith}
 use Rattle.std.proofs.lemmas.List.Sums.{sum_by-cons}
 use Rattle.order_kinds.specs.declared.order.OrderName.{OrderName}
-use Rattle.order_kinds.specs.Same.{same_name}
+use Rattle.zone_graph.specs.Pour.{lots_if}
 use Rattle.zone_graph.specs.Route.{IsIn}
 use Rattle.market_model.specs.declared.event.Event.{Event}
 use Rattle.market_model.specs.declared.event.Event.TheVariants as event
@@ -50,15 +50,7 @@ entered-once name a b (event ∷ events) once h k p q =
 entered_by-other : (name : OrderName) (e : Event) → enters_as name e ≡ false → entered_by name e ≡ 0
 entered_by-other name (event.Entered given caller order) h = rw h refl
 entered_by-other name (event.EnteredBlock given caller order) h = rw h refl
-entered_by-other name (event.Leg contract leg) h = refl
-entered_by-other name (event.BlockLeg first last leg) h = refl
-entered_by-other name (event.Granted arc first last lots) h = refl
-entered_by-other name (event.Offered arc first last lots) h = refl
-entered_by-other name (event.Halted border first last) h = refl
-entered_by-other name (event.Resumed border first last) h = refl
-entered_by-other name (event.Gated hour phase) h = refl
-entered_by-other name (event.Withdrawn given lots) h = refl
-entered_by-other name (event.Reduced given by) h = refl
+entered_by-other name _ h = refl
 
 pub entered-none : (name : OrderName) (events : List Event) → times_entered events name ≡ 0 → entered events name ≡ 0
 entered-none name [] none = refl
@@ -97,49 +89,26 @@ entered-is name a (event ∷ events) once h e =
 -- ---- orders and blocks
 
 -- an order and a block come from the events that enter them
+pub order-event : (order : Placed) (e : Event) → placed_by e ≡ Some order → e ≡ event.Entered order.name order.caller order.order
+order-event order (event.Entered name caller entering) h =
+    let same : record { name = name; caller = caller; order = entering } ≡ order = cc in ap (λ (o : Placed). event.Entered o.name o.caller o.order) same
+order-event order _ h = absurd (cc)
+
+pub block-event : (block : PlacedBlock) (e : Event) → block_placed_by e ≡ Some block → e ≡ event.EnteredBlock block.name block.caller block.order
+block-event block (event.EnteredBlock name caller entering) h =
+    let same : record { name = name; caller = caller; order = entering } ≡ block = cc in ap (λ (b : PlacedBlock). event.EnteredBlock b.name b.caller b.order) same
+block-event block _ h = absurd (cc)
+
 pub enters-placed : (order : Placed) (e : Event) → placed_by e ≡ Some order → enters_as order.name e ≡ true
-enters-placed order (event.Entered name caller entering) h =
-    let same : record { name = name; caller = caller; order = entering } ≡ order = cc in
-    subst (λ (o : Placed). same_name name o.name ≡ true) same (same_name-refl name)
-enters-placed order (event.EnteredBlock name caller entering) h = absurd (cc)
-enters-placed order (event.Leg contract leg) h = absurd (cc)
-enters-placed order (event.BlockLeg first last leg) h = absurd (cc)
-enters-placed order (event.Granted arc first last lots) h = absurd (cc)
-enters-placed order (event.Offered arc first last lots) h = absurd (cc)
-enters-placed order (event.Halted border first last) h = absurd (cc)
-enters-placed order (event.Resumed border first last) h = absurd (cc)
-enters-placed order (event.Gated hour phase) h = absurd (cc)
-enters-placed order (event.Withdrawn name lots) h = absurd (cc)
-enters-placed order (event.Reduced name by) h = absurd (cc)
+enters-placed order e h = ap (enters_as order.name) (order-event order e h) ∙ same_name-refl order.name
 
 pub enters-block_placed : (block : PlacedBlock) (e : Event) → block_placed_by e ≡ Some block → enters_as block.name e ≡ true
-enters-block_placed block (event.Entered name caller entering) h = absurd (cc)
-enters-block_placed block (event.EnteredBlock name caller entering) h =
-    let same : record { name = name; caller = caller; order = entering } ≡ block = cc in
-    subst (λ (o : PlacedBlock). same_name name o.name ≡ true) same (same_name-refl name)
-enters-block_placed block (event.Leg contract leg) h = absurd (cc)
-enters-block_placed block (event.BlockLeg first last leg) h = absurd (cc)
-enters-block_placed block (event.Granted arc first last lots) h = absurd (cc)
-enters-block_placed block (event.Offered arc first last lots) h = absurd (cc)
-enters-block_placed block (event.Halted border first last) h = absurd (cc)
-enters-block_placed block (event.Resumed border first last) h = absurd (cc)
-enters-block_placed block (event.Gated hour phase) h = absurd (cc)
-enters-block_placed block (event.Withdrawn name lots) h = absurd (cc)
-enters-block_placed block (event.Reduced name by) h = absurd (cc)
+enters-block_placed block e h = ap (enters_as block.name) (block-event block e h) ∙ same_name-refl block.name
 
 -- no event enters both an order and a block
 not_both : (order : Placed) (block : PlacedBlock) (e : Event) → placed_by e ≡ Some order → block_placed_by e ≡ Some block → ⊥
-not_both order block (event.Entered name caller entering) h k = cc
-not_both order block (event.EnteredBlock name caller entering) h k = cc
-not_both order block (event.Leg contract leg) h k = cc
-not_both order block (event.BlockLeg first last leg) h k = cc
-not_both order block (event.Granted arc first last lots) h k = cc
-not_both order block (event.Offered arc first last lots) h k = cc
-not_both order block (event.Halted border first last) h k = cc
-not_both order block (event.Resumed border first last) h k = cc
-not_both order block (event.Gated hour phase) h k = cc
-not_both order block (event.Withdrawn name lots) h k = cc
-not_both order block (event.Reduced name by) h k = cc
+not_both order block e h k =
+    let one : event.Entered order.name order.caller order.order ≡ event.EnteredBlock block.name block.caller block.order = sym (order-event order e h) ∙ block-event block e k in cc
 
 module _ (events : List Event) (names : NamesOnce events) where
   -- two orders of one name are one
@@ -172,24 +141,15 @@ module _ (events : List Event) (names : NamesOnce events) where
       let one : x.0 ≡ y.0 = entered-once order.name x.0 y.0 events (names.once order.name) x.1 y.1 x_enters y_enters in
       not_both order block x.0 x.2 (ap block_placed_by one ∙ y.2)
 
--- what was entered of an order is its quantity
-order-quantity : (order : Placed) (e : Event) → placed_by e ≡ Some order → entered_by order.name e ≡ order.order.quantity.0
-order-quantity order (event.Entered given caller entering) is =
-    let same : record { name = given; caller = caller; order = entering } ≡ order = cc in
-    subst (λ (o : Placed). entered_by o.name (event.Entered given caller entering) ≡ o.order.quantity.0) same
-    (rw (same_name-refl given) refl)
-order-quantity order (event.EnteredBlock given caller entering) is = absurd (cc)
-order-quantity order (event.Leg contract leg) is = absurd (cc)
-order-quantity order (event.BlockLeg first last leg) is = absurd (cc)
-order-quantity order (event.Granted arc first last lots) is = absurd (cc)
-order-quantity order (event.Offered arc first last lots) is = absurd (cc)
-order-quantity order (event.Halted border first last) is = absurd (cc)
-order-quantity order (event.Resumed border first last) is = absurd (cc)
-order-quantity order (event.Gated gated asked) is = absurd (cc)
-order-quantity order (event.Withdrawn given lots) is = absurd (cc)
-order-quantity order (event.Reduced given by) is = absurd (cc)
-
+-- what was entered of an order is its quantity, and so with a block
 pub entered-order : (events : List Event) (order : Placed) → NamesOnce events → IsIn order (placed events) → entered events order.name ≡ order.order.quantity.0
 entered-order events order names i =
     let x = from_filter_map placed_by order events i in
-    entered-is order.name x.0 events (names.once order.name) x.1 (enters-placed order x.0 x.2) ∙ order-quantity order x.0 x.2
+    entered-is order.name x.0 events (names.once order.name) x.1 (enters-placed order x.0 x.2)
+    ∙ ap (entered_by order.name) (order-event order x.0 x.2) ∙ ap (λ b. lots_if b order.order.quantity.0) (same_name-refl order.name)
+
+pub entered-block : (events : List Event) (block : PlacedBlock) → NamesOnce events → IsIn block (blocks_placed events) → entered events block.name ≡ block.order.quantity.0
+entered-block events block names i =
+    let x = from_filter_map block_placed_by block events i in
+    entered-is block.name x.0 events (names.once block.name) x.1 (enters-block_placed block x.0 x.2)
+    ∙ ap (entered_by block.name) (block-event block x.0 x.2) ∙ ap (λ b. lots_if b block.order.quantity.0) (same_name-refl block.name)

@@ -145,8 +145,6 @@ room-le events quarters arc quarter h =
 -- an event that fits uses no more than is free
 pub uses-free : (setup : Setup) (before : List Event) (e : Event) → Fits setup before e → (quarter : Quarter) (arc : Arc)
     → allocated_by quarter arc e ≤ free before quarter arc
-uses-free setup before (event.Entered name caller order) fits quarter arc = omega arith
-uses-free setup before (event.EnteredBlock name caller order) fits quarter arc = omega arith
 uses-free setup before (event.Leg contract leg) fits quarter arc =
     if_free (contract_has contract quarter && uses leg.route arc) leg.lots (free before quarter arc) (λ h.
     let both = and_parts (contract_has contract quarter) (uses leg.route arc) h in
@@ -165,12 +163,7 @@ uses-free setup before (event.Granted granted first last lots) fits quarter arc 
     let same : granted ≡ arc = same_arc-is granted arc both.1 in
     let has : lots ≤ quarter_room before arc quarter = subst (λ a. lots ≤ quarter_room before a quarter) same (fits.has_room quarter (range_has-is first last quarter both.0)) in
     let most = quarter_room-le before arc quarter in omega arith)
-uses-free setup before (event.Offered given first last lots) fits quarter arc = omega arith
-uses-free setup before (event.Halted border first last) fits quarter arc = omega arith
-uses-free setup before (event.Resumed border first last) fits quarter arc = omega arith
-uses-free setup before (event.Gated hour phase) fits quarter arc = omega arith
-uses-free setup before (event.Withdrawn name lots) fits quarter arc = omega arith
-uses-free setup before (event.Reduced name by) fits quarter arc = omega arith
+uses-free setup before _ fits quarter arc = omega arith
 
 -- ---- nothing is oversold
 
@@ -205,16 +198,7 @@ offer_after setup before (event.Offered given first last lots) fits quarter arc 
         let within = covers_flow-lots (allocated before quarter arc) (allocated before quarter (opposite_arc arc)) lots flows in
         let most = fits.most in
         inr (refl, omega arith, omega arith)
-offer_after setup before (event.Entered name caller order) fits quarter arc = inl (offered-more before (event.Entered name caller order) quarter arc)
-offer_after setup before (event.EnteredBlock name caller order) fits quarter arc = inl (offered-more before (event.EnteredBlock name caller order) quarter arc)
-offer_after setup before (event.Leg contract leg) fits quarter arc = inl (offered-more before (event.Leg contract leg) quarter arc)
-offer_after setup before (event.BlockLeg first last leg) fits quarter arc = inl (offered-more before (event.BlockLeg first last leg) quarter arc)
-offer_after setup before (event.Granted given first last lots) fits quarter arc = inl (offered-more before (event.Granted given first last lots) quarter arc)
-offer_after setup before (event.Halted border first last) fits quarter arc = inl (offered-more before (event.Halted border first last) quarter arc)
-offer_after setup before (event.Resumed border first last) fits quarter arc = inl (offered-more before (event.Resumed border first last) quarter arc)
-offer_after setup before (event.Gated hour phase) fits quarter arc = inl (offered-more before (event.Gated hour phase) quarter arc)
-offer_after setup before (event.Withdrawn name lots) fits quarter arc = inl (offered-more before (event.Withdrawn name lots) quarter arc)
-offer_after setup before (event.Reduced name by) fits quarter arc = inl (offered-more before (event.Reduced name by) quarter arc)
+offer_after setup before e fits quarter arc = inl (offered-more before e quarter arc)
 
 within-fit : (setup : Setup) (before : List Event) (e : Event) → IsWithinOffers before → Fits setup before e → IsWithinOffers (and_then before e)
 within-fit setup before e within fits = record {

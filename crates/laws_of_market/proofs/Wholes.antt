@@ -101,7 +101,6 @@ module _ (setup : Setup) (events : List Event) (fit : FitAfter setup [] events) 
 
   -- a block that enters is whole
   pub new_block-whole : (block : PlacedBlock) (e : Event) → Fits setup events e → block_placed_by e ≡ Some block → left (and_then events e) block.name ≡ block.order.quantity.0
-  new_block-whole block (event.Entered name caller order) fits is = absurd (cc)
   new_block-whole block (event.EnteredBlock name caller order) fits is =
       let same : record { name = name; caller = caller; order = order } ≡ block = cc in
       let none = new-untouched name (block_name-new setup events name caller order once fits) in
@@ -111,15 +110,7 @@ module _ (setup : Setup) (events : List Event) (fit : FitAfter setup [] events) 
       let here : left (and_then events e) name ≡ order.quantity.0 =
       rw (entered-more events e name, filled-more events e name, taken_off-more events e name, own) (omega arith) in
       subst (λ (b : PlacedBlock). left (and_then events e) b.name ≡ b.order.quantity.0) same here
-  new_block-whole block (event.Leg contract leg) fits is = absurd (cc)
-  new_block-whole block (event.BlockLeg first last leg) fits is = absurd (cc)
-  new_block-whole block (event.Granted arc first last lots) fits is = absurd (cc)
-  new_block-whole block (event.Offered arc first last lots) fits is = absurd (cc)
-  new_block-whole block (event.Halted border first last) fits is = absurd (cc)
-  new_block-whole block (event.Resumed border first last) fits is = absurd (cc)
-  new_block-whole block (event.Gated hour phase) fits is = absurd (cc)
-  new_block-whole block (event.Withdrawn name lots) fits is = absurd (cc)
-  new_block-whole block (event.Reduced name by) fits is = absurd (cc)
+  new_block-whole block _ fits is = absurd (cc)
 
   -- open blocks are whole after one more event that is no leg of blocks
   pub whole-more : (e : Event) → BlocksAreWhole events → Fits setup events e → IsNoBlockLeg e → BlocksAreWhole (and_then events e)

@@ -328,17 +328,7 @@ done-within parts setup events caller (command.View contract side zone) good nam
 answer-within : (parts : List Part) (setup : Setup) (events : List Event) (caller : ℕ) (given : Command) → period_is_good given ≡ true → AreNamedByHour events
     → AreWithinHours (hours_concerned given) (events_of (reply_let_in parts setup events caller given))
 answer-within parts setup events caller (command.View contract side zone) good named = λ e h. absurd h
-answer-within parts setup events caller (command.Enter order) good named = done-within parts setup events caller (command.Enter order) good named
-answer-within parts setup events caller (command.EnterBlock order) good named = done-within parts setup events caller (command.EnterBlock order) good named
-answer-within parts setup events caller (command.EnterBasket orders) good named = done-within parts setup events caller (command.EnterBasket orders) good named
-answer-within parts setup events caller (command.Cancel name) good named = done-within parts setup events caller (command.Cancel name) good named
-answer-within parts setup events caller (command.Reduce name to) good named = done-within parts setup events caller (command.Reduce name to) good named
-answer-within parts setup events caller (command.Blocks first last) good named = done-within parts setup events caller (command.Blocks first last) good named
-answer-within parts setup events caller (command.Offer from to first last lots) good named = done-within parts setup events caller (command.Offer from to first last lots) good named
-answer-within parts setup events caller (command.Request from to first last lots) good named = done-within parts setup events caller (command.Request from to first last lots) good named
-answer-within parts setup events caller (command.Halt from to first last) good named = done-within parts setup events caller (command.Halt from to first last) good named
-answer-within parts setup events caller (command.Resume from to first last) good named = done-within parts setup events caller (command.Resume from to first last) good named
-answer-within parts setup events caller (command.Gate hour asked) good named = done-within parts setup events caller (command.Gate hour asked) good named
+answer-within parts setup events caller given good named = done-within parts setup events caller given good named
 
 -- the events of any reply stay in the hours that the command touches
 pub reply-within : (parts : List Part) (setup : Setup) (events : List Event) (caller : ℕ) (given : Command) → AreNamedByHour events

@@ -10,7 +10,6 @@ use Rattle.order_kinds.specs.declared.order.Order.{Order}
 use Rattle.order_kinds.specs.declared.phase.Phase.{Phase}
 use Rattle.order_kinds.specs.declared.side.Side.TheVariants.{Buy}
 use Rattle.order_kinds.specs.Period.{hours_from}
-use Rattle.zone_graph.specs.declared.route.Arc.{Arc}
 use Rattle.zone_graph.specs.Graph.{Graph}
 use Rattle.zone_graph.specs.Grid.{arc_between}
 use Rattle.zone_graph.specs.Route.{IsIn}
@@ -29,7 +28,7 @@ use Rattle.market_model.specs.Entering.{enter, enter_all}
 use Rattle.market_model.specs.Grid.{graph_of}
 use Rattle.market_model.specs.History.{and_then, events_of, journal_events}
 use Rattle.market_model.specs.Lines.{line}
-use Rattle.market_model.specs.Market.{Turn, reply_let_in, entry_of, events_done, gate, on_arc, refused_or, reply_by, run_after, then_sweeps}
+use Rattle.market_model.specs.Market.{Turn, reply_let_in, entry_of, events_done, gate, refused_or, reply_by, run_after, then_sweeps}
 use Rattle.market_model.specs.Orders.{Placed, placed, placed_by}
 use Rattle.market_model.specs.Refusals.{refusal_of_command}
 use Rattle.market_model.specs.Rules.{parts_named}
@@ -51,16 +50,7 @@ placed-halfless events without order h =
     by_event : (e : Event) (found : Placed) → IsHalfless e → placed_by e ≡ Some found → is_half found.order.contract.part ≡ false
     by_event (event.Entered given caller entering) found own is =
         let same : record { name = given; caller = caller; order = entering } ≡ found = cc in subst (λ (p : Placed). is_half p.order.contract.part ≡ false) same own
-    by_event (event.EnteredBlock given caller entering) found own is = absurd (cc)
-    by_event (event.Leg contract leg) found own is = absurd (cc)
-    by_event (event.BlockLeg first last leg) found own is = absurd (cc)
-    by_event (event.Granted given first last lots) found own is = absurd (cc)
-    by_event (event.Offered given first last lots) found own is = absurd (cc)
-    by_event (event.Halted border first last) found own is = absurd (cc)
-    by_event (event.Resumed border first last) found own is = absurd (cc)
-    by_event (event.Gated gated asked) found own is = absurd (cc)
-    by_event (event.Withdrawn given lots) found own is = absurd (cc)
-    by_event (event.Reduced given by) found own is = absurd (cc)
+    by_event _ found own is = absurd (cc)
 
 nothing-in : {X : Type 0} (xs : List X) → ((x : X) → IsIn x xs → ⊥) → xs ≡ []
 nothing-in [] none = refl
@@ -181,17 +171,7 @@ done-same setup events caller (command.View contract side zone) are none = refl
 answer-same : (setup : Setup) (events : List Event) (caller : ℕ) (given : Command) → AreHalfless events → list_any is_half (parts_named given) ≡ false
     → reply_let_in all_parts setup events caller given ≡ reply_let_in parts_without_halves setup events caller given
 answer-same setup events caller (command.View contract side zone) are none = refl
-answer-same setup events caller (command.Enter order) are none = ap reply.Done (done-same setup events caller (command.Enter order) are none)
-answer-same setup events caller (command.EnterBlock order) are none = ap reply.Done (done-same setup events caller (command.EnterBlock order) are none)
-answer-same setup events caller (command.EnterBasket orders) are none = ap reply.Done (done-same setup events caller (command.EnterBasket orders) are none)
-answer-same setup events caller (command.Cancel name) are none = ap reply.Done (done-same setup events caller (command.Cancel name) are none)
-answer-same setup events caller (command.Reduce name to) are none = ap reply.Done (done-same setup events caller (command.Reduce name to) are none)
-answer-same setup events caller (command.Blocks first last) are none = ap reply.Done (done-same setup events caller (command.Blocks first last) are none)
-answer-same setup events caller (command.Offer from to first last lots) are none = ap reply.Done (done-same setup events caller (command.Offer from to first last lots) are none)
-answer-same setup events caller (command.Request from to first last lots) are none = ap reply.Done (done-same setup events caller (command.Request from to first last lots) are none)
-answer-same setup events caller (command.Halt from to first last) are none = ap reply.Done (done-same setup events caller (command.Halt from to first last) are none)
-answer-same setup events caller (command.Resume from to first last) are none = ap reply.Done (done-same setup events caller (command.Resume from to first last) are none)
-answer-same setup events caller (command.Gate hour asked) are none = ap reply.Done (done-same setup events caller (command.Gate hour asked) are none)
+answer-same setup events caller given are none = ap reply.Done (done-same setup events caller given are none)
 
 -- the reply to a command that names no half hour is the same without them
 pub reply-same : (setup : Setup) (events : List Event) (caller : ℕ) (given : Command) → AreHalfless events → list_any is_half (parts_named given) ≡ false
