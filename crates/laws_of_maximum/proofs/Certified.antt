@@ -1,17 +1,14 @@
 -- A refusal as unfilled is certified by its zones and their bound.
-use Rattle.std.proofs.Common.{◌≡◌, ◌≢◌, ◌∙◌, inl, inr, ℕ, ◌+◌, ◌<◌, ◌&&◌, Bool, true, false, List, [], ◌∷◌, length, map, Some, None, nat_lt, eq-eqb, refl, sym, ap, subst, if◌then◌else◌, arith}
-use Rattle.std.proofs.lemmas.Bool.{and_parts, ltb-true, true≢false}
+use Rattle.std.proofs.Common.{◌≡◌, ◌≢◌, ◌∙◌, inl, inr, ℕ, ◌+◌, ◌<◌, ◌&&◌, Bool, true, false, List, [], length, map, Some, None, eq-eqb, refl, sym, ap, subst, if◌then◌else◌, arith}
+use Rattle.std.proofs.lemmas.Bool.{and_parts, true≢false}
 use Rattle.std.specs.List.{list_all}
 use Rattle.order_kinds.specs.declared.order.Kind.{Kind}
 use Rattle.order_kinds.specs.declared.order.Kind.TheVariants as kind
 use Rattle.order_kinds.specs.declared.order.Order.{Order}
-use Rattle.order_kinds.specs.Contract.{is_known}
-use Rattle.order_kinds.specs.Order.{has_allowed_peaks, is_fill_or_kill}
+use Rattle.order_kinds.specs.Order.{is_fill_or_kill}
 use Rattle.order_kinds.specs.Period.{is_within}
-use Rattle.order_kinds.specs.Price.{lots_in_range, price_in_range}
-use Rattle.zone_graph.specs.Graph.{Graph, zone_count}
+use Rattle.zone_graph.specs.Graph.{Graph}
 use Rattle.zone_graph.specs.Route.{IsIn, has}
-use Rattle.zone_graph.proofs.Membership.{IsIn-map}
 use Rattle.market_model.specs.declared.command.Command.{Command}
 use Rattle.market_model.specs.declared.command.Command.TheVariants as command
 use Rattle.market_model.specs.declared.event.Event.{Event}
@@ -27,9 +24,9 @@ use Rattle.market_model.specs.Refusals.{basket_order_refusal, basket_refusal, is
 use Rattle.market_model.specs.Rules.{ascends, basket_is_good, naming_refusal, numbers_refusal, unless}
 use Rattle.market_model.specs.WellFormed.{FitAfter, IsMarketSetup, OrderEnters}
 use Rattle.laws_of_market.proofs.Admitted.{all-pass, naming-none, numbers-none}
+use Rattle.laws_of_market.proofs.Entries.{may-enters}
 use Rattle.laws_of_market.proofs.Members.{from_first_answer}
-use Rattle.laws_of_market.proofs.Replies.{right-within}
-use Rattle.laws_of_market.proofs.Soundness.{order_fault-sound}
+use Rattle.laws_of_market.proofs.Replies.{basket-may, order-may}
 use Rattle.laws_of_maximum.specs.Takings.{HasNoDelta, obtained}
 use Rattle.laws_of_maximum.specs.Unfilled.{BasketUnfilledIsCertified, IsCertified, UnfilledIsCertified}
 use Rattle.laws_of_maximum.proofs.BestPlans.{no_plan_beats_it}
@@ -44,9 +41,6 @@ fill_or_kill-is kind.Limit e = absurd (true≢false (sym e))
 fill_or_kill-is kind.Ioc e = absurd (true≢false (sym e))
 fill_or_kill-is (kind.Iceberg peak delta) e = absurd (true≢false (sym e))
 
-kills-peaks : (order : Order) → order.kind ≡ kind.Fok → has_allowed_peaks order ≡ true
-kills-peaks order is = rw is refl
-
 kills-flat : (order : Order) → order.kind ≡ kind.Fok → HasNoDelta order.kind
 kills-flat order is = rw is tt
 
@@ -54,37 +48,15 @@ kills-flat order is = rw is tt
 may_enter : (setup : Setup) (events : List Event) (caller : ℕ) (order : Order) → naming_refusal setup caller (command.Enter order) ≡ None → numbers_refusal (command.Enter order) ≡ None
     → OrderEnters setup events (name_of_next events order) caller order
 may_enter setup events caller order names_hold numbers_hold =
-    let names = naming-none setup caller (command.Enter order) names_hold in
-    let numbers = numbers-none (command.Enter order) numbers_hold in
-    record {
-      named = refl;
-      of_caller = right-within setup caller (command.Enter order) names.right;
-      in_hour = all-pass (is_within 1 setup.hours) (order.contract.hour ∷ []) names.hours order.contract.hour (inl refl);
-      in_part = all-pass is_known (order.contract.part ∷ []) names.parts order.contract.part (inl refl);
-      in_zone = ltb-true order.zone (zone_count (graph_of setup)) (all-pass (λ zone. nat_lt zone (zone_count (graph_of setup))) (order.zone ∷ []) names.zones order.zone (inl refl));
-      sound = order_fault-sound order (all-pass price_in_range (order.price ∷ []) numbers.prices order.price (inl refl))
-          (all-pass lots_in_range (order.quantity ∷ []) numbers.quantities order.quantity (inl refl)) numbers.peaks;
-    }
+    may-enters setup caller order events (order-may setup caller order (naming-none setup caller (command.Enter order) names_hold) (numbers-none (command.Enter order) numbers_hold))
 
 -- so can each order of a basket
-basket_may_enter : (setup : Setup) (events : List Event) (caller : ℕ) (orders : List Order) (order : Order) → IsIn order orders → order.kind ≡ kind.Fok
+basket_may_enter : (setup : Setup) (events : List Event) (caller : ℕ) (orders : List Order) (order : Order) → IsIn order orders
     → naming_refusal setup caller (command.EnterBasket orders) ≡ None → numbers_refusal (command.EnterBasket orders) ≡ None
     → OrderEnters setup events (name_of_next events order) caller order
-basket_may_enter setup events caller orders order i is names_hold numbers_hold =
-    let names = naming-none setup caller (command.EnterBasket orders) names_hold in
-    let numbers = numbers-none (command.EnterBasket orders) numbers_hold in
-    record {
-      named = refl;
-      of_caller = right-within setup caller (command.EnterBasket orders) names.right;
-      in_hour = all-pass (is_within 1 setup.hours) (map (λ (o : Order). o.contract.hour) orders) names.hours order.contract.hour (IsIn-map (λ (o : Order). o.contract.hour) order orders i);
-      in_part = all-pass is_known (map (λ (o : Order). o.contract.part) orders) names.parts order.contract.part (IsIn-map (λ (o : Order). o.contract.part) order orders i);
-      in_zone = ltb-true order.zone (zone_count (graph_of setup))
-          (all-pass (λ zone. nat_lt zone (zone_count (graph_of setup))) (map (λ (o : Order). o.zone) orders) names.zones order.zone (IsIn-map (λ (o : Order). o.zone) order orders i));
-      sound = order_fault-sound order
-          (all-pass price_in_range (map (λ (o : Order). o.price) orders) numbers.prices order.price (IsIn-map (λ (o : Order). o.price) order orders i))
-          (all-pass lots_in_range (map (λ (o : Order). o.quantity) orders) numbers.quantities order.quantity (IsIn-map (λ (o : Order). o.quantity) order orders i))
-          (kills-peaks order is);
-    }
+basket_may_enter setup events caller orders order i names_hold numbers_hold =
+    may-enters setup caller order events
+    (basket-may setup caller orders (naming-none setup caller (command.EnterBasket orders) names_hold) (numbers-none (command.EnterBasket orders) numbers_hold) order i)
 
 -- ---- the certificate
 
@@ -218,7 +190,7 @@ basket_certified setup events caller given hour zones bound is_setup history e =
             in_hour = same_hour;
             is_fill_or_kill = kills;
             certified = certify setup events caller r.order is_setup history.fit
-                (basket_may_enter setup events caller r.orders r.order r.is_in kills names_hold numbers_hold) kills r.unfilled zones bound same_zones same_bound;
+                (basket_may_enter setup events caller r.orders r.order r.is_in names_hold numbers_hold) kills r.unfilled zones bound same_zones same_bound;
           }
       | inl other ↦ let r = order-refused (graph_of setup) events caller given (refusal.BasketUnfilled hour zones bound) other in let same = r.refusal_is in absurd (cc)
     ]

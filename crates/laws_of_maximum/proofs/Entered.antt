@@ -1,18 +1,9 @@
 -- What the orders obtain that enter by an entry of a journal.
-use Rattle.std.proofs.Common.{◌≡◌, ◌∙◌, ◌≤◌, ◌⊎◌, inl, inr, ◌&&◌, ℕ, true, List, [], ◌∷◌, ◌++◌, append_assoc, length, map, Option, Some, None, nat_lt, refl, sym, ap, subst}
-use Rattle.std.proofs.lemmas.Bool.{and_parts, ltb-true, true≢false}
+use Rattle.std.proofs.Common.{◌≡◌, ◌∙◌, ◌≤◌, ◌⊎◌, inl, inr, ℕ, List, [], ◌∷◌, ◌++◌, append_assoc, Option, Some, None, refl, sym, ap, subst}
 use Rattle.std.proofs.lemmas.List.{append-nil}
-use Rattle.std.specs.List.{list_all}
-use Rattle.order_kinds.specs.declared.order.Kind.{Kind}
 use Rattle.order_kinds.specs.declared.order.Kind.TheVariants as kind
 use Rattle.order_kinds.specs.declared.order.Order.{Order}
-use Rattle.order_kinds.specs.Contract.{is_known}
-use Rattle.order_kinds.specs.Order.{has_allowed_peaks, is_fill_or_kill}
-use Rattle.order_kinds.specs.Period.{is_within}
-use Rattle.order_kinds.specs.Price.{lots_in_range, price_in_range}
-use Rattle.zone_graph.specs.Graph.{zone_count}
 use Rattle.zone_graph.specs.Route.{IsIn}
-use Rattle.zone_graph.proofs.Membership.{IsIn-map}
 use Rattle.market_model.specs.declared.command.Command.{Command}
 use Rattle.market_model.specs.declared.command.Command.TheVariants as command
 use Rattle.market_model.specs.declared.event.Event.{Event}
@@ -27,56 +18,16 @@ use Rattle.market_model.specs.History.{journal_events}
 use Rattle.market_model.specs.Market.{events_done, refused_or, reply_by, reply_let_in, reply_to}
 use Rattle.market_model.specs.Refusals.{refusal_of_command}
 use Rattle.market_model.specs.Sweep.{all_parts, sweep}
-use Rattle.market_model.specs.WellFormed.{IsHistory, IsMarketSetup, OrderEnters}
-use Rattle.laws_of_market.proofs.Admitted.{IsAdmitted, all-pass, refusal-none}
-use Rattle.laws_of_market.proofs.Entries.{MayEnter, enter-history}
-use Rattle.laws_of_market.proofs.Replies.{right-within}
-use Rattle.laws_of_market.proofs.Soundness.{order_fault-sound}
+use Rattle.market_model.specs.WellFormed.{IsHistory, IsMarketSetup}
+use Rattle.laws_of_market.proofs.Admitted.{IsAdmitted, refusal-none}
+use Rattle.laws_of_market.proofs.Entries.{MayEnter, enter-history, may-enters}
+use Rattle.laws_of_market.proofs.Replies.{basket-may, order-may}
 use Rattle.laws_of_maximum.specs.Entering.{JournalsObtainTheMost, ObtainsTheMost, orders_entered}
 use Rattle.laws_of_maximum.specs.FlowPlan.{FlowPlan, IsPlanFor, orders_met, value_of}
 use Rattle.laws_of_maximum.specs.Takings.{HasNoDelta, obtained}
 use Rattle.laws_of_maximum.proofs.BestPlans.{obtain-most}
 use Rattle.laws_of_maximum.proofs.Entries.{entry_after}
 use Rattle.laws_of_maximum.proofs.Obtained.{reach-bound}
-
--- ---- what may enter
-
-kills-peaks : (order : Order) → is_fill_or_kill order.kind ≡ true → has_allowed_peaks order ≡ true
-kills-peaks order is = go order.kind refl is
-  where
-    go : (k : Kind) → order.kind ≡ k → is_fill_or_kill k ≡ true → has_allowed_peaks order ≡ true
-    go kind.Fok same e = rw same refl
-    go kind.Limit same e = absurd (true≢false (sym e))
-    go kind.Ioc same e = absurd (true≢false (sym e))
-    go (kind.Iceberg peak delta) same e = absurd (true≢false (sym e))
-
-module _ (setup : Setup) (events : List Event) (caller : ℕ) where
-  order_may : (order : Order) → IsAdmitted setup events caller (command.Enter order) → MayEnter setup caller order
-  order_may order may = record {
-    of_caller = right-within setup caller (command.Enter order) may.names.right;
-    in_hour = all-pass (is_within 1 setup.hours) (order.contract.hour ∷ []) may.names.hours order.contract.hour (inl refl);
-    in_part = all-pass is_known (order.contract.part ∷ []) may.names.parts order.contract.part (inl refl);
-    in_zone = ltb-true order.zone (zone_count (graph_of setup)) (all-pass (λ zone. nat_lt zone (zone_count (graph_of setup))) (order.zone ∷ []) may.names.zones order.zone (inl refl));
-    sound = order_fault-sound order (all-pass price_in_range (order.price ∷ []) may.numbers.prices order.price (inl refl))
-        (all-pass lots_in_range (order.quantity ∷ []) may.numbers.quantities order.quantity (inl refl)) may.numbers.peaks;
-  }
-
-  basket_may : (orders : List Order) → IsAdmitted setup events caller (command.EnterBasket orders) → (order : Order) → IsIn order orders → MayEnter setup caller order
-  basket_may orders may order h =
-      let kills = (and_parts (is_within 2 8 (length orders) && _) (list_all (λ (order : Order). is_fill_or_kill order.kind) orders) may.names.basket).1 in
-      record {
-        of_caller = right-within setup caller (command.EnterBasket orders) may.names.right;
-        in_hour = all-pass (is_within 1 setup.hours) (map (λ (o : Order). o.contract.hour) orders) may.names.hours order.contract.hour (IsIn-map (λ (o : Order). o.contract.hour) order orders h);
-        in_part = all-pass is_known (map (λ (o : Order). o.contract.part) orders) may.names.parts order.contract.part (IsIn-map (λ (o : Order). o.contract.part) order orders h);
-        in_zone = ltb-true order.zone (zone_count (graph_of setup)) (all-pass (λ zone. nat_lt zone (zone_count (graph_of setup))) (map (λ (o : Order). o.zone) orders) may.names.zones
-            order.zone (IsIn-map (λ (o : Order). o.zone) order orders h));
-        sound = order_fault-sound order
-            (all-pass price_in_range (map (λ (o : Order). o.price) orders) may.numbers.prices order.price (IsIn-map (λ (o : Order). o.price) order orders h))
-            (all-pass lots_in_range (map (λ (o : Order). o.quantity) orders) may.numbers.quantities order.quantity (IsIn-map (λ (o : Order). o.quantity) order orders h))
-            (kills-peaks order (all-pass (λ (o : Order). is_fill_or_kill o.kind) orders kills order h));
-      }
-
--- ---- what is obtained
 
 module _ (setup : Setup) (is_setup : IsMarketSetup setup) (caller : ℕ) where
   -- what an order's entry brings about: its entry, its legs, and what follows
@@ -95,23 +46,13 @@ module _ (setup : Setup) (is_setup : IsMarketSetup setup) (caller : ℕ) where
       (append_assoc (legs_taken (graph_of setup) events caller order)
       (rest_withdrawn order.kind (name_of_next events order) (rest_of (graph_of setup) events caller order)) _)
 
-  may-enters : (order : Order) (events : List Event) → MayEnter setup caller order → OrderEnters setup events (name_of_next events order) caller order
-  may-enters order events may = record {
-    named = refl;
-    of_caller = may.of_caller;
-    in_hour = may.in_hour;
-    in_part = may.in_part;
-    in_zone = may.in_zone;
-    sound = may.sound;
-  }
-
   -- where the events before its entry are a well-formed history, an order that may enter obtains the most
   obtains : (order : Order) → MayEnter setup caller order → HasNoDelta order.kind → (start before after past events : List Event) → start ++ before ≡ past
       → events ≡ before ++ (event.Entered (name_of_next past order) caller order ∷ (legs_taken (graph_of setup) past caller order ++ after))
       → IsHistory setup past → ObtainsTheMost (graph_of setup) start caller order events
   obtains order may flat start before after past events is happened history =
       let at = subst (IsHistory setup) (sym is) history in
-      let enters = may-enters order (start ++ before) may in
+      let enters = may-enters setup caller order (start ++ before) may in
       record {
         before = before;
         after = after;
@@ -177,10 +118,10 @@ module _ (setup : Setup) (is_setup : IsMarketSetup setup) (caller : ℕ) where
   unfolding events_done
   admitted-obtain events (command.Enter own) may history order i flat = elim i [
     | inl s ↦ subst (λ o. ObtainsTheMost (graph_of setup) events caller o (enter all_parts (graph_of setup) caller own events)) (sym s)
-        (one-obtains own events (order_may setup events caller own may) (subst (λ (o : Order). HasNoDelta o.kind) s flat) history)
+        (one-obtains own events (order-may setup caller own may.names may.numbers) (subst (λ (o : Order). HasNoDelta o.kind) s flat) history)
     | inr none ↦ absurd none
   ]
-  admitted-obtain events (command.EnterBasket orders) may history order i flat = several-obtain orders events (basket_may setup events caller orders may) history order i flat
+  admitted-obtain events (command.EnterBasket orders) may history order i flat = several-obtain orders events (basket-may setup caller orders may.names may.numbers) history order i flat
   admitted-obtain events _ may history order i flat = absurd i
 
   -- the answer to a command that enters orders has its events

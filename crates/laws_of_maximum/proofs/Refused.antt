@@ -27,17 +27,7 @@ use Rattle.laws_of_market.proofs.Members.{from_first_answer}
 -- an answer is no refusal
 answered : (setup : Setup) (events : List Event) (caller : ℕ) (given : Command) (broken : Refusal) → reply_let_in all_parts setup events caller given ≡ reply.Refused broken → ⊥
 answered setup events caller (command.View contract side zone) broken e = cc
-answered setup events caller (command.Enter order) broken e = cc
-answered setup events caller (command.EnterBlock order) broken e = cc
-answered setup events caller (command.EnterBasket orders) broken e = cc
-answered setup events caller (command.Cancel name) broken e = cc
-answered setup events caller (command.Reduce name to) broken e = cc
-answered setup events caller (command.Blocks first last) broken e = cc
-answered setup events caller (command.Offer from to first last lots) broken e = cc
-answered setup events caller (command.Request from to first last lots) broken e = cc
-answered setup events caller (command.Halt from to first last) broken e = cc
-answered setup events caller (command.Resume from to first last) broken e = cc
-answered setup events caller (command.Gate hour asked) broken e = cc
+answered setup events caller _ broken e = cc
 
 pub refused-by : (setup : Setup) (events : List Event) (caller : ℕ) (given : Command) (broken : Refusal) → reply_to setup events caller given ≡ reply.Refused broken
     → refusal_of_command setup events caller given ≡ Some broken
