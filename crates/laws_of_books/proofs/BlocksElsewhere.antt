@@ -77,31 +77,18 @@ module _ (setup : Setup) (events : List Event) (fit : FitAfter setup [] events) 
       names-other leg block.name
       (not_traded first from leg.taker fits.taker block fits.taker_open.is_placed fits.taker_open.is_named fits.taker_first elsewhere there of_first)
       (not_traded first from leg.maker fits.maker block fits.maker_open.is_placed fits.maker_open.is_named fits.maker_first elsewhere there of_first)
-  not_concerned first (event.Granted arc from to lots) fits elsewhere block there of_first = refl
-  not_concerned first (event.Offered arc from to lots) fits elsewhere block there of_first = refl
-  not_concerned first (event.Halted border from to) fits elsewhere block there of_first = refl
-  not_concerned first (event.Resumed border from to) fits elsewhere block there of_first = refl
-  not_concerned first (event.Gated gated phase) fits elsewhere block there of_first = refl
   not_concerned first (event.Withdrawn name lots) fits elsewhere block there of_first =
       other_name name block.name (not_named first name block there of_first elsewhere)
   not_concerned first (event.Reduced name by) fits elsewhere block there of_first =
       other_name name block.name (λ same. order_is_no_block events once fits.order block fits.order_open.is_placed there (fits.order_open.is_named ∙ same))
+  not_concerned first _ fits elsewhere block there of_first = refl
 
   -- none of it enters
   not_entered : (first : ℕ) (e : Event) → IsElsewhere events first e → (block : PlacedBlock) → block_placed_by e ≡ Some block → block.order.first ≢ first
-  not_entered first (event.Entered name caller entering) elsewhere block is of_first = cc
   not_entered first (event.EnteredBlock name caller entering) elsewhere block is of_first =
       let same : record { name = name; caller = caller; order = entering } ≡ block = cc in
       elsewhere (ap (λ (b : PlacedBlock). b.order.first) same ∙ of_first)
-  not_entered first (event.Leg contract leg) elsewhere block is of_first = cc
-  not_entered first (event.BlockLeg from last leg) elsewhere block is of_first = cc
-  not_entered first (event.Granted arc from to lots) elsewhere block is of_first = cc
-  not_entered first (event.Offered arc from to lots) elsewhere block is of_first = cc
-  not_entered first (event.Halted border from to) elsewhere block is of_first = cc
-  not_entered first (event.Resumed border from to) elsewhere block is of_first = cc
-  not_entered first (event.Gated gated phase) elsewhere block is of_first = cc
-  not_entered first (event.Withdrawn given lots) elsewhere block is of_first = cc
-  not_entered first (event.Reduced given by) elsewhere block is of_first = cc
+  not_entered first _ elsewhere block is of_first = cc
 
   -- so the book stays
   pub book-elsewhere : (first : ℕ) (e : Event) → Fits setup events e → IsElsewhere events first e → blocks_of (and_then events e) first ≡ blocks_of events first

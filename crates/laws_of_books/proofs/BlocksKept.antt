@@ -50,17 +50,8 @@ stays-in setup a b fit_a fit_b first found there placed lots moment =
 
 -- an event that does not concern a block gives it no moment
 enters-none : (block : PlacedBlock) (before : List Event) (e : Event) → concerns block.name e ≡ false → enters_block block before e ≡ false
-enters-none block before (event.Entered given caller entering) other = refl
 enters-none block before (event.EnteredBlock given caller entering) other = other
-enters-none block before (event.Leg contract leg) other = refl
-enters-none block before (event.BlockLeg first last leg) other = refl
-enters-none block before (event.Granted arc first last lots) other = refl
-enters-none block before (event.Offered arc first last lots) other = refl
-enters-none block before (event.Halted border first last) other = refl
-enters-none block before (event.Resumed border first last) other = refl
-enters-none block before (event.Gated hour phase) other = refl
-enters-none block before (event.Withdrawn given lots) other = refl
-enters-none block before (event.Reduced given by) other = refl
+enters-none block before _ other = refl
 
 -- a moment that is not given anew
 pub moment-kept : (events : List Event) (e : Event) (block : PlacedBlock) → enters_block block (of_hour block.name.hour events) e ≡ false

@@ -1,19 +1,13 @@
 -- The entry of an order puts its record into the line of its contract and side.
-use Rattle.std.proofs.Common.{◌≡◌, ◌≢◌, ◌∙◌, inl, inr, ℕ, ◌+◌, ◌*◌, ◌/◌, ◌==◌, ◌&&◌, Bool, true, false, List, [], ◌∷◌, Some, length, nat_lt, pos, ◌+ℤ◌, ◌-ℤ◌, eq-eqb, refl, sym, ap, subst, if◌then◌else◌, arith}
-use Rattle.std.proofs.Math.Nat.{zero-div}
+use Rattle.std.proofs.Common.{◌≡◌, ◌≢◌, ◌∙◌, inl, inr, ℕ, ◌+◌, ◌==◌, ◌&&◌, Bool, true, false, List, [], ◌∷◌, Some, length, nat_lt, eq-eqb, refl, sym, ap, subst, if◌then◌else◌, arith}
 use Rattle.std.proofs.lemmas.Bool.{and_from, and_parts, lt-ltb, true≢false}
 use Rattle.order_kinds.specs.declared.contract.Contract.{Contract}
 use Rattle.order_kinds.specs.declared.contract.Part.{Part}
-use Rattle.order_kinds.specs.declared.order.Kind.{Kind}
-use Rattle.order_kinds.specs.declared.order.Kind.TheVariants as kind
 use Rattle.order_kinds.specs.declared.order.Order.{Order}
 use Rattle.order_kinds.specs.declared.order.OrderName.{OrderName}
-use Rattle.order_kinds.specs.declared.price.Price.{Price}
 use Rattle.order_kinds.specs.declared.side.Side.{Side}
-use Rattle.order_kinds.specs.declared.side.Side.TheVariants.{Buy, Sell}
 use Rattle.order_kinds.specs.Contract.{is_known, part_number}
 use Rattle.order_kinds.specs.Same.{same_part, same_side}
-use Rattle.iceberg_peak.specs.Peak.{showing_price}
 use Rattle.zone_graph.specs.InOrder.{put_in_order}
 use Rattle.zone_graph.specs.Pour.{lots_if}
 use Rattle.zone_graph.specs.Route.{IsIn}
@@ -26,12 +20,13 @@ use Rattle.market_model.specs.declared.event.Event.{Event}
 use Rattle.market_model.specs.declared.event.Event.TheVariants as event
 use Rattle.market_model.specs.declared.setup.Setup.{Setup}
 use Rattle.market_model.specs.History.{and_then, of_hour}
-use Rattle.market_model.specs.Orders.{Placed, entered_by, filled, is_open, left, moment, placed, placed_by, price_now, standing}
+use Rattle.market_model.specs.Orders.{Placed, entered_by, filled, is_open, left, moment, placed, placed_by, standing}
 use Rattle.market_model.specs.WellFormed.{FitAfter, Fits}
 use Rattle.laws_of_market.proofs.Lines.{same_contract-refl, same_side-refl}
 use Rattle.laws_of_market.proofs.Members.{IsIn-filter_map}
 use Rattle.laws_of_market.proofs.Names.{names-once, order_name-new}
 use Rattle.laws_of_market.proofs.Placed.{from_picked-more}
+use Rattle.laws_of_market.proofs.Prices.{price-entered}
 use Rattle.laws_of_market.proofs.Repeats.{fit-more}
 use Rattle.laws_of_market.proofs.Soundness.{lots_in_range-bounds, order_fault-none}
 use Rattle.laws_of_market.proofs.States.{entered-more, filled-more, taken_off-more}
@@ -43,28 +38,6 @@ use Rattle.laws_of_books.proofs.Elsewhere.{named}
 use Rattle.laws_of_books.proofs.LineOrders.{StandsIn, entered-other, from_resting, in_resting, resting-apart, resting-strict, resting_weak, same_names}
 use Rattle.laws_of_books.proofs.PartLines.{book_by-same, line_put, with_order-by}
 use Rattle.laws_of_books.proofs.Untouched.{standing_at, there-after, there-before}
-
--- the first peak shows at the order's own price
-first_peak : (side : Side) (price : Price) (peak delta : ℕ) → showing_price side price peak delta 0 ≡ price
-first_peak Buy price peak delta =
-    let at : ℕ → Price = λ n. record { 0 = price.0 -ℤ pos (delta * n) } in
-    let first : 0 / peak ≡ 0 = zero-div peak in
-    let none : price.0 -ℤ pos (delta * 0) ≡ price.0 = grind arith in
-    ap at first ∙ ap (λ z. record { 0 = z }) none
-first_peak Sell price peak delta =
-    let at : ℕ → Price = λ n. record { 0 = price.0 +ℤ pos (delta * n) } in
-    let first : 0 / peak ≡ 0 = zero-div peak in
-    let none : price.0 +ℤ pos (delta * 0) ≡ price.0 = grind arith in
-    ap at first ∙ ap (λ z. record { 0 = z }) none
-
-price-entered : (order : Order) → price_now order 0 ≡ order.price
-price-entered order = go order.kind
-  where
-    go : (given : Kind) → price_now (record order { kind = given }) 0 ≡ order.price
-    go kind.Limit = refl
-    go kind.Ioc = refl
-    go kind.Fok = refl
-    go (kind.Iceberg peak delta) = first_peak order.side order.price peak.0 delta
 
 module _ (setup : Setup) (events : List Event) (fit : FitAfter setup [] events) (name : OrderName) (caller : ℕ) (order : Order)
     (fits : Fits setup events (event.Entered name caller order)) where

@@ -62,31 +62,18 @@ module _ (setup : Setup) (events : List Event) (fit : FitAfter setup [] events) 
       names-other leg order.name
       (λ same. order_is_no_block events once order fits.taker there fits.taker_open.is_placed (sym (fits.taker_open.is_named ∙ same)))
       (λ same. order_is_no_block events once order fits.maker there fits.maker_open.is_placed (sym (fits.maker_open.is_named ∙ same)))
-  not_concerned hour (event.Granted arc first last lots) fits elsewhere order there of_hour = refl
-  not_concerned hour (event.Offered arc first last lots) fits elsewhere order there of_hour = refl
-  not_concerned hour (event.Halted border first last) fits elsewhere order there of_hour = refl
-  not_concerned hour (event.Resumed border first last) fits elsewhere order there of_hour = refl
-  not_concerned hour (event.Gated gated phase) fits elsewhere order there of_hour = refl
   not_concerned hour (event.Withdrawn name lots) fits elsewhere order there of_hour =
       other_name name order.name (not_named hour name order there of_hour elsewhere)
   not_concerned hour (event.Reduced name by) fits elsewhere order there of_hour =
       other_name name order.name (not_named hour name order there of_hour elsewhere)
+  not_concerned hour _ fits elsewhere order there of_hour = refl
 
   -- none of it enters
   not_entered : (hour : ℕ) (e : Event) → IsElsewhere events hour e → (order : Placed) → placed_by e ≡ Some order → order.order.contract.hour ≢ hour
   not_entered hour (event.Entered name caller entering) elsewhere order is of_hour =
       let same : record { name = name; caller = caller; order = entering } ≡ order = cc in
       elsewhere (ap (λ (p : Placed). p.order.contract.hour) same ∙ of_hour)
-  not_entered hour (event.EnteredBlock name caller entering) elsewhere order is of_hour = cc
-  not_entered hour (event.Leg contract leg) elsewhere order is of_hour = cc
-  not_entered hour (event.BlockLeg first last leg) elsewhere order is of_hour = cc
-  not_entered hour (event.Granted arc first last lots) elsewhere order is of_hour = cc
-  not_entered hour (event.Offered arc first last lots) elsewhere order is of_hour = cc
-  not_entered hour (event.Halted border first last) elsewhere order is of_hour = cc
-  not_entered hour (event.Resumed border first last) elsewhere order is of_hour = cc
-  not_entered hour (event.Gated gated phase) elsewhere order is of_hour = cc
-  not_entered hour (event.Withdrawn given lots) elsewhere order is of_hour = cc
-  not_entered hour (event.Reduced given by) elsewhere order is of_hour = cc
+  not_entered hour _ elsewhere order is of_hour = cc
 
   -- so the lines stay
   line-elsewhere : (hour : ℕ) (e : Event) → Fits setup events e → IsElsewhere events hour e → (contract : Contract) (side : Side) → contract.hour ≡ hour

@@ -33,9 +33,9 @@ use Rattle.laws_of_books.proofs.PartLines.{book_by-same, order_of-by}
 use Rattle.laws_of_books.proofs.Updates.{Change, from_after, from_less, in_after, in_less, less-both, line_after, lines_after}
 
 -- a fill changes the record of an order in the lines of a book
-filled-by : (book : List (List Resting)) (order : Resting) (lots moment : ℕ) → order_of book order.number ≡ Some order
+pub fill-by : (book : List (List Resting)) (order : Resting) (lots moment : ℕ) → order_of book order.number ≡ Some order
     → filled book order.number lots moment ≡ map (line_after (fill_of order lots moment)) book
-filled-by book order lots moment found = go (order.left == lots) refl
+fill-by book order lots moment found = go (order.left == lots) refl
   where
     by_next : Option Resting → List (List Resting)
     by_next next = map (line_after (record { number = order.number; next = next })) book
@@ -220,8 +220,8 @@ module _ (setup : Setup) (events : List Event) (fit : FitAfter setup [] events) 
   filled-both : book_by (λ p s. lines_after fills (lines p s))
       ≡ filled (filled (book_by lines) maker_at.number leg.lots later) taker_at.number leg.lots later
   filled-both =
-      sym (ap (λ b. filled b taker_at.number leg.lots later) (filled-by (book_by lines) maker_at leg.lots later maker-found)
-      ∙ filled-by (book_by (λ p s. line_after maker_fill (lines p s))) taker_at leg.lots later taker-found)
+      sym (ap (λ b. filled b taker_at.number leg.lots later) (fill-by (book_by lines) maker_at leg.lots later maker-found)
+      ∙ fill-by (book_by (λ p s. line_after maker_fill (lines p s))) taker_at leg.lots later taker-found)
 
   pub book-filled : book_of after contract.hour
       ≡ filled (filled (book_of events contract.hour) leg.maker.number leg.lots later) leg.taker.number leg.lots later
@@ -256,7 +256,7 @@ module _ (setup : Setup) (events : List Event) (fit : FitAfter setup [] events) 
       ap (λ b. without b taker_at.number) (book-changed setup events fit trade fits contract.hour fills are-fills)
       ∙ book_by-same (λ p s. line_without taker_at.number (lines_after fills (lines p s))) (λ p s. line_after maker_fill (line_without taker_at.number (lines p s)))
       (λ p s part_known. line-alone p s)
-      ∙ sym (filled-by (book_by (λ p s. line_without taker_at.number (lines p s))) maker_at leg.lots later maker-found-alone)
+      ∙ sym (fill-by (book_by (λ p s. line_without taker_at.number (lines p s))) maker_at leg.lots later maker-found-alone)
 
   pub book-filled-alone : without (book_of after contract.hour) leg.taker.number
       ≡ filled (without (book_of events contract.hour) leg.taker.number) leg.maker.number leg.lots later

@@ -121,16 +121,7 @@ differ-fit setup events (event.Entered name caller order) are fits =
     let new = order_name-new setup events name caller order (names-once setup events are.fit) fits in
     subst NamesDiffer (sym (placed-more events (event.Entered name caller order)))
     (differ-more (placed events) (record { name = name; caller = caller; order = order }) are.differ (λ p i e. entered-other setup events are.fit name new p i (sym e)))
-differ-fit setup events (event.EnteredBlock name caller order) are fits = differ-same events (event.EnteredBlock name caller order) refl are.differ
-differ-fit setup events (event.Leg contract leg) are fits = differ-same events (event.Leg contract leg) refl are.differ
-differ-fit setup events (event.BlockLeg first last leg) are fits = differ-same events (event.BlockLeg first last leg) refl are.differ
-differ-fit setup events (event.Granted arc first last lots) are fits = differ-same events (event.Granted arc first last lots) refl are.differ
-differ-fit setup events (event.Offered arc first last lots) are fits = differ-same events (event.Offered arc first last lots) refl are.differ
-differ-fit setup events (event.Halted border first last) are fits = differ-same events (event.Halted border first last) refl are.differ
-differ-fit setup events (event.Resumed border first last) are fits = differ-same events (event.Resumed border first last) refl are.differ
-differ-fit setup events (event.Gated hour phase) are fits = differ-same events (event.Gated hour phase) refl are.differ
-differ-fit setup events (event.Withdrawn name lots) are fits = differ-same events (event.Withdrawn name lots) refl are.differ
-differ-fit setup events (event.Reduced name by) are fits = differ-same events (event.Reduced name by) refl are.differ
+differ-fit setup events e are fits = differ-same events e refl are.differ
 
 placed-differ : (setup : Setup) (events : List Event) → FitAfter setup [] events → NamesDiffer (placed events)
 placed-differ setup events fit =

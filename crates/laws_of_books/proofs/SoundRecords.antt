@@ -62,20 +62,6 @@ unreduced-old setup events are (event.EnteredBlock name caller entering) fits or
     let new =
     entered-other setup events are.fit name (block_name-new setup events name caller entering (names-once setup events are.fit) fits) order there in
     stays-unreduced setup events are (event.EnteredBlock name caller entering) fits order there (ap (λ b. lots_if b entering.quantity.0) (other_name name order.name new)) refl
-unreduced-old setup events are (event.Leg contract leg) fits order there =
-    stays-unreduced setup events are (event.Leg contract leg) fits order there refl refl
-unreduced-old setup events are (event.BlockLeg first last leg) fits order there =
-    stays-unreduced setup events are (event.BlockLeg first last leg) fits order there refl refl
-unreduced-old setup events are (event.Granted arc first last lots) fits order there =
-    stays-unreduced setup events are (event.Granted arc first last lots) fits order there refl refl
-unreduced-old setup events are (event.Offered arc first last lots) fits order there =
-    stays-unreduced setup events are (event.Offered arc first last lots) fits order there refl refl
-unreduced-old setup events are (event.Halted border first last) fits order there =
-    stays-unreduced setup events are (event.Halted border first last) fits order there refl refl
-unreduced-old setup events are (event.Resumed border first last) fits order there =
-    stays-unreduced setup events are (event.Resumed border first last) fits order there refl refl
-unreduced-old setup events are (event.Gated hour phase) fits order there =
-    stays-unreduced setup events are (event.Gated hour phase) fits order there refl refl
 unreduced-old setup events are (event.Withdrawn name lots) fits order there = go (same_name name order.name) refl
   where
     go : (b : Bool) → same_name name order.name ≡ b → IsUnreduced (and_then events (event.Withdrawn name lots)) order
@@ -95,6 +81,8 @@ unreduced-old setup events are (event.Reduced name by) fits order there = go (sa
         one_order events (names-once setup events are.fit) fits.order order fits.order_open.is_placed there (fits.order_open.is_named ∙ same_name-eq name order.name e) in
         let limit : kind.Limit ≡ kind.Iceberg peak delta = sym fits.is_limit ∙ ap (λ (p : Placed). p.order.kind) same ∙ is in
         absurd (cc)
+unreduced-old setup events are e fits order there =
+    stays-unreduced setup events are e fits order there refl refl
 
 unreduced-new : (setup : Setup) (events : List Event) → FitAfter setup [] events → (e : Event) → Fits setup events e → (order : Placed)
     → placed_by e ≡ Some order
@@ -104,16 +92,7 @@ unreduced-new setup events fit (event.Entered name caller entering) fits order i
     let more = taken_off-more events (event.Entered name caller entering) name in
     let same : record { name = name; caller = caller; order = entering } ≡ order = cc in
     subst (λ (p : Placed). taken_off (and_then events (event.Entered name caller entering)) p.name ≡ 0) same (omega (arith, none.1, more))
-unreduced-new setup events fit (event.EnteredBlock name caller entering) fits order is = absurd (cc)
-unreduced-new setup events fit (event.Leg contract leg) fits order is = absurd (cc)
-unreduced-new setup events fit (event.BlockLeg first last leg) fits order is = absurd (cc)
-unreduced-new setup events fit (event.Granted arc first last lots) fits order is = absurd (cc)
-unreduced-new setup events fit (event.Offered arc first last lots) fits order is = absurd (cc)
-unreduced-new setup events fit (event.Halted border first last) fits order is = absurd (cc)
-unreduced-new setup events fit (event.Resumed border first last) fits order is = absurd (cc)
-unreduced-new setup events fit (event.Gated hour phase) fits order is = absurd (cc)
-unreduced-new setup events fit (event.Withdrawn name lots) fits order is = absurd (cc)
-unreduced-new setup events fit (event.Reduced name by) fits order is = absurd (cc)
+unreduced-new setup events fit _ fits order is = absurd (cc)
 
 unreduced : (setup : Setup) (events : List Event) → FitAfter setup [] events → AreUnreduced setup events
 unreduced setup events fit =

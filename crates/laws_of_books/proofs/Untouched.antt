@@ -41,27 +41,15 @@ untouched name (event.EnteredBlock given caller order) other =
     record { none_in = ap (λ b. lots_if b order.quantity.0) other; none_filled = refl; none_off = refl }
 untouched name (event.Leg contract leg) other = record { none_in = refl; none_filled = ap (λ b. lots_if b leg.lots) other; none_off = refl }
 untouched name (event.BlockLeg first last leg) other = record { none_in = refl; none_filled = ap (λ b. lots_if b leg.lots) other; none_off = refl }
-untouched name (event.Granted arc first last lots) other = record { none_in = refl; none_filled = refl; none_off = refl }
-untouched name (event.Offered arc first last lots) other = record { none_in = refl; none_filled = refl; none_off = refl }
-untouched name (event.Halted border first last) other = record { none_in = refl; none_filled = refl; none_off = refl }
-untouched name (event.Resumed border first last) other = record { none_in = refl; none_filled = refl; none_off = refl }
-untouched name (event.Gated hour phase) other = record { none_in = refl; none_filled = refl; none_off = refl }
 untouched name (event.Withdrawn given lots) other = record { none_in = refl; none_filled = refl; none_off = ap (λ b. lots_if b lots) other }
 untouched name (event.Reduced given by) other = record { none_in = refl; none_filled = refl; none_off = ap (λ b. lots_if b by) other }
+untouched name _ other = record { none_in = refl; none_filled = refl; none_off = refl }
 
 gives-none : (order : Placed) (before : List Event) (e : Event) → concerns order.name e ≡ false → gives_moment order before e ≡ false
 gives-none order before (event.Entered given caller entering) other = other
-gives-none order before (event.EnteredBlock given caller entering) other = refl
 gives-none order before (event.Leg contract leg) other =
     ap (λ b. b && ends_peak order.order.kind (filled (and_then before (event.Leg contract leg)) order.name)) other
-gives-none order before (event.BlockLeg first last leg) other = refl
-gives-none order before (event.Granted arc first last lots) other = refl
-gives-none order before (event.Offered arc first last lots) other = refl
-gives-none order before (event.Halted border first last) other = refl
-gives-none order before (event.Resumed border first last) other = refl
-gives-none order before (event.Gated hour phase) other = refl
-gives-none order before (event.Withdrawn given lots) other = refl
-gives-none order before (event.Reduced given by) other = refl
+gives-none order before _ other = refl
 
 -- an order of which so much is filled and left, with a moment
 abbrev pub standing_at : Placed → (filled left moment : ℕ) → Standing

@@ -145,20 +145,11 @@ hour-book setup events fit first = book-agree first (of_hour first events) event
 
 -- the event that enters a block gives its name to its hour
 name-given : (e : Event) (block : PlacedBlock) (hour : ℕ) → block_placed_by e ≡ Some block → block.name.hour ≡ hour → name_given hour e ≡ Some block.name
-name-given (event.Entered name caller entering) block hour is of_hour = absurd (cc)
 name-given (event.EnteredBlock name caller entering) block hour is of_hour =
     let same : record { name = name; caller = caller; order = entering } ≡ block = cc in
     let own : name.hour ≡ hour = ap (λ (b : PlacedBlock). b.name.hour) same ∙ of_hour in
     ap (λ b. if b then Some name else None) (eq-eqb name.hour hour own) ∙ ap (λ (b : PlacedBlock). Some b.name) same
-name-given (event.Leg contract leg) block hour is of_hour = absurd (cc)
-name-given (event.BlockLeg first last leg) block hour is of_hour = absurd (cc)
-name-given (event.Granted arc first last lots) block hour is of_hour = absurd (cc)
-name-given (event.Offered arc first last lots) block hour is of_hour = absurd (cc)
-name-given (event.Halted border first last) block hour is of_hour = absurd (cc)
-name-given (event.Resumed border first last) block hour is of_hour = absurd (cc)
-name-given (event.Gated gated phase) block hour is of_hour = absurd (cc)
-name-given (event.Withdrawn given lots) block hour is of_hour = absurd (cc)
-name-given (event.Reduced given by) block hour is of_hour = absurd (cc)
+name-given _ block hour is of_hour = absurd (cc)
 
 -- numbers that differ
 numbers-differ : (xs : List RestingBlock) → Differ xs → AreDifferent (map (λ (b : RestingBlock). b.number) xs)

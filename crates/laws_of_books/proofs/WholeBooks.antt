@@ -132,16 +132,7 @@ name-given (event.Entered name caller entering) order hour is of_hour =
     let same : record { name = name; caller = caller; order = entering } ≡ order = cc in
     let own : name.hour ≡ hour = ap (λ (p : Placed). p.name.hour) same ∙ of_hour in
     ap (λ b. if b then Some name else None) (eq-eqb name.hour hour own) ∙ ap (λ (p : Placed). Some p.name) same
-name-given (event.EnteredBlock name caller entering) order hour is of_hour = absurd (cc)
-name-given (event.Leg contract leg) order hour is of_hour = absurd (cc)
-name-given (event.BlockLeg first last leg) order hour is of_hour = absurd (cc)
-name-given (event.Granted arc first last lots) order hour is of_hour = absurd (cc)
-name-given (event.Offered arc first last lots) order hour is of_hour = absurd (cc)
-name-given (event.Halted border first last) order hour is of_hour = absurd (cc)
-name-given (event.Resumed border first last) order hour is of_hour = absurd (cc)
-name-given (event.Gated gated phase) order hour is of_hour = absurd (cc)
-name-given (event.Withdrawn given lots) order hour is of_hour = absurd (cc)
-name-given (event.Reduced given by) order hour is of_hour = absurd (cc)
+name-given _ order hour is of_hour = absurd (cc)
 
 module _ (setup : Setup) (events : List Event) (fit : FitAfter setup [] events) (hour : ℕ) where
   abbrev lines : Part → Side → List Resting
