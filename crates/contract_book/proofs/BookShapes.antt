@@ -1,13 +1,14 @@
 -- What the calls of a book make of its lines, said of the lines alone.
-use Rattle.std.proofs.Common.{◌≡◌, ◌≢◌, ◌∙◌, inl, inr, ℕ, zero, suc, ◌<◌, ◌==◌, ◌||◌, Bool, true, false, List, [], ◌∷◌, ◌++◌, length, set, get_or, map, Some, None, refl, sym, ap, arith, eq-eqb, eqb-true, if◌then◌else◌}
+use Rattle.std.proofs.Common.{◌≡◌, ◌≢◌, ◌∙◌, inl, inr, ℕ, zero, suc, ◌<◌, ◌==◌, ◌||◌, Bool, true, false, List, [], ◌∷◌, ◌++◌, length, set, get_or, map, Option, Some, None, refl, sym, ap, arith, eq-eqb, eqb-true, if◌then◌else◌}
 use Rattle.std.proofs.lemmas.Bool.{cases_eq, true≢false}
 use Rattle.std.proofs.lemmas.List.{get_or-set_same, get_or-set_other, length-set, ext_get_or, get_or-map, length-map}
 use Rattle.std.specs.List.{find, list_any}
 use Rattle.zone_graph.specs.InOrder.{put_in_order}
 use Rattle.zone_graph.specs.Route.{IsIn}
+use Rattle.contract_book.specs.declared.resting.Ice.{Ice}
 use Rattle.contract_book.specs.declared.resting.Resting.{Resting}
 use Rattle.contract_book.specs.Book.{changed, changed_line, has_number, line_without, without}
-use Rattle.contract_book.specs.Resting.{resting_cmp}
+use Rattle.contract_book.specs.Resting.{order_after, resting_cmp}
 
 pub set-twice : {X : Type 0} (xs : List X) (k : ℕ) (a b : X) → set (set xs k a) k b ≡ set xs k b
 set-twice [] k a b = refl
@@ -122,3 +123,18 @@ without-none (line ∷ book) number none =
     let first = line_without-other number line (none 0 (omega arith)) in
     let rest = without-none book number (λ i low. none (suc i) (omega (arith, low))) in
     ap (λ l. l ∷ without book number) first ∙ ap (λ b. line ∷ b) rest
+
+-- an order with some of it filled has its number and its side
+pub after-number : (order : Resting) (lots moment : ℕ) → (order_after order lots moment).number ≡ order.number
+after-number order lots moment = go order.ice refl
+  where
+    go : (ice : Option Ice) → order.ice ≡ ice → (order_after order lots moment).number ≡ order.number
+    go None is = rw is refl
+    go (Some ice) is = rw is refl
+
+pub after-side : (order : Resting) (lots moment : ℕ) → (order_after order lots moment).side ≡ order.side
+after-side order lots moment = go order.ice refl
+  where
+    go : (ice : Option Ice) → order.ice ≡ ice → (order_after order lots moment).side ≡ order.side
+    go None is = rw is refl
+    go (Some ice) is = rw is refl

@@ -1,11 +1,14 @@
 -- What an event leaves of the orders of a contract of which it enters none and is no leg.
 use Rattle.std.proofs.Common.{◌≡◌, ◌≢◌, ◌∙◌, inl, inr, ◌<◌, false, List, [], ◌∷◌, Option, Some, refl, sym, ap, subst, arith}
 use Rattle.std.proofs.lemmas.Bool.{lt-ltb, ltb-true}
+use Rattle.std.proofs.lemmas.List.Sorted.{ranks_by}
 use Rattle.std.specs.List.{filter_map}
 use Rattle.order_kinds.specs.declared.contract.Contract.{Contract}
 use Rattle.order_kinds.specs.declared.order.OrderName.{OrderName}
+use Rattle.order_kinds.specs.declared.price.Price.{Price}
 use Rattle.order_kinds.specs.declared.side.Side.{Side}
-use Rattle.order_kinds.specs.Side.{prefers}
+use Rattle.order_kinds.specs.Side.{prefers, price_cmp}
+use Rattle.order_kinds.proofs.PriceOrder.{price_cmp_total}
 use Rattle.zone_graph.specs.Pour.{lots_if}
 use Rattle.zone_graph.specs.Route.{IsIn}
 use Rattle.zone_graph.proofs.Membership.{IsIn-right}
@@ -55,15 +58,7 @@ module _ (setup : Setup) (events : List Event) (fit : FitAfter setup [] events) 
       let once = names-once setup (and_then events e) (fit-more setup events e fit fits) in
       ap (λ b. lots_if b entering.quantity.0) (other_name name order.name (λ same.
       order_is_no_block (and_then events e) once order new (picked-stays placed_by order events (e ∷ []) there) (own_pick block_placed_by events e new refl) (sym same)))
-  none_entered (event.Leg traded leg) fits aside order there of_contract = refl
-  none_entered (event.BlockLeg first last leg) fits aside order there of_contract = refl
-  none_entered (event.Granted arc first last lots) fits aside order there of_contract = refl
-  none_entered (event.Offered arc first last lots) fits aside order there of_contract = refl
-  none_entered (event.Halted border first last) fits aside order there of_contract = refl
-  none_entered (event.Resumed border first last) fits aside order there of_contract = refl
-  none_entered (event.Gated hour phase) fits aside order there of_contract = refl
-  none_entered (event.Withdrawn name lots) fits aside order there of_contract = refl
-  none_entered (event.Reduced name by) fits aside order there of_contract = refl
+  none_entered _ fits aside order there of_contract = refl
 
   -- who trades in another contract is none of them
   not_traded : (traded : Contract) (name : OrderName) (party order : Placed) → traded ≢ contract → IsIn party (placed events) → party.name ≡ name
@@ -84,31 +79,14 @@ module _ (setup : Setup) (events : List Event) (fit : FitAfter setup [] events) 
       ap (λ b. lots_if b leg.lots) (names-other leg order.name
       (λ same. order_is_no_block events once order fits.taker there fits.taker_open.is_placed (sym (fits.taker_open.is_named ∙ same)))
       (λ same. order_is_no_block events once order fits.maker there fits.maker_open.is_placed (sym (fits.maker_open.is_named ∙ same))))
-  none_filled (event.Entered name caller entering) fits aside order there of_contract = refl
-  none_filled (event.EnteredBlock name caller entering) fits aside order there of_contract = refl
-  none_filled (event.Granted arc first last lots) fits aside order there of_contract = refl
-  none_filled (event.Offered arc first last lots) fits aside order there of_contract = refl
-  none_filled (event.Halted border first last) fits aside order there of_contract = refl
-  none_filled (event.Resumed border first last) fits aside order there of_contract = refl
-  none_filled (event.Gated hour phase) fits aside order there of_contract = refl
-  none_filled (event.Withdrawn name lots) fits aside order there of_contract = refl
-  none_filled (event.Reduced name by) fits aside order there of_contract = refl
+  none_filled _ fits aside order there of_contract = refl
 
   -- it brings none
   none_new : (e : Event) → IsAside contract e → (order : Placed) → placed_by e ≡ Some order → order.order.contract ≢ contract
   none_new (event.Entered name caller entering) aside order is of_contract =
       let same : record { name = name; caller = caller; order = entering } ≡ order = cc in
       aside (ap (λ (p : Placed). p.order.contract) same ∙ of_contract)
-  none_new (event.EnteredBlock name caller entering) aside order is of_contract = cc
-  none_new (event.Leg traded leg) aside order is of_contract = cc
-  none_new (event.BlockLeg first last leg) aside order is of_contract = cc
-  none_new (event.Granted arc first last lots) aside order is of_contract = cc
-  none_new (event.Offered arc first last lots) aside order is of_contract = cc
-  none_new (event.Halted border first last) aside order is of_contract = cc
-  none_new (event.Resumed border first last) aside order is of_contract = cc
-  none_new (event.Gated hour phase) aside order is of_contract = cc
-  none_new (event.Withdrawn name lots) aside order is of_contract = cc
-  none_new (event.Reduced name by) aside order is of_contract = cc
+  none_new _ aside order is of_contract = cc
 
   -- so each that stands after it stood before, at the same price
   pub stand_as_before : (e : Event) → Fits setup events e → IsAside contract e → (side : Side)
@@ -137,3 +115,17 @@ module _ (setup : Setup) (events : List Event) (fit : FitAfter setup [] events) 
             ap (λ (s : Standing). s.order.zone) in_line.is,
             subst (λ q. prefers side q was.price ≡ false) (sym price) (no_better side was),
           )
+
+-- who stands in for one that stands in for a former order stands in for that order
+pub stand-on : (side : Side) (former now then : List Standing) → StandInFor side former now → StandInFor side now then → StandInFor side former then
+stand-on side former now then first second order i =
+    let mid = second order i in
+    let old = first mid.0 mid.1 in (
+      old.0,
+      old.1,
+      mid.2 ∙ old.2,
+      (ranks_by (price_cmp_total side) (λ (p : Price). p)).chain order.price mid.0.price old.0.price mid.3 old.3,
+    )
+
+pub stand-still : (side : Side) (orders : List Standing) → StandInFor side orders orders
+stand-still side orders order i = (order, i, refl, no_better side order)

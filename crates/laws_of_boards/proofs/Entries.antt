@@ -1,5 +1,5 @@
 -- What an order obtains on a board whose events end with its entry.
-use Rattle.std.proofs.Common.{◌≡◌, ◌∙◌, inl, inr, ℕ, ◌≤◌, Bool, true, false, cond, List, [], ◌∷◌, ◌++◌, filter, refl, sym, ap, subst}
+use Rattle.std.proofs.Common.{◌≡◌, ◌∙◌, inl, inr, ℕ, ◌≤◌, List, [], ◌∷◌, sym, ap, subst}
 use Rattle.order_kinds.specs.declared.order.Order.{Order}
 use Rattle.order_kinds.specs.Period.{contract_quarters}
 use Rattle.order_kinds.specs.Side.{opposite}
@@ -11,11 +11,10 @@ use Rattle.market_model.specs.declared.setup.Setup.{Setup}
 use Rattle.market_model.specs.Certificate.{bound_of, crossing_lots, unfilled_zones}
 use Rattle.market_model.specs.Entering.{name_of_next, with_order}
 use Rattle.market_model.specs.Grid.{graph_of}
-use Rattle.market_model.specs.History.{touches}
 use Rattle.market_model.specs.Orders.{Placed}
 use Rattle.market_model.specs.Room.{room}
 use Rattle.market_model.specs.WellFormed.{FitAfter, IsMarketSetup, OrderEnters}
-use Rattle.laws_of_market.proofs.Growing.{fit-back, fit-front}
+use Rattle.laws_of_market.proofs.LastOfHour.{before-last}
 use Rattle.laws_of_market.proofs.LocalAnswers.{bound_of-agree, unfilled_zones-agree}
 use Rattle.laws_of_market.proofs.LocalEntries.{legs_taken-agree, with_order-agree}
 use Rattle.laws_of_market.proofs.LocalLines.{contract-hours, line-agree}
@@ -24,42 +23,7 @@ use Rattle.laws_of_maximum.specs.FlowPlan.{FlowPlan, IsFlowPlan, IsPlanFor, orde
 use Rattle.laws_of_maximum.specs.Takings.{lots_traded, obtained}
 use Rattle.laws_of_maximum.proofs.BestPlans.{obtain-most}
 use Rattle.laws_of_maximum.proofs.Obtained.{reach-bound}
-use Rattle.laws_of_market.proofs.OfHours.{one-agrees}
 use Rattle.laws_of_boards.specs.Takers.{BoardTakingsObtainTheMost, ObtainsTheMost}
-
--- where what passes a test ends with an item, the list goes on from what passes before it with the item
-record EndsAt {X : Type 0} (p : X → Bool) (item : X) (all passed : List X) : Type 0 where
-  front : List X
-  back : List X
-  is : all ≡ front ++ (item ∷ back)
-  passes : filter p front ≡ passed
-
-filter-ends : {X : Type 0} (p : X → Bool) (item : X) (all passed : List X) → filter p all ≡ passed ++ item ∷ [] → EndsAt p item all passed
-filter-ends p item [] [] same = absurd (cc)
-filter-ends p item [] (x ∷ passed) same = absurd (cc)
-filter-ends {X} p item (y ∷ all) passed same = go (p y) refl passed same (λ more k. filter-ends p item all more k)
-  where
-    go : (b : Bool) → p y ≡ b → (xs : List X) → cond b (y ∷ filter p all) (filter p all) ≡ xs ++ item ∷ []
-        → ((more : List X) → filter p all ≡ more ++ item ∷ [] → EndsAt p item all more) → EndsAt p item (y ∷ all) xs
-    go true is [] here later = let first : y ≡ item = cc in record { front = []; back = all; is = ap (λ z. z ∷ all) first; passes = refl }
-    go true is (x ∷ xs) here later =
-        let first : y ≡ x = cc in
-        let rest : filter p all ≡ xs ++ item ∷ [] = cc in
-        let ends = later xs rest in
-        record {
-          front = y ∷ ends.front;
-          back = ends.back;
-          is = ap (λ zs. y ∷ zs) ends.is;
-          passes = ap (λ b. cond b (y ∷ filter p ends.front) (filter p ends.front)) is ∙ ap (λ zs. y ∷ zs) ends.passes ∙ ap (λ z. z ∷ xs) first;
-        }
-    go false is xs here later =
-        let ends = later xs here in
-        record {
-          front = y ∷ ends.front;
-          back = ends.back;
-          is = ap (λ zs. y ∷ zs) ends.is;
-          passes = ap (λ b. cond b (y ∷ filter p ends.front) (filter p ends.front)) is ∙ ends.passes;
-        }
 
 -- what an order obtains that enters after some events, it obtains after others that agree with them on
 -- its hour
@@ -118,11 +82,8 @@ pub obtains : BoardTakingsObtainTheMost
 obtains board before order is_board ends in_hour =
     let whole = is_board.stands in
     let entry : Event = event.Entered order.name order.caller order.order in
-    let split = filter-ends (touches board.hour) entry whole.history before (whole.in_hour ∙ ends.is) in
-    let all : FitAfter whole.setup [] (split.front ++ (entry ∷ split.back)) = subst (FitAfter whole.setup []) split.is whole.fit in
-    let fit = fit-front whole.setup [] split.front (entry ∷ split.back) all in
-    let enters : OrderEnters whole.setup split.front order.name order.caller order.order = (fit-back whole.setup [] split.front (entry ∷ split.back) all).0 in
-    let agree = subst (λ es. Agree (board.hour ∷ []) es split.front) split.passes (one-agrees whole.setup split.front fit board.hour) in
+    let last = before-last whole.setup board.hour whole.history before entry whole.fit (whole.in_hour ∙ ends.is) in
+    let enters : OrderEnters whole.setup last.history order.name order.caller order.order = last.fits in
     subst (λ g. ObtainsTheMost g before order) whole.over_grid
-    (obtains-most whole.setup whole.is_setup board.hour before split.front fit agree order in_hour
-    (subst (λ n. OrderEnters whole.setup split.front n order.caller order.order) enters.named enters))
+    (obtains-most whole.setup whole.is_setup board.hour before last.history last.fit last.agree order in_hour
+    (subst (λ n. OrderEnters whole.setup last.history n order.caller order.order) enters.named enters))

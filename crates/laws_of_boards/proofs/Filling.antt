@@ -1,16 +1,13 @@
 -- What a fill makes of the lines of a book.
-use Rattle.std.proofs.Common.{◌≡◌, ◌≢◌, ◌∙◌, inl, inr, ℕ, zero, suc, ◌+◌, ◌*◌, ◌/◌, ◌%◌, ◌≤◌, ◌==◌, Bool, true, false, List, [], ◌∷◌, ◌++◌, get_or, map, Option, Some, None, ℤ, pos, ◌+ℤ◌, ◌-ℤ◌, ◌<ℤ◌, ◌≤ℤ◌, eq-eqb, eqb-true, refl, sym, ap, subst, if◌then◌else◌, arith}
-use Rattle.std.proofs.Math.Nat.{mul-le-mul_left}
+use Rattle.std.proofs.Common.{◌≡◌, ◌≢◌, ◌∙◌, inl, inr, ℕ, zero, suc, ◌+◌, ◌/◌, ◌%◌, ◌≤◌, ◌==◌, Bool, true, false, List, [], ◌∷◌, ◌++◌, get_or, map, Option, Some, None, eq-eqb, eqb-true, refl, sym, ap, subst, if◌then◌else◌, arith}
 use Rattle.std.proofs.lemmas.Bool.{false_from_ne_true, true≢false}
 use Rattle.std.proofs.lemmas.List.Sorted.{ranks_by}
-use Rattle.std.specs.Cmp.{IsStrictWeakOrder, int_ranks}
+use Rattle.std.specs.Cmp.{IsStrictWeakOrder}
 use Rattle.std.specs.List.{list_any}
-use Rattle.std.specs.Ordering.{MatchOrdering, int_cmp, is_lt, nat_cmp, ordering_then}
+use Rattle.std.specs.Ordering.{is_lt, nat_cmp, ordering_then}
 use Rattle.std.specs.declared.cmp.Ordering.{Ordering}
 use Rattle.std.specs.declared.cmp.Ordering.TheVariants.{Less, Equal, Greater}
-use Rattle.order_kinds.specs.declared.price.Price.{Price}
 use Rattle.order_kinds.specs.declared.side.Side.{Side}
-use Rattle.order_kinds.specs.declared.side.Side.TheVariants.{Buy, Sell}
 use Rattle.order_kinds.specs.Order.{peak_price}
 use Rattle.order_kinds.specs.Side.{price_cmp}
 use Rattle.zone_graph.specs.InOrder.{IsStrictlyInOrder, put_in_order}
@@ -23,36 +20,15 @@ use Rattle.contract_book.specs.declared.resting.Resting.{Resting}
 use Rattle.contract_book.specs.Book.{IsBook, changed_line, filled, has_number, line_number, line_of, line_without, order_of}
 use Rattle.contract_book.specs.Priority.{resting_total}
 use Rattle.contract_book.specs.Resting.{AgreesWith, IsSound, order_after, resting_cmp}
-use Rattle.contract_book.proofs.BookShapes.{any-no, any-some, has-number, has_not-number, line_without-here, line_without-other}
+use Rattle.contract_book.proofs.BookShapes.{after-number, after-side, any-no, any-some, has-number, has_not-number, line_without-here, line_without-other}
 use Rattle.contract_book.proofs.Told.{filled-emptied, filled-rest}
 use Rattle.laws_of_boards.specs.Behind.{FillsStayBehind, FillsStayInTheirLine, behind_fill}
+use Rattle.laws_of_boards.proofs.Rests.{later-price}
 
 -- ---- priority
 
 weak : (side : Side) → IsStrictWeakOrder (λ (a b : Resting). is_lt (resting_cmp side a b))
 weak side = ranks_by (resting_total side) (λ (order : Resting). order)
-
-not_less : (a b : ℤ) → b ≤ℤ a → is_lt (int_cmp a b) ≡ false
-not_less a b least = go (int_cmp a b) (int_ranks a b)
-  where
-    go : (r : Ordering) → MatchOrdering r (a <ℤ b) (a ≡ b) (b <ℤ a) → is_lt r ≡ false
-    go Less is = absurd (grind (arith, is, least))
-    go Equal is = refl
-    go Greater is = refl
-
--- a later peak has no better price
-later-price : (side : Side) (price : Price) (delta number later : ℕ) → number ≤ later
-    → is_lt (price_cmp side (peak_price side price delta later) (peak_price side price delta number)) ≡ false
-later-price Buy price delta number later least =
-    not_less (price.0 -ℤ pos (delta * number)) (price.0 -ℤ pos (delta * later)) (lower price.0 (delta * number) (delta * later) (mul-le-mul_left delta least))
-  where
-    lower : (p : ℤ) (less more : ℕ) → less ≤ more → (p -ℤ pos more) ≤ℤ (p -ℤ pos less)
-    lower p less more h = grind (arith, h)
-later-price Sell price delta number later least =
-    not_less (price.0 +ℤ pos (delta * later)) (price.0 +ℤ pos (delta * number)) (higher price.0 (delta * number) (delta * later) (mul-le-mul_left delta least))
-  where
-    higher : (p : ℤ) (less more : ℕ) → less ≤ more → (p +ℤ pos less) ≤ℤ (p +ℤ pos more)
-    higher p less more h = grind (arith, h)
 
 not_earlier : (m n number : ℕ) → m ≤ n → is_lt (ordering_then (nat_cmp n m) (nat_cmp number number)) ≡ false
 not_earlier m n number least = grind (arith, least)
@@ -86,21 +62,6 @@ not_before-old side order lots moment on_side sound least = go order.ice refl so
         let time = not_earlier order.moment (if (ice.filled + lots) % ice.peak == 0 then moment else order.moment) order.number
         (no_sooner ((ice.filled + lots) % ice.peak == 0) order.moment moment least) in
         rw is (by_price (price_cmp side (peak_price order.side ice.price ice.delta ((ice.filled + lots) / ice.peak)) order.price) _ price time)
-
--- it has its number and its side
-after-number : (order : Resting) (lots moment : ℕ) → (order_after order lots moment).number ≡ order.number
-after-number order lots moment = go order.ice refl
-  where
-    go : (ice : Option Ice) → order.ice ≡ ice → (order_after order lots moment).number ≡ order.number
-    go None is = rw is refl
-    go (Some ice) is = rw is refl
-
-after-side : (order : Resting) (lots moment : ℕ) → (order_after order lots moment).side ≡ order.side
-after-side order lots moment = go order.ice refl
-  where
-    go : (ice : Option Ice) → order.ice ≡ ice → (order_after order lots moment).side ≡ order.side
-    go None is = rw is refl
-    go (Some ice) is = rw is refl
 
 -- ---- lines
 

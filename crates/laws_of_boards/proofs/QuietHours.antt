@@ -1,6 +1,6 @@
 -- A contract of an hour is quiet again when an order of it has taken what it could, by the events of the
 -- hour alone.
-use Rattle.std.proofs.Common.{◌≡◌, ◌∙◌, inl, inr, ℕ, Bool, true, false, cond, List, [], ◌∷◌, ◌++◌, filter, Option, Some, None, refl, sym, ap, subst}
+use Rattle.std.proofs.Common.{◌≡◌, ◌∙◌, inl, inr, ℕ, List, [], ◌∷◌, ◌++◌, Option, Some, None, refl, sym, ap, subst}
 use Rattle.order_kinds.specs.declared.contract.Contract.{Contract}
 use Rattle.order_kinds.specs.declared.order.Order.{Order}
 use Rattle.order_kinds.specs.declared.order.OrderName.{OrderName}
@@ -11,51 +11,16 @@ use Rattle.market_model.specs.declared.event.Event.{Event}
 use Rattle.market_model.specs.declared.event.Event.TheVariants as event
 use Rattle.market_model.specs.declared.setup.Setup.{Setup}
 use Rattle.market_model.specs.Grid.{graph_of}
-use Rattle.market_model.specs.History.{and_then, touches}
+use Rattle.market_model.specs.History.{and_then}
 use Rattle.market_model.specs.Sweep.{leg_in, or_else, sweep_leg}
 use Rattle.market_model.specs.Taking.{IsTaking, next_leg}
 use Rattle.market_model.specs.WellFormed.{FitAfter, IsMarketSetup, OrderEnters}
-use Rattle.laws_of_market.proofs.Growing.{fit-back, fit-front}
+use Rattle.laws_of_market.proofs.LastOfHour.{before-last}
 use Rattle.laws_of_market.proofs.LocalLines.{next_leg-agree, next_leg-named, sweep_leg-agree}
 use Rattle.laws_of_market.proofs.NamedByHour.{AreNamedByHour, IsNamedByHour, named-more}
 use Rattle.laws_of_market.proofs.LocalStates.{Agree, agree-append, agree-more}
-use Rattle.laws_of_market.proofs.OfHours.{one-agrees}
 use Rattle.laws_of_boards.specs.Quiet.{TakersOfAnHourLeaveTheirContractQuiet}
 use Rattle.laws_of_boards.proofs.Taking.{taker-quiet}
-
--- where what passes a test ends with an item, the list goes on from what passes before it with the item
-record EndsAt {X : Type 0} (p : X → Bool) (item : X) (all passed : List X) : Type 0 where
-  front : List X
-  back : List X
-  is : all ≡ front ++ (item ∷ back)
-  passes : filter p front ≡ passed
-
-ends-at : {X : Type 0} (p : X → Bool) (item : X) (all passed : List X) → filter p all ≡ passed ++ item ∷ [] → EndsAt p item all passed
-ends-at p item [] [] same = absurd (cc)
-ends-at p item [] (x ∷ passed) same = absurd (cc)
-ends-at {X} p item (y ∷ all) passed same = go (p y) refl passed same (λ more k. ends-at p item all more k)
-  where
-    go : (b : Bool) → p y ≡ b → (xs : List X) → cond b (y ∷ filter p all) (filter p all) ≡ xs ++ item ∷ []
-        → ((more : List X) → filter p all ≡ more ++ item ∷ [] → EndsAt p item all more) → EndsAt p item (y ∷ all) xs
-    go true is [] here later = let first : y ≡ item = cc in record { front = []; back = all; is = ap (λ z. z ∷ all) first; passes = refl }
-    go true is (x ∷ xs) here later =
-        let first : y ≡ x = cc in
-        let rest : filter p all ≡ xs ++ item ∷ [] = cc in
-        let ends = later xs rest in
-        record {
-          front = y ∷ ends.front;
-          back = ends.back;
-          is = ap (λ zs. y ∷ zs) ends.is;
-          passes = ap (λ b. cond b (y ∷ filter p ends.front) (filter p ends.front)) is ∙ ap (λ zs. y ∷ zs) ends.passes ∙ ap (λ z. z ∷ xs) first;
-        }
-    go false is xs here later =
-        let ends = later xs here in
-        record {
-          front = y ∷ ends.front;
-          back = ends.back;
-          is = ap (λ zs. y ∷ zs) ends.is;
-          passes = ap (λ b. cond b (y ∷ filter p ends.front) (filter p ends.front)) is ∙ ends.passes;
-        }
 
 or_else-none : (o : Option Event) → or_else o (λ u. None) ≡ o
 or_else-none None = refl
@@ -108,10 +73,7 @@ pub hour-quiet : TakersOfAnHourLeaveTheirContractQuiet
 hour-quiet graph hour before name caller order legs stands in_hour run quiet =
     let setup = stands.setup in
     let e : Event = event.Entered name caller order in
-    let split = ends-at (touches hour) e stands.history before stands.in_hour in
-    let all : FitAfter setup [] (split.front ++ (e ∷ split.back)) = subst (FitAfter setup []) split.is stands.fit in
-    let fit = fit-front setup [] split.front (e ∷ split.back) all in
-    let fits : OrderEnters setup split.front name caller order = (fit-back setup [] split.front (e ∷ split.back) all).0 in
-    let agree = subst (λ es. Agree (hour ∷ []) es split.front) split.passes (one-agrees setup split.front fit hour) in
+    let last = before-last setup hour stands.history before e stands.fit stands.in_hour in
+    let fits : OrderEnters setup last.history name caller order = last.fits in
     subst (λ g. IsTaking g (and_then before e) name legs → leg_in g before order.contract ≡ None → leg_in g (and_then before e ++ legs) order.contract ≡ None) stands.over_grid
-    (quiet-agree setup stands.is_setup hour before split.front fit agree name caller order legs fits in_hour) run quiet
+    (quiet-agree setup stands.is_setup hour before last.history last.fit last.agree name caller order legs fits in_hour) run quiet

@@ -45,7 +45,7 @@ own-price Buy price = not_less price.0 price.0 (grind arith)
 own-price Sell price = not_less price.0 price.0 (grind arith)
 
 -- a later peak has no better price
-later-price : (side : Side) (price : Price) (delta number later : ℕ) → number ≤ later
+pub later-price : (side : Side) (price : Price) (delta number later : ℕ) → number ≤ later
     → prefers side (peak_price side price delta later) (peak_price side price delta number) ≡ false
 later-price Buy price delta number later least =
     not_less (price.0 -ℤ pos (delta * number)) (price.0 -ℤ pos (delta * later)) (lower price.0 (delta * number) (delta * later) (mul-le-mul_left delta least))

@@ -35,28 +35,12 @@ module _ (quarter : Quarter) (arc : Arc) where
   none_back (event.Leg contract leg) never = ap (λ b. lots_if b leg.lots) never
   none_back (event.BlockLeg first last leg) never = ap (λ b. lots_if b leg.lots) never
   none_back (event.Granted granted first last lots) never = ap (λ b. lots_if b lots) never
-  none_back (event.Entered name caller order) never = refl
-  none_back (event.EnteredBlock name caller order) never = refl
-  none_back (event.Offered given first last lots) never = refl
-  none_back (event.Halted border first last) never = refl
-  none_back (event.Resumed border first last) never = refl
-  none_back (event.Gated hour asked) never = refl
-  none_back (event.Withdrawn name lots) never = refl
-  none_back (event.Reduced name by) never = refl
+  none_back _ never = refl
 
   -- offers nothing on the arc
   none_offered : (e : Event) → raises e quarter arc ≡ false → offered_by quarter arc e ≡ None
   none_offered (event.Offered given first last lots) never = ap (λ b. if b then Some lots else None) never
-  none_offered (event.Leg contract leg) never = refl
-  none_offered (event.BlockLeg first last leg) never = refl
-  none_offered (event.Granted granted first last lots) never = refl
-  none_offered (event.Entered name caller order) never = refl
-  none_offered (event.EnteredBlock name caller order) never = refl
-  none_offered (event.Halted border first last) never = refl
-  none_offered (event.Resumed border first last) never = refl
-  none_offered (event.Gated hour asked) never = refl
-  none_offered (event.Withdrawn name lots) never = refl
-  none_offered (event.Reduced name by) never = refl
+  none_offered _ never = refl
 
   -- and resumes its border in no hour
   none_resumed : (before : List Event) (e : Event) → raises e quarter arc ≡ false → is_halted (and_then before e) arc.border quarter.hour ≡ false
@@ -70,15 +54,8 @@ module _ (quarter : Quarter) (arc : Arc) where
   none_resumed before (event.Resumed border first last) never after =
       ap (λ b. unwrap_or (if b then Some false else None) (is_halted before arc.border quarter.hour)) (sym never)
       ∙ sym (last_said-more (halt_by arc.border quarter.hour) false before (event.Resumed border first last)) ∙ after
-  none_resumed before (event.Leg contract leg) never after = sym (last_said-more (halt_by arc.border quarter.hour) false before (event.Leg contract leg)) ∙ after
-  none_resumed before (event.BlockLeg first last leg) never after = sym (last_said-more (halt_by arc.border quarter.hour) false before (event.BlockLeg first last leg)) ∙ after
-  none_resumed before (event.Granted granted first last lots) never after = sym (last_said-more (halt_by arc.border quarter.hour) false before (event.Granted granted first last lots)) ∙ after
-  none_resumed before (event.Offered given first last lots) never after = sym (last_said-more (halt_by arc.border quarter.hour) false before (event.Offered given first last lots)) ∙ after
-  none_resumed before (event.Entered name caller order) never after = sym (last_said-more (halt_by arc.border quarter.hour) false before (event.Entered name caller order)) ∙ after
-  none_resumed before (event.EnteredBlock name caller order) never after = sym (last_said-more (halt_by arc.border quarter.hour) false before (event.EnteredBlock name caller order)) ∙ after
   none_resumed before (event.Gated hour asked) never after = sym (last_said-more (halt_by arc.border quarter.hour) false before (event.Gated hour asked)) ∙ after
-  none_resumed before (event.Withdrawn name lots) never after = sym (last_said-more (halt_by arc.border quarter.hour) false before (event.Withdrawn name lots)) ∙ after
-  none_resumed before (event.Reduced name by) never after = sym (last_said-more (halt_by arc.border quarter.hour) false before (event.Reduced name by)) ∙ after
+  none_resumed before e never after = sym (last_said-more (halt_by arc.border quarter.hour) false before e) ∙ after
 
 -- no phase comes before the first
 never_open : (asked now : Phase) → is_later asked now ≡ true → is_open_phase asked ≡ false
@@ -95,16 +72,7 @@ none_opens setup before (event.Gated gated asked) hour fits after =
     go : (b : Bool) → is_open_phase (unwrap_or (if b then Some asked else None) (phase_of before hour)) ≡ true → is_open_phase (phase_of before hour) ≡ true
     go true is = absurd (true≢false (sym is ∙ never_open asked (phase_of before gated) fits.later))
     go false is = is
-none_opens setup before (event.Leg contract leg) hour fits after = ap is_open_phase (sym (last_said-more (phase_by hour) phase.Open before (event.Leg contract leg))) ∙ after
-none_opens setup before (event.BlockLeg first last leg) hour fits after = ap is_open_phase (sym (last_said-more (phase_by hour) phase.Open before (event.BlockLeg first last leg))) ∙ after
-none_opens setup before (event.Granted granted first last lots) hour fits after = ap is_open_phase (sym (last_said-more (phase_by hour) phase.Open before (event.Granted granted first last lots))) ∙ after
-none_opens setup before (event.Offered given first last lots) hour fits after = ap is_open_phase (sym (last_said-more (phase_by hour) phase.Open before (event.Offered given first last lots))) ∙ after
-none_opens setup before (event.Entered name caller order) hour fits after = ap is_open_phase (sym (last_said-more (phase_by hour) phase.Open before (event.Entered name caller order))) ∙ after
-none_opens setup before (event.EnteredBlock name caller order) hour fits after = ap is_open_phase (sym (last_said-more (phase_by hour) phase.Open before (event.EnteredBlock name caller order))) ∙ after
-none_opens setup before (event.Halted border first last) hour fits after = ap is_open_phase (sym (last_said-more (phase_by hour) phase.Open before (event.Halted border first last))) ∙ after
-none_opens setup before (event.Resumed border first last) hour fits after = ap is_open_phase (sym (last_said-more (phase_by hour) phase.Open before (event.Resumed border first last))) ∙ after
-none_opens setup before (event.Withdrawn name lots) hour fits after = ap is_open_phase (sym (last_said-more (phase_by hour) phase.Open before (event.Withdrawn name lots))) ∙ after
-none_opens setup before (event.Reduced name by) hour fits after = ap is_open_phase (sym (last_said-more (phase_by hour) phase.Open before (event.Reduced name by))) ∙ after
+none_opens setup before e hour fits after = ap is_open_phase (sym (last_said-more (phase_by hour) phase.Open before e)) ∙ after
 
 -- what is free does not rise
 free-falls : (before : List Event) (e : Event) (quarter : Quarter) (arc : Arc) → raises e quarter arc ≡ false
@@ -150,13 +118,25 @@ fold-some : (f : Quarter → ℕ) (n : ℕ) (qs : List Quarter) → 0 < n → ((
 fold-some f n [] some each = some
 fold-some f n (q ∷ qs) some each = let own = each q (inl refl) in fold-some f (min n (f q)) qs (omega (arith, some, own)) (λ x i. each x (inr i))
 
-least-some : (f : Quarter → ℕ) (hour : ℕ) (p : Part) → ((q : Quarter) → IsIn q (map (quarter_of hour) (quarters p)) → 0 < f q)
+pub least-some : (f : Quarter → ℕ) (hour : ℕ) (p : Part) → ((q : Quarter) → IsIn q (map (quarter_of hour) (quarters p)) → 0 < f q)
     → 0 < least (map f (map (quarter_of hour) (quarters p)))
 least-some f hour part.Hour each =
     fold-some f (f (quarter_of hour 1)) (quarter_of hour 2 ∷ quarter_of hour 3 ∷ quarter_of hour 4 ∷ []) (each (quarter_of hour 1) (inl refl)) (λ q i. each q (inr i))
 least-some f hour (part.Quarter number) each = each (quarter_of hour number) (inl refl)
 least-some f hour (part.Half number) each =
     fold-some f (f (quarter_of hour (2 * number - 1))) (quarter_of hour (2 * number) ∷ []) (each (quarter_of hour (2 * number - 1)) (inl refl)) (λ q i. each q (inr i))
+
+-- the least of some numbers is some where others are whose least is
+fold-follows : (f g : Quarter → ℕ) (n m : ℕ) (qs : List Quarter) → (0 < m → 0 < n) → ((q : Quarter) → IsIn q qs → 0 < g q → 0 < f q)
+    → 0 < fold min m (map g qs) → 0 < fold min n (map f qs)
+fold-follows f g n m [] first each some = first some
+fold-follows f g n m (q ∷ qs) first each some =
+    fold-follows f g (min n (f q)) (min m (g q)) qs
+    (λ h. let own = first (omega (arith, h)) in let other = each q (inl refl) (omega (arith, h)) in omega (arith, own, other)) (λ x i. each x (inr i)) some
+
+pub least-follows : (f g : Quarter → ℕ) (qs : List Quarter) → ((q : Quarter) → IsIn q qs → 0 < g q → 0 < f q) → 0 < least (map g qs) → 0 < least (map f qs)
+least-follows f g [] each some = some
+least-follows f g (q ∷ qs) each some = fold-follows f g (f q) (g q) qs (each q (inl refl)) (λ x i. each x (inr i)) some
 
 -- where each arc had room already in the quarters in which it can be raised, none gets its first room
 pub none_opened : (setup : Setup) (before : List Event) (e : Event) (contract : Contract) → Fits setup before e
