@@ -17,8 +17,8 @@ use Rattle.block_match.specs.declared.partner.Partner.{Partner}
 use Rattle.block_match.specs.Deals.{deal_of_buy, is_earlier, partner_of, resting_deal}
 use Rattle.block_match.specs.Meeting.{HaveZones, can_trade, carries_whole, is_crossed, legs_between}
 use Rattle.block_match.specs.Walking.{deal_over, from_block, partner_with_legs, resting_deal_over, with_legs}
-use Rattle.block_match.proofs.Partners.{in-book, line-differ, line-in, line-last, line-side}
-use Rattle.block_match.proofs.Walks.{GoesOn, StandsAt, fewer, goes-on, stands-at, stands-in}
+use Rattle.block_match.proofs.Partners.{in-book, line-differ, line-in, line-last, line-side, number_of}
+use Rattle.zone_graph.proofs.Walks.{GoesOn, StandsAt, fewer, goes-on, stands-at, stands-in}
 
 answers-here : {X Y : Type 0} (ask : X → Option Y) (x : X) (xs : List X) (y : Y) → ask x ≡ Some y → first_answer ask (x ∷ xs) ≡ Some y
 answers-here ask x xs y e = ap (λ o. or_else o (λ _. first_answer ask xs)) e
@@ -78,11 +78,11 @@ module _ (graph : Graph) (room : Arc → ℕ) (book : List RestingBlock) (last :
     (stands : found ≡ first_of (from_block (line_of book last Buy) found))
     (onward : first_answer (deal_of_buy graph room book) (from_block (line_of book last Buy) found) ≡ first_answer (deal_of_buy graph room book) (line_of book last Buy)) where
   module _ (buy : RestingBlock) (is : found ≡ Some buy) where
-    at : StandsAt (line_of book last Buy) buy
-    at = stands-at (line_of book last Buy) found buy is stands
+    at : StandsAt number_of (line_of book last Buy) buy
+    at = stands-at number_of (line_of book last Buy) found buy is stands
 
     in_line : IsIn buy (line_of book last Buy)
-    in_line = stands-in (line_of book last Buy) (line-differ book sound last Buy) buy at
+    in_line = stands-in number_of (line_of book last Buy) buy at
 
     pub buys-known : block_of book buy.number ≡ Some buy
     buys-known = in-book book sound buy (line-in book last Buy buy in_line)
@@ -109,11 +109,11 @@ module _ (graph : Graph) (room : Arc → ℕ) (book : List RestingBlock) (last :
           ∙ ap (λ l. after_in buy.number (line_of book l buy.side)) (line-last book last Buy buy in_line)
           ∙ ap (λ s. after_in buy.number (line_of book last s)) (line-side book last Buy buy in_line)
 
-      goes : GoesOn (line_of book last Buy) found next buy
-      goes = goes-on (line_of book last Buy) found next buy (line-differ book sound last Buy) is stands behind
+      goes : GoesOn number_of (line_of book last Buy) found next buy
+      goes = goes-on number_of (line_of book last Buy) found next buy (line-differ book sound last Buy) is stands behind
 
       pub buys-fewer : length (from_block (line_of book last Buy) next) < length (from_block (line_of book last Buy) found)
-      buys-fewer = fewer (line_of book last Buy) found next buy goes
+      buys-fewer = fewer number_of (line_of book last Buy) found next buy goes
 
       pub buys-stands : next ≡ first_of (from_block (line_of book last Buy) next)
       buys-stands = goes.stands

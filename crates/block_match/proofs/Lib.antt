@@ -1,5 +1,4 @@
 pub mod Crossing
-pub mod Walks
 pub mod Partners
 pub mod Seeking
 pub mod Buys

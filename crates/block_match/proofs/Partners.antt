@@ -22,6 +22,10 @@ use Rattle.block_match.specs.Deals.{partner_of}
 use Rattle.block_match.specs.Meeting.{can_trade, carries_whole, is_crossed}
 use Rattle.block_match.specs.Walking.{crossed_line, opposite_line}
 
+-- lines are walked by the numbers of their blocks
+abbrev pub number_of : RestingBlock → ℕ
+number_of block = block.number
+
 -- tests that agree find the same
 find-same : (p q : RestingBlock → Bool) (xs : List RestingBlock) → ((x : RestingBlock) → p x ≡ q x) → find p xs ≡ find q xs
 find-same p q [] same = refl

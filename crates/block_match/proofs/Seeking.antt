@@ -10,8 +10,8 @@ use Rattle.block_book.specs.Book.{IsBook, after_in, block_of, first_of}
 use Rattle.block_match.specs.Meeting.{HaveZones, carries_whole, legs_between, legs_if_whole}
 use Rattle.block_match.specs.Walking.{crossed_line, from_block, if_crossed, opposite_line, partner_with_legs, with_legs}
 use Rattle.block_match.proofs.Crossing.{crossed-after, crossed-first}
-use Rattle.block_match.proofs.Partners.{crossed-differ, from_crossed, in-book, opposite-in, opposite-strict, partner-is}
-use Rattle.block_match.proofs.Walks.{GoesOn, StandsAt, fewer, goes-on, stands-at, stands-in}
+use Rattle.block_match.proofs.Partners.{crossed-differ, from_crossed, in-book, number_of, opposite-in, opposite-strict, partner-is}
+use Rattle.zone_graph.proofs.Walks.{GoesOn, StandsAt, fewer, goes-on, stands-at, stands-in}
 
 -- what is there only where a test holds
 pub there-not : {X : Type 0} (b : Bool) (x : X) → (if b then Some x else None) ≡ None → b ≡ false
@@ -42,11 +42,11 @@ module _ (graph : Graph) (room : Arc → ℕ) (book : List RestingBlock) (own : 
         (sym (partner-is graph room book own) ∙ sym onward ∙ ap (λ o. find (carries_whole graph room own) (from_block (crossed_line book own) o)) none)
 
     module _ (block : RestingBlock) (is : found ≡ Some block) where
-      at : StandsAt (crossed_line book own) block
-      at = stands-at (crossed_line book own) found block is stands
+      at : StandsAt number_of (crossed_line book own) block
+      at = stands-at number_of (crossed_line book own) found block is stands
 
       pub seek-line : IsIn block (opposite_line book own)
-      seek-line = from_crossed book sound own block (stands-in (crossed_line book own) (crossed-differ book sound own) block at)
+      seek-line = from_crossed book sound own block (stands-in number_of (crossed_line book own) block at)
 
       pub seek-known : block_of book block.number ≡ Some block
       seek-known = in-book book sound block (opposite-in book sound own block seek-line)
@@ -65,12 +65,12 @@ module _ (graph : Graph) (room : Arc → ℕ) (book : List RestingBlock) (own : 
 
       -- it does not, and the walk goes on
       module _ (next : Option RestingBlock) (after : next ≡ if_crossed own (after_in block.number (opposite_line book own))) where
-        goes : GoesOn (crossed_line book own) found next block
-        goes = goes-on (crossed_line book own) found next block (crossed-differ book sound own) is stands
+        goes : GoesOn number_of (crossed_line book own) found next block
+        goes = goes-on number_of (crossed_line book own) found next block (crossed-differ book sound own) is stands
             (after ∙ sym (crossed-after own block.number (opposite_line book own) (opposite-strict book sound own)))
 
         pub seek-fewer : length (from_block (crossed_line book own) next) < length (from_block (crossed_line book own) found)
-        seek-fewer = fewer (crossed_line book own) found next block goes
+        seek-fewer = fewer number_of (crossed_line book own) found next block goes
 
         pub seek-stands : next ≡ first_of (from_block (crossed_line book own) next)
         seek-stands = goes.stands

@@ -16,9 +16,9 @@ use Rattle.market_model.specs.declared.event.Leg.{Leg}
 use Rattle.market_model.specs.Sweep.{first_answer, or_else}
 use Rattle.laws_of_boards.proofs.Worse.{crosses-worse}
 use Rattle.sweep_core.specs.Meeting.{can_meet, first_of, from_order, is_marked, leg_of_buy, leg_of_lines, leg_with, resting_leg}
-use Rattle.sweep_core.proofs.Lines.{IsLine, WorseBehind, worse-behind}
+use Rattle.sweep_core.proofs.Lines.{IsLine, WorseBehind, number_of, worse-behind}
 use Rattle.sweep_core.proofs.SellFronts.{find-nothing}
-use Rattle.sweep_core.proofs.Walks.{GoesOn, StandsAt, behind_in, fewer, goes-on, stands-at, stands-in}
+use Rattle.zone_graph.proofs.Walks.{GoesOn, StandsAt, after_in, fewer, goes-on, stands-at, stands-in}
 
 answers-here : {X Y : Type 0} (ask : X → Option Y) (x : X) (xs : List X) (y : Y) → ask x ≡ Some y → first_answer ask (x ∷ xs) ≡ Some y
 answers-here ask x xs y e = ap (λ o. or_else o (λ _. first_answer ask xs)) e
@@ -85,14 +85,14 @@ module _ (graph : Graph) (hour : ℕ) (room : Arc → ℕ) (sells : List Shown) 
       (onward : first_answer ask (from_order buys found) ≡ first_answer ask buys)
       (none : TriedHaveNone tried (from_order buys found)) where
     module _ (buy : Shown) (is : found ≡ Some buy) where
-      at : StandsAt buys buy
-      at = stands-at buys found buy is stands
+      at : StandsAt number_of buys buy
+      at = stands-at number_of buys found buy is stands
 
       here : from_order buys found ≡ buy ∷ at.back
       here = ap (from_order buys) is ∙ at.here
 
       pub buys-there : IsIn buy buys
-      buys-there = stands-in buys buy at
+      buys-there = stands-in number_of buys buy at
 
       behind-worse : (other : Shown) → IsIn other at.back → is_lt (price_cmp Buy other.price buy.price) ≡ false
       behind-worse other i = worse-behind Buy at.front at.back buy (subst (WorseBehind Buy) at.parts is_line.worse) other i
@@ -123,12 +123,12 @@ module _ (graph : Graph) (hour : ℕ) (room : Arc → ℕ) (sells : List Shown) 
           go false k = k
 
       -- it has none, and the walk goes on
-      module _ (next : Option Shown) (after : next ≡ behind_in buy.number buys) where
-        goes : GoesOn buys found next buy
-        goes = goes-on buys found next buy is_line.differ is stands after
+      module _ (next : Option Shown) (after : next ≡ after_in number_of buy.number buys) where
+        goes : GoesOn number_of buys found next buy
+        goes = goes-on number_of buys found next buy is_line.differ is stands after
 
         pub buys-fewer : length (from_order buys next) < length (from_order buys found)
-        buys-fewer = fewer buys found next buy goes
+        buys-fewer = fewer number_of buys found next buy goes
 
         pub buys-stands : next ≡ first_of (from_order buys next)
         buys-stands = goes.stands

@@ -3,7 +3,7 @@ use Rattle.std.proofs.Common.{◌≡◌, ◌∙◌, ◌<◌, ◌+◌, ◌==◌, 
 use Rattle.std.proofs.lemmas.Bool.{true≢false}
 use Rattle.market_model.specs.declared.board.Shown.{Shown}
 use Rattle.sweep_core.specs.Meeting.{is_marked}
-use Rattle.sweep_core.proofs.Walks.{differs}
+use Rattle.zone_graph.proofs.Walks.{differs}
 
 -- where each mark is none no zone is marked
 pub none-marked : (count : ℕ) (zone : ℕ) → is_marked (replicate count false) zone ≡ false

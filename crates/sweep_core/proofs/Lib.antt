@@ -1,4 +1,3 @@
-pub mod Walks
 pub mod Lines
 pub mod FreeZones
 pub mod SellFronts

@@ -32,7 +32,7 @@ use Rattle.laws_of_books.proofs.LineOrders.{line-strict}
 use Rattle.laws_of_boards.proofs.Shared.{board-agrees}
 use Rattle.laws_of_boards.proofs.Walks.{one_number}
 use Rattle.sweep_core.specs.Meeting.{first_of, shown_line}
-use Rattle.sweep_core.proofs.Walks.{Differ, behind_in}
+use Rattle.zone_graph.proofs.Walks.{Differ, after_in}
 
 -- the prices of the orders behind an order are no better
 abbrev pub WorseBehind : Side → List Shown → Type 0
@@ -66,8 +66,12 @@ best-there side (best ∷ orders) order worse i = (
   ],
 )
 
+-- lines are walked by the numbers of their orders
+abbrev pub number_of : Shown → ℕ
+number_of order = order.number
+
 pub record IsLine (graph : Graph) (side : Side) (orders : List Shown) : Type 0 where
-  pub differ : Differ orders
+  pub differ : Differ number_of orders
   pub worse : WorseBehind side orders
   pub zones : (order : Shown) → IsIn order orders → HasZone graph order.zone
 
@@ -77,12 +81,12 @@ pub first-shown : (orders : List Standing) → first_shown orders ≡ first_of (
 first-shown [] = refl
 first-shown (order ∷ orders) = refl
 
-pub behind-shown : (number : ℕ) (orders : List Standing) → shown_behind number orders ≡ behind_in number (map shown_of orders)
+pub behind-shown : (number : ℕ) (orders : List Standing) → shown_behind number orders ≡ after_in number_of number (map shown_of orders)
 behind-shown number [] = refl
 behind-shown number (order ∷ orders) = go (order.name.number == number) (behind-shown number orders)
   where
-    go : (b : Bool) → shown_behind number orders ≡ behind_in number (map shown_of orders)
-        → (if b then first_shown orders else shown_behind number orders) ≡ (if b then first_of (map shown_of orders) else behind_in number (map shown_of orders))
+    go : (b : Bool) → shown_behind number orders ≡ after_in number_of number (map shown_of orders)
+        → (if b then first_shown orders else shown_behind number orders) ≡ (if b then first_of (map shown_of orders) else after_in number_of number (map shown_of orders))
     go true rest = first-shown orders
     go false rest = rest
 
@@ -106,7 +110,7 @@ rests board part side order within i = (part, side, rests-in board part side ord
 -- the next order, as the board answers it
 pub behind-of : (board : BoardState) (part : ℕ) (side : Side) (order : Shown) (next : Option Shown) → part < board.parts → IsIn order (shown_line board part side)
     → ((part : ℕ) (side : Side) → RestsIn board part side order.number → next ≡ shown_behind order.number (resting_line board part side))
-    → next ≡ behind_in order.number (shown_line board part side)
+    → next ≡ after_in number_of order.number (shown_line board part side)
 behind-of board part side order next within i told =
     told part side (rests-in board part side order within i) ∙ behind-shown order.number (resting_line board part side)
 
@@ -145,7 +149,7 @@ shown-worse side (order ∷ orders) up = (
 )
 
 shown-differ : (side : Side) (orders : List Standing) → IsStrictlyInOrder (priority_cmp side) orders
-    → ((a b : Standing) → IsIn a orders → IsIn b orders → a.name.number ≡ b.name.number → a ≡ b) → Differ (map shown_of orders)
+    → ((a b : Standing) → IsIn a orders → IsIn b orders → a.name.number ≡ b.name.number → a ≡ b) → Differ number_of (map shown_of orders)
 shown-differ side [] strict one = tt
 shown-differ side (order ∷ orders) strict one = (
   λ other i. λ same.

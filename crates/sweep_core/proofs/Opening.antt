@@ -1,6 +1,6 @@
 -- After a leg no other part has one that had none, unless the opposite of an arc of its route gets its
 -- first room.
-use Rattle.std.proofs.Common.{◌≡◌, ◌≢◌, ◌∙◌, inl, inr, ℕ, zero, suc, ◌+◌, ◌<◌, ◌==◌, ◌&&◌, ◌||◌, Bool, true, false, not, List, [], ◌∷◌, map, fold, min, Some, None, if◌then◌else◌, nat_lt, refl, sym, ap, subst, arith}
+use Rattle.std.proofs.Common.{◌≡◌, ◌≢◌, ◌∙◌, inl, inr, ℕ, zero, suc, ◌+◌, ◌<◌, ◌==◌, ◌&&◌, ◌||◌, Bool, true, false, not, List, [], ◌∷◌, Some, None, if◌then◌else◌, nat_lt, refl, sym, ap, subst, arith}
 use Rattle.std.proofs.lemmas.Bool.{and_parts, or_cases, true≢false}
 use Rattle.std.specs.List.{list_any}
 use Rattle.order_kinds.specs.declared.contract.Contract.{Contract}
@@ -28,7 +28,7 @@ use Rattle.market_model.specs.Grid.{graph_of}
 use Rattle.market_model.specs.History.{and_then}
 use Rattle.market_model.specs.Lines.{buyer_zone, line, priority_cmp, seller_zone}
 use Rattle.market_model.specs.Orders.{Placed, is_open, names, placed, placed_by, standing}
-use Rattle.market_model.specs.Room.{halt_by, is_halted, is_open_phase, least, lots_of, phase_by, phase_of, quarter_room, room}
+use Rattle.market_model.specs.Room.{halt_by, is_halted, is_open_phase, lots_of, phase_by, phase_of, quarter_room, room}
 use Rattle.market_model.specs.Sweep.{all_parts, leg_in}
 use Rattle.market_model.specs.WellFormed.{FitAfter, LegFits}
 use Rattle.laws_of_market.proofs.Ascending.{itself}
@@ -46,6 +46,7 @@ use Rattle.laws_of_books.proofs.Untouched.{left-kept, standing-kept}
 use Rattle.laws_of_boards.specs.Fronts.{StandInFor}
 use Rattle.laws_of_boards.proofs.Unopened.{unopened}
 use Rattle.laws_of_boards.proofs.Legs.{made-fits}
+use Rattle.laws_of_boards.proofs.Rises.{least-follows}
 use Rattle.laws_of_boards.proofs.Shared.{board-agrees, board-graph}
 use Rattle.sweep_core.specs.declared.part_set.PartSet.{PartSet}
 use Rattle.sweep_core.specs.Meeting.{part_room}
@@ -65,17 +66,6 @@ room-falls true offer there more back some =
     let was = lots_of-remaining offer there back in
     omega (arith, now, was, some)
 room-falls false offer there more back some = some
-
-fold-some : (f g : Quarter → ℕ) (n m : ℕ) (qs : List Quarter) → (0 < m → 0 < n) → ((q : Quarter) → 0 < g q → 0 < f q)
-    → 0 < fold min m (map g qs) → 0 < fold min n (map f qs)
-fold-some f g n m [] first each some = first some
-fold-some f g n m (q ∷ qs) first each some =
-    fold-some f g (min n (f q)) (min m (g q)) qs
-    (λ h. let own = first (omega (arith, h)) in let other = each q (omega (arith, h)) in omega (arith, own, other)) each some
-
-least-some : (f g : Quarter → ℕ) (qs : List Quarter) → ((q : Quarter) → 0 < g q → 0 < f q) → 0 < least (map g qs) → 0 < least (map f qs)
-least-some f g [] each some = some
-least-some f g (q ∷ qs) each some = fold-some f g (f q) (g q) qs (each q) each some
 
 module _ (events : List Event) (contract : Contract) (leg : Leg)
     (shut : (arc : Arc) → IsIn arc leg.route → 0 < room events (contract_quarters contract) (opposite_arc arc)) where
@@ -119,7 +109,7 @@ module _ (events : List Event) (contract : Contract) (leg : Leg)
           ∙ ap (λ n. room_at (is_free arc quarter) (offered events quarter arc) (allocated events quarter arc + allocated_by quarter arc made) n) none) some)
 
   none-opens : (quarters : List Quarter) (arc : Arc) → 0 < room after quarters arc → 0 < room events quarters arc
-  none-opens quarters arc some = least-some (quarter_room events arc) (quarter_room after arc) quarters (quarter-some arc) some
+  none-opens quarters arc some = least-follows (quarter_room events arc) (quarter_room after arc) quarters (λ q i. quarter-some arc q) some
 
 -- ---- lines
 

@@ -11,9 +11,9 @@ use Rattle.zone_graph.proofs.Membership.{IsIn-left, IsIn-right}
 use Rattle.market_model.specs.declared.board.Shown.{Shown}
 use Rattle.laws_of_boards.proofs.Worse.{crosses-worse}
 use Rattle.sweep_core.specs.Meeting.{AreFronts, can_meet_from, first_of, from_order, is_marked}
-use Rattle.sweep_core.proofs.Lines.{IsLine, WorseBehind, worse-behind}
+use Rattle.sweep_core.proofs.Lines.{IsLine, WorseBehind, number_of, worse-behind}
 use Rattle.sweep_core.proofs.FreeZones.{MarksToo}
-use Rattle.sweep_core.proofs.Walks.{GoesOn, StandsAt, behind_in, fewer, goes-on, stands-at, stands-in}
+use Rattle.zone_graph.proofs.Walks.{GoesOn, StandsAt, after_in, fewer, goes-on, stands-at, stands-in}
 
 -- ---- what is found in a list
 
@@ -131,14 +131,14 @@ module _ (graph : Graph) (line : List Shown) (is_line : IsLine graph Sell line) 
   walk-ended none = fronts-end line best fronts (from_order line found) decide (λ sell i. absurd (subst (IsIn sell) (ap (from_order line) none) i))
 
   module _ (sell : Shown) (is : found ≡ Some sell) where
-    at : StandsAt line sell
-    at = stands-at line found sell is stands
+    at : StandsAt number_of line sell
+    at = stands-at number_of line found sell is stands
 
     here : from_order line found ≡ sell ∷ at.back
     here = ap (from_order line) is ∙ at.here
 
     pub walk-there : IsIn sell line
-    walk-there = stands-in line sell at
+    walk-there = stands-in number_of line sell at
 
     behind : (other : Shown) → IsIn other at.back → is_lt (price_cmp Sell other.price sell.price) ≡ false
     behind other i = worse-behind Sell at.front at.back sell (subst (WorseBehind Sell) at.parts is_line.worse) other i
@@ -152,12 +152,12 @@ module _ (graph : Graph) (line : List Shown) (is_line : IsLine graph Sell line) 
         ])
 
     -- the walk goes on
-    module _ (next : Option Shown) (after : next ≡ behind_in sell.number line) where
-      goes : GoesOn line found next sell
-      goes = goes-on line found next sell is_line.differ is stands after
+    module _ (next : Option Shown) (after : next ≡ after_in number_of sell.number line) where
+      goes : GoesOn number_of line found next sell
+      goes = goes-on number_of line found next sell is_line.differ is stands after
 
       pub walk-fewer : length (from_order line next) < length (from_order line found)
-      walk-fewer = fewer line found next sell goes
+      walk-fewer = fewer number_of line found next sell goes
 
       pub walk-stands : next ≡ first_of (from_order line next)
       walk-stands = goes.stands

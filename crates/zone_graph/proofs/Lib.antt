@@ -12,3 +12,4 @@ pub mod Membership
 pub mod Places
 pub mod Routes
 pub mod Runs
+pub mod Walks

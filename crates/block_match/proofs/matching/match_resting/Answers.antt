@@ -5,7 +5,8 @@ use Rattle.block_book.specs.Book.{line_of}
 use Rattle.market_model.specs.Sweep.{first_answer}
 use Rattle.block_match.specs.Deals.{deal_of_buy}
 use Rattle.block_match.proofs.Buys.{buys-fewer, buys-found, buys-onward, buys-stands, buys-there, buys-zone}
-use Rattle.block_match.proofs.Walks.{begins, begins-first}
+use Rattle.block_match.proofs.Partners.{number_of}
+use Rattle.zone_graph.proofs.Walks.{begins, begins-first}
 use Rattle.block_match.proofs.matching.match_resting.Goals as goal
 
 pub loop-next-init : goal.loop-next-init
@@ -13,8 +14,8 @@ loop-next-init c =
     let line = line_of c.args.book.now c.args.last Buy in
     record {
       scratch = tt;
-      stands = begins-first line c.first_any-next.result c.first_any-next.ensures;
-      onward = ap (first_answer (deal_of_buy c.args.grid.now (room_of c.args.rooms.now) c.args.book.now)) (begins line c.first_any-next.result c.first_any-next.ensures);
+      stands = begins-first number_of line c.first_any-next.result c.first_any-next.ensures;
+      onward = ap (first_answer (deal_of_buy c.args.grid.now (room_of c.args.rooms.now) c.args.book.now)) (begins number_of line c.first_any-next.result c.first_any-next.ensures);
     }
 
 pub partner_of-requires-clause-own : goal.partner_of-requires-clause-own

@@ -4,7 +4,8 @@ use Rattle.zone_graph.specs.Rooms.{room_of}
 use Rattle.block_match.specs.Meeting.{carries_whole}
 use Rattle.block_match.specs.Walking.{crossed_line}
 use Rattle.block_match.proofs.Seeking.{seek-fewer, seek-first, seek-found, seek-known, seek-line, seek-none, seek-onward, seek-stands, seek-zone}
-use Rattle.block_match.proofs.Walks.{begins, begins-first}
+use Rattle.block_match.proofs.Partners.{number_of}
+use Rattle.zone_graph.proofs.Walks.{begins, begins-first}
 use Rattle.block_match.proofs.partner.partner_of.Goals as goal
 
 pub loop-next-init : goal.loop-next-init
@@ -13,8 +14,8 @@ loop-next-init c =
     let first = seek-first c.args.grid.now (room_of c.args.rooms.now) c.args.book.now c.args.own.now c.len-resting.ensures.sound c.first_crossed-next.result c.first_crossed-next.ensures in
     record {
       scratch = c.requires.scratch;
-      stands = begins-first line c.first_crossed-next.result first;
-      onward = ap (find (carries_whole c.args.grid.now (room_of c.args.rooms.now) c.args.own.now)) (begins line c.first_crossed-next.result first);
+      stands = begins-first number_of line c.first_crossed-next.result first;
+      onward = ap (find (carries_whole c.args.grid.now (room_of c.args.rooms.now) c.args.own.now)) (begins number_of line c.first_crossed-next.result first);
     }
 
 pub pour_whole-requires-clause-other : goal.pour_whole-requires-clause-other

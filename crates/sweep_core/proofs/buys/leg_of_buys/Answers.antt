@@ -5,9 +5,9 @@ use Rattle.zone_graph.specs.Graph.{Graph, HasZone, border_count}
 use Rattle.market_model.specs.Sweep.{first_answer}
 use Rattle.sweep_core.specs.Meeting.{leg_of_shown, part_room, shown_line}
 use Rattle.sweep_core.proofs.BuyWalk.{buys-apart, buys-fewer, buys-found, buys-onward, buys-stands, buys-there, buys-tried}
-use Rattle.sweep_core.proofs.Lines.{behind-of, best-there, first-of, line-is, rests}
+use Rattle.sweep_core.proofs.Lines.{behind-of, best-there, first-of, line-is, number_of, rests}
 use Rattle.sweep_core.proofs.Trading.{fronts-asked}
-use Rattle.sweep_core.proofs.Walks.{begins, begins-first}
+use Rattle.zone_graph.proofs.Walks.{begins, begins-first}
 use Rattle.sweep_core.proofs.buys.leg_of_buys.Goals as goal
 
 pub loop-next-init : goal.loop-next-init
@@ -16,8 +16,8 @@ loop-next-init g c =
     let line = shown_line board c.args.part Buy in
     let first = first-of board c.args.part Buy c.first-next.result c.first-next.ensures.first in
     record {
-      stands = begins-first line c.first-next.result first;
-      onward = ap (first_answer (leg_of_shown board c.args.part)) (begins line c.first-next.result first);
+      stands = begins-first number_of line c.first-next.result first;
+      onward = ap (first_answer (leg_of_shown board c.args.part)) (begins number_of line c.first-next.result first);
       none = λ buy i m. absurd (true≢false (sym m ∙ c.no_marks-tried.ensures buy.zone));
     }
 

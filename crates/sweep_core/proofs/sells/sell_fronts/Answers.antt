@@ -3,10 +3,10 @@ use Rattle.std.proofs.lemmas.Bool.{true≢false}
 use Rattle.order_kinds.specs.declared.side.Side.TheVariants.{Sell}
 use Rattle.zone_graph.specs.Graph.{Graph, HasZone, zone_count}
 use Rattle.sweep_core.specs.Meeting.{shown_line}
-use Rattle.sweep_core.proofs.Lines.{behind-of, first-of, line-is, rests}
+use Rattle.sweep_core.proofs.Lines.{behind-of, first-of, line-is, number_of, rests}
 use Rattle.sweep_core.proofs.FreeZones.{all-free, room-kept, some-free}
 use Rattle.sweep_core.proofs.SellFronts.{decide-none, walk-decide, walk-ended, walk-fewer, walk-hidden, walk-stands, walk-there, walk-uncrossed}
-use Rattle.sweep_core.proofs.Walks.{begins, begins-first}
+use Rattle.zone_graph.proofs.Walks.{begins, begins-first}
 use Rattle.sweep_core.proofs.sells.sell_fronts.Goals as goal
 
 pub loop-next-init : goal.loop-next-init
@@ -17,8 +17,8 @@ loop-next-init g c =
     let free = all-free (zone_count c.args.grid.now) c.no_marks-marks.result c.no_marks-marks.ensures in
     let none = ap length c.in_ok-fronts.ensures.items in
     record {
-      stands = begins-first line c.first-next.result first;
-      decide = decide-none line c.args.best.now c.in_ok-fronts.fronts.items _ c.in_ok-fronts.ensures.items (begins line c.first-next.result first);
+      stands = begins-first number_of line c.first-next.result first;
+      decide = decide-none line c.args.best.now c.in_ok-fronts.fronts.items _ c.in_ok-fronts.ensures.items (begins number_of line c.first-next.result first);
       hidden = λ sell i m. absurd (true≢false (sym m ∙ c.no_marks-marks.ensures sell.zone));
       room = omega (arith, free, none);
       capacity = c.in_ok-fronts.ensures.exact ∙ c.zones-zones.ensures.count;
