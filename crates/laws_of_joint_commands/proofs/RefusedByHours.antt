@@ -79,16 +79,7 @@ module _ (setup : Setup) (history : List Event) (fit : FitAfter setup [] history
   closed-own : (given : Command) → closed_hour history given ≡ first_closed own given
   closed-own (command.Gate hour asked) = refl
   closed-own (command.View contract side zone) = refl
-  closed-own (command.Enter order) = closed-same (hours_concerned (command.Enter order))
-  closed-own (command.EnterBlock order) = closed-same (hours_concerned (command.EnterBlock order))
-  closed-own (command.EnterBasket orders) = closed-same (hours_concerned (command.EnterBasket orders))
-  closed-own (command.Cancel name) = closed-same (hours_concerned (command.Cancel name))
-  closed-own (command.Reduce name to) = closed-same (hours_concerned (command.Reduce name to))
-  closed-own (command.Blocks first last) = closed-same (hours_concerned (command.Blocks first last))
-  closed-own (command.Offer from to first last lots) = closed-same (hours_concerned (command.Offer from to first last lots))
-  closed-own (command.Request from to first last lots) = closed-same (hours_concerned (command.Request from to first last lots))
-  closed-own (command.Halt from to first last) = closed-same (hours_concerned (command.Halt from to first last))
-  closed-own (command.Resume from to first last) = closed-same (hours_concerned (command.Resume from to first last))
+  closed-own given = closed-same (hours_concerned given)
 
   -- ---- ranges
 

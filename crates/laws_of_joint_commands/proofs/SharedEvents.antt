@@ -115,14 +115,7 @@ range-event graph (command.Halt from to first last) shared is =
 range-event graph (command.Resume from to first last) shared is =
     let found = map-some (λ (arc : Arc). event.Resumed arc.border first last) (arc_between graph from to) shared is in
     subst (IsRangeEvent (command.Resume from to first last)) found.2 (record { named = tt; just = within-has first last; up = hours-ascend first last })
-range-event graph (command.Enter order) shared is = absurd (cc)
-range-event graph (command.EnterBlock order) shared is = absurd (cc)
-range-event graph (command.EnterBasket orders) shared is = absurd (cc)
-range-event graph (command.Cancel name) shared is = absurd (cc)
-range-event graph (command.Reduce name to) shared is = absurd (cc)
-range-event graph (command.Blocks first last) shared is = absurd (cc)
-range-event graph (command.Gate hour asked) shared is = absurd (cc)
-range-event graph (command.View contract side zone) shared is = absurd (cc)
+range-event graph _ shared is = absurd (cc)
 
 module _ (parts : List Part) (setup : Setup) (history : List Event) (caller : ℕ) where
   -- an event and the sweeps of a range
@@ -148,14 +141,7 @@ module _ (parts : List Part) (setup : Setup) (history : List Event) (caller : �
       let found = map-some (λ (arc : Arc). event.Resumed arc.border first last) (arc_between (graph_of setup) from to) shared is in
       ap (λ o. reply.Done (on_arc o (λ (arc : Arc). over first last (event.Resumed arc.border first last)))) found.1
       ∙ ap (λ e. reply.Done (over first last e)) found.2
-  range-done (command.Enter order) shared is = absurd (cc)
-  range-done (command.EnterBlock order) shared is = absurd (cc)
-  range-done (command.EnterBasket orders) shared is = absurd (cc)
-  range-done (command.Cancel name) shared is = absurd (cc)
-  range-done (command.Reduce name to) shared is = absurd (cc)
-  range-done (command.Blocks first last) shared is = absurd (cc)
-  range-done (command.Gate hour asked) shared is = absurd (cc)
-  range-done (command.View contract side zone) shared is = absurd (cc)
+  range-done _ shared is = absurd (cc)
 
   -- a command that no rule refuses is answered
   pub unrefused : (given : Command) → refusal_of_command setup history caller given ≡ None → reply_by parts setup history caller given ≡ reply_let_in parts setup history caller given
