@@ -60,15 +60,7 @@ what-enters hour (event.EnteredBlock name caller order) own = inl (
     of_part = λ other is. absurd (cc);
   },
 )
-what-enters hour (event.Leg contract leg) own = inr (record { given = refl; opens = λ events. refl })
-what-enters hour (event.BlockLeg first last leg) own = inr (record { given = refl; opens = λ events. refl })
-what-enters hour (event.Granted arc first last lots) own = inr (record { given = refl; opens = λ events. refl })
-what-enters hour (event.Offered arc first last lots) own = inr (record { given = refl; opens = λ events. refl })
-what-enters hour (event.Halted border first last) own = inr (record { given = refl; opens = λ events. refl })
-what-enters hour (event.Resumed border first last) own = inr (record { given = refl; opens = λ events. refl })
-what-enters hour (event.Gated gated asked) own = inr (record { given = refl; opens = λ events. refl })
-what-enters hour (event.Withdrawn name lots) own = inr (record { given = refl; opens = λ events. refl })
-what-enters hour (event.Reduced name by) own = inr (record { given = refl; opens = λ events. refl })
+what-enters hour _ own = inr (record { given = refl; opens = λ events. refl })
 
 -- ---- what is open
 

@@ -1,24 +1,22 @@
 -- Rooms over several quarters, and what an event leaves of those that it cannot raise.
-use Rattle.std.proofs.Common.{◌≡◌, ◌∙◌, inl, inr, ℕ, zero, suc, ◌-◌, ◌*◌, ◌<◌, ◌&&◌, Bool, true, false, List, [], ◌∷◌, fold, map, min, nat_lt, refl, sym, ap, arith}
+use Rattle.std.proofs.Common.{◌≡◌, ◌∙◌, ℕ, zero, suc, ◌<◌, ◌&&◌, Bool, true, false, List, [], ◌∷◌, fold, map, min, nat_lt, refl, sym, ap, arith}
 use Rattle.std.proofs.lemmas.Bool.{le-ltb, lt-ltb, ltb-false, ltb-true}
 use Rattle.std.specs.List.{list_all}
 use Rattle.order_kinds.specs.declared.contract.Contract.{Contract}
-use Rattle.order_kinds.specs.declared.contract.Part.{Part}
 use Rattle.order_kinds.specs.declared.contract.Part.TheVariants as part
 use Rattle.order_kinds.specs.declared.contract.Quarter.{Quarter}
-use Rattle.order_kinds.specs.Contract.{contract_at, quarters}
+use Rattle.order_kinds.specs.Contract.{contract_at}
 use Rattle.order_kinds.specs.Period.{contract_quarters, quarter_of}
 use Rattle.zone_graph.specs.declared.route.Arc.{Arc}
-use Rattle.zone_graph.specs.Route.{IsIn}
 use Rattle.market_model.specs.declared.event.Event.{Event}
 use Rattle.market_model.specs.declared.setup.Setup.{Setup}
 use Rattle.market_model.specs.Board.{BoardState}
 use Rattle.market_model.specs.History.{and_then}
-use Rattle.market_model.specs.Room.{least, quarter_room, room}
+use Rattle.market_model.specs.Room.{quarter_room, room}
 use Rattle.market_model.specs.WellFormed.{Fits}
 use Rattle.laws_of_market.proofs.Uses.{room-le}
 use Rattle.laws_of_boards.specs.Quiet.{raises}
-use Rattle.laws_of_boards.proofs.Rises.{rise-alone}
+use Rattle.laws_of_boards.proofs.Rises.{least-some, rise-alone}
 use Rattle.sweep_core.specs.Parts.{has_part}
 use Rattle.desk_changes.specs.Openings.{HaveRoom}
 
@@ -47,18 +45,6 @@ some-least f n (q ∷ qs) =
     some-least f (min n (f q)) qs
     ∙ ap (λ b. b && list_all (λ x. nat_lt 0 (f x)) qs) (min-some n (f q))
     ∙ and-and (nat_lt 0 n) (nat_lt 0 (f q)) (list_all (λ x. nat_lt 0 (f x)) qs)
-
-fold-some : (f : Quarter → ℕ) (n : ℕ) (qs : List Quarter) → 0 < n → ((q : Quarter) → IsIn q qs → 0 < f q) → 0 < fold min n (map f qs)
-fold-some f n [] some each = some
-fold-some f n (q ∷ qs) some each = let own = each q (inl refl) in fold-some f (min n (f q)) qs (omega (arith, some, own)) (λ x i. each x (inr i))
-
-least-some : (f : Quarter → ℕ) (hour : ℕ) (p : Part) → ((q : Quarter) → IsIn q (map (quarter_of hour) (quarters p)) → 0 < f q)
-    → 0 < least (map f (map (quarter_of hour) (quarters p)))
-least-some f hour part.Hour each =
-    fold-some f (f (quarter_of hour 1)) (quarter_of hour 2 ∷ quarter_of hour 3 ∷ quarter_of hour 4 ∷ []) (each (quarter_of hour 1) (inl refl)) (λ q i. each q (inr i))
-least-some f hour (part.Quarter number) each = each (quarter_of hour number) (inl refl)
-least-some f hour (part.Half number) each =
-    fold-some f (f (quarter_of hour (2 * number - 1))) (quarter_of hour (2 * number) ∷ []) (each (quarter_of hour (2 * number - 1)) (inl refl)) (λ q i. each q (inr i))
 
 -- ---- the parts of an hour
 

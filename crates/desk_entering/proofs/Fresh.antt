@@ -1,19 +1,12 @@
 -- An order that has just entered, as it takes.
-use Rattle.std.proofs.Common.{◌≡◌, ◌∙◌, ℕ, zero, suc, ◌+◌, ◌*◌, ◌/◌, ◌<◌, true, List, [], ◌∷◌, length, pos, ◌+ℤ◌, ◌-ℤ◌, nat_le, eq-eqb, if◌then◌else◌, refl, sym, ap, arith}
-use Rattle.std.proofs.Math.Nat.{zero-div}
+use Rattle.std.proofs.Common.{◌≡◌, ◌∙◌, ℕ, zero, suc, ◌+◌, ◌<◌, true, List, [], ◌∷◌, length, nat_le, eq-eqb, if◌then◌else◌, sym, ap, arith}
 use Rattle.std.proofs.lemmas.Bool.{and_parts, leb-true}
 use Rattle.order_kinds.specs.declared.contract.Contract.{Contract}
 use Rattle.order_kinds.specs.declared.contract.Part.{Part}
 use Rattle.order_kinds.specs.declared.contract.Part.TheVariants as part
-use Rattle.order_kinds.specs.declared.order.Kind.{Kind}
-use Rattle.order_kinds.specs.declared.order.Kind.TheVariants as kind
 use Rattle.order_kinds.specs.declared.order.Order.{Order}
 use Rattle.order_kinds.specs.declared.order.OrderName.{OrderName}
-use Rattle.order_kinds.specs.declared.price.Price.{Price}
-use Rattle.order_kinds.specs.declared.side.Side.{Side}
-use Rattle.order_kinds.specs.declared.side.Side.TheVariants.{Buy, Sell}
-use Rattle.order_kinds.specs.Contract.{contract_at, is_known, part_at, part_number}
-use Rattle.iceberg_peak.specs.Peak.{showing_price}
+use Rattle.order_kinds.specs.Contract.{contract_at, is_known, part_number}
 use Rattle.zone_graph.specs.Graph.{Graph}
 use Rattle.zone_graph.specs.Pour.{lots_if}
 use Rattle.market_model.specs.declared.event.Event.{Event}
@@ -21,8 +14,9 @@ use Rattle.market_model.specs.declared.event.Event.TheVariants as event
 use Rattle.market_model.specs.Board.{BoardState}
 use Rattle.market_model.specs.Entering.{name_of_next, with_order}
 use Rattle.market_model.specs.History.{and_then, of_hour}
-use Rattle.market_model.specs.Orders.{Placed, entered_by, filled, left, moment, price_now}
+use Rattle.market_model.specs.Orders.{Placed, entered_by, filled, left, moment}
 use Rattle.laws_of_market.proofs.Names.{names-once, order_name-new}
+use Rattle.laws_of_market.proofs.Prices.{price-entered}
 use Rattle.laws_of_market.proofs.States.{entered-more, filled-more, taken_off-more}
 use Rattle.laws_of_market.proofs.Tests.{same_name-refl}
 use Rattle.laws_of_market.proofs.Wholes.{new-untouched}
@@ -38,31 +32,9 @@ use Rattle.desk_entering.proofs.Entry as entries
 
 -- ---- its price
 
--- the first peak shows at the order's own price
-first_peak : (side : Side) (price : Price) (peak delta : ℕ) → showing_price side price peak delta 0 ≡ price
-first_peak Buy price peak delta =
-    let at : ℕ → Price = λ n. record { 0 = price.0 -ℤ pos (delta * n) } in
-    let first : 0 / peak ≡ 0 = zero-div peak in
-    let none : price.0 -ℤ pos (delta * 0) ≡ price.0 = grind arith in
-    ap at first ∙ ap (λ z. record { 0 = z }) none
-first_peak Sell price peak delta =
-    let at : ℕ → Price = λ n. record { 0 = price.0 +ℤ pos (delta * n) } in
-    let first : 0 / peak ≡ 0 = zero-div peak in
-    let none : price.0 +ℤ pos (delta * 0) ≡ price.0 = grind arith in
-    ap at first ∙ ap (λ z. record { 0 = z }) none
-
-price-first : (order : Order) → price_now order 0 ≡ order.price
-price-first order = go order.kind
-  where
-    go : (given : Kind) → price_now (record order { kind = given }) 0 ≡ order.price
-    go kind.Limit = refl
-    go kind.Ioc = refl
-    go kind.Fok = refl
-    go (kind.Iceberg peak delta) = first_peak order.side order.price peak.0 delta
-
 pub price-fresh : (order : Order) (left : ℕ) → price_at order 0 left ≡ order.price
-price-fresh order zero = price-first order
-price-fresh order (suc more) = price-first order
+price-fresh order zero = price-entered order
+price-fresh order (suc more) = price-entered order
 
 -- ---- its part
 

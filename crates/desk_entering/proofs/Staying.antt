@@ -1,15 +1,12 @@
 -- A contract without a leg has none after many events, where no arc gets its first room.
-use Rattle.std.proofs.Common.{◌≡◌, ◌∙◌, inl, inr, ℕ, ◌<◌, Bool, true, false, List, [], ◌∷◌, ◌++◌, fold, map, min, refl, sym, subst, arith}
+use Rattle.std.proofs.Common.{◌≡◌, inl, inr, ◌<◌, Bool, true, false, List, [], ◌∷◌, ◌++◌, refl, sym, subst, arith}
 use Rattle.std.proofs.Math.Seq.{append_snoc}
-use Rattle.std.proofs.lemmas.List.Sorted.{ranks_by}
 use Rattle.std.proofs.lemmas.List.{append-nil}
 use Rattle.order_kinds.specs.declared.contract.Contract.{Contract}
 use Rattle.order_kinds.specs.declared.contract.Quarter.{Quarter}
-use Rattle.order_kinds.specs.declared.price.Price.{Price}
 use Rattle.order_kinds.specs.declared.side.Side.{Side}
 use Rattle.order_kinds.specs.declared.side.Side.TheVariants.{Buy, Sell}
 use Rattle.order_kinds.specs.Period.{contract_quarters}
-use Rattle.order_kinds.proofs.PriceOrder.{price_cmp_total}
 use Rattle.zone_graph.specs.declared.route.Arc.{Arc}
 use Rattle.zone_graph.specs.Graph.{HasArc}
 use Rattle.zone_graph.specs.Route.{IsIn}
@@ -18,41 +15,14 @@ use Rattle.market_model.specs.declared.setup.Setup.{Setup}
 use Rattle.market_model.specs.Grid.{graph_of}
 use Rattle.market_model.specs.History.{and_then}
 use Rattle.market_model.specs.Lines.{line}
-use Rattle.market_model.specs.Orders.{Standing}
-use Rattle.market_model.specs.Room.{least, quarter_room}
+use Rattle.market_model.specs.Room.{quarter_room}
 use Rattle.market_model.specs.WellFormed.{FitAfter, Fits, IsMarketSetup}
 use Rattle.laws_of_market.proofs.Repeats.{fit-more}
 use Rattle.laws_of_boards.specs.Fronts.{StandInFor}
 use Rattle.laws_of_boards.proofs.Unopened.{unopened}
 use Rattle.laws_of_boards.specs.Quiet.{IsAside, IsQuiet, raises}
-use Rattle.laws_of_boards.proofs.Aside.{no_better, stand_as_before}
-use Rattle.laws_of_boards.proofs.Rises.{rise-alone}
-
--- who stands in for one that stands in for a former order stands in for that order
-stand-on : (side : Side) (former now then : List Standing) → StandInFor side former now → StandInFor side now then → StandInFor side former then
-stand-on side former now then first second order i =
-    let mid = second order i in
-    let old = first mid.0 mid.1 in (
-      old.0,
-      old.1,
-      mid.2 ∙ old.2,
-      (ranks_by (price_cmp_total side) (λ (p : Price). p)).chain order.price mid.0.price old.0.price mid.3 old.3,
-    )
-
-stand-still : (side : Side) (orders : List Standing) → StandInFor side orders orders
-stand-still side orders order i = (order, i, refl, no_better side order)
-
--- the least of some numbers is some where others are whose least is
-fold-some : (f g : Quarter → ℕ) (n m : ℕ) (qs : List Quarter) → (0 < m → 0 < n) → ((q : Quarter) → 0 < g q → 0 < f q)
-    → 0 < fold min m (map g qs) → 0 < fold min n (map f qs)
-fold-some f g n m [] first each some = first some
-fold-some f g n m (q ∷ qs) first each some =
-    fold-some f g (min n (f q)) (min m (g q)) qs
-    (λ h. let own = first (omega (arith, h)) in let other = each q (omega (arith, h)) in omega (arith, own, other)) each some
-
-least-some : (f g : Quarter → ℕ) (qs : List Quarter) → ((q : Quarter) → 0 < g q → 0 < f q) → 0 < least (map g qs) → 0 < least (map f qs)
-least-some f g [] each some = some
-least-some f g (q ∷ qs) each some = fold-some f g (f q) (g q) qs (each q) each some
+use Rattle.laws_of_boards.proofs.Aside.{stand-on, stand-still, stand_as_before}
+use Rattle.laws_of_boards.proofs.Rises.{least-follows, rise-alone}
 
 -- each arc had room already in the quarters in which an event can raise it
 abbrev pub HadRoom : Setup → (before : List Event) → Event → Type 0
@@ -101,5 +71,5 @@ module _ (setup : Setup) (before : List Event) (contract : Contract) where
       } in
       let kept = kept-all before more none fits aside had in
       unopened (graph_of setup) before (before ++ more) contract is_setup (kept.stands Buy) (kept.stands Sell)
-      (λ arc has some. least-some (quarter_room before arc) (quarter_room (before ++ more) arc) (contract_quarters contract) (λ q s. kept.rooms arc q has s) some)
+      (λ arc has some. least-follows (quarter_room before arc) (quarter_room (before ++ more) arc) (contract_quarters contract) (λ q i s. kept.rooms arc q has s) some)
       quiet

@@ -15,16 +15,7 @@ use Rattle.desk_entering.specs.Opening.{AreWithin, IsWithin}
 
 fits-within : (setup : Setup) (before : List Event) (e : Event) → Fits setup before e → IsWithin (border_count (graph_of setup)) e
 fits-within setup before (event.Leg contract leg) fits = λ arc i. way_has_arc (graph_of setup) _ _ _ leg.route arc fits.carried.is_route.way i
-fits-within setup before (event.Entered name caller order) fits = tt
-fits-within setup before (event.EnteredBlock name caller order) fits = tt
-fits-within setup before (event.BlockLeg first last leg) fits = tt
-fits-within setup before (event.Granted arc first last lots) fits = tt
-fits-within setup before (event.Offered arc first last lots) fits = tt
-fits-within setup before (event.Halted border first last) fits = tt
-fits-within setup before (event.Resumed border first last) fits = tt
-fits-within setup before (event.Gated hour phase) fits = tt
-fits-within setup before (event.Withdrawn name lots) fits = tt
-fits-within setup before (event.Reduced name by) fits = tt
+fits-within setup before _ fits = tt
 
 all-within : (setup : Setup) (before more : List Event) → FitAfter setup before more → AreWithin (border_count (graph_of setup)) more
 all-within setup before [] fit e i = absurd i

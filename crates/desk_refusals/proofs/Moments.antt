@@ -80,16 +80,7 @@ entry-gives : (e : Event) (order : Placed) (before : List Event) → placed_by e
 entry-gives (event.Entered given caller entering) order before is =
     let same : record { name = given; caller = caller; order = entering } ≡ order = cc in
     subst (λ (o : Placed). same_name given o.name ≡ true) same (same_name-refl given)
-entry-gives (event.EnteredBlock given caller entering) order before is = absurd (cc)
-entry-gives (event.Leg contract leg) order before is = absurd (cc)
-entry-gives (event.BlockLeg first last leg) order before is = absurd (cc)
-entry-gives (event.Granted arc first last lots) order before is = absurd (cc)
-entry-gives (event.Offered arc first last lots) order before is = absurd (cc)
-entry-gives (event.Halted border first last) order before is = absurd (cc)
-entry-gives (event.Resumed border first last) order before is = absurd (cc)
-entry-gives (event.Gated gated phase) order before is = absurd (cc)
-entry-gives (event.Withdrawn given lots) order before is = absurd (cc)
-entry-gives (event.Reduced given by) order before is = absurd (cc)
+entry-gives _ order before is = absurd (cc)
 
 -- peaks are of icebergs
 no_limit : (kind : Kind) (filled : ℕ) → ends_peak kind filled ≡ true → is_limit kind ≡ false
@@ -154,15 +145,7 @@ module _ (setup : Setup) (history : List Event) (fit : FitAfter setup [] history
         contract = ap Some (leg-tells contract leg i both.0);
         limit = sym (no_limit order.order.kind _ both.1);
       }
-  tells-of before (event.EnteredBlock given caller entering) i gives = absurd (true≢false (sym gives))
-  tells-of before (event.BlockLeg first last leg) i gives = absurd (true≢false (sym gives))
-  tells-of before (event.Granted arc first last lots) i gives = absurd (true≢false (sym gives))
-  tells-of before (event.Offered arc first last lots) i gives = absurd (true≢false (sym gives))
-  tells-of before (event.Halted border first last) i gives = absurd (true≢false (sym gives))
-  tells-of before (event.Resumed border first last) i gives = absurd (true≢false (sym gives))
-  tells-of before (event.Gated gated phase) i gives = absurd (true≢false (sym gives))
-  tells-of before (event.Withdrawn given lots) i gives = absurd (true≢false (sym gives))
-  tells-of before (event.Reduced given by) i gives = absurd (true≢false (sym gives))
+  tells-of before _ i gives = absurd (true≢false (sym gives))
 
 -- ---- the orders of an hour
 

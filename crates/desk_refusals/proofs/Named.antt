@@ -95,46 +95,19 @@ module _ (graph : Graph) (events : List Event) (own : ℕ) (given : Command) (fr
 pub closed-other : (events : List Event) (own : ℕ) (given : Command) → ((hour : ℕ) (phase : Phase) → ¬ (given ≡ command.Gate hour phase))
     → ((contract : Contract) (side : Side) (zone : ℕ) → ¬ (given ≡ command.View contract side zone)) → hours_concerned given ≡ own ∷ []
     → option_map (λ first. refusal.Closed first) (closed_hour events given) ≡ unless (not (is_closed_phase (phase_of events own))) (refusal.Closed own)
-closed-other events own (command.Enter order) no_gate no_view concerned =
-    one-closed (λ other. is_closed_phase (phase_of events other)) (hours_concerned (command.Enter order)) own concerned
-closed-other events own (command.EnterBlock order) no_gate no_view concerned =
-    one-closed (λ other. is_closed_phase (phase_of events other)) (hours_concerned (command.EnterBlock order)) own concerned
-closed-other events own (command.EnterBasket orders) no_gate no_view concerned =
-    one-closed (λ other. is_closed_phase (phase_of events other)) (hours_concerned (command.EnterBasket orders)) own concerned
-closed-other events own (command.Cancel name) no_gate no_view concerned =
-    one-closed (λ other. is_closed_phase (phase_of events other)) (hours_concerned (command.Cancel name)) own concerned
-closed-other events own (command.Reduce name to) no_gate no_view concerned =
-    one-closed (λ other. is_closed_phase (phase_of events other)) (hours_concerned (command.Reduce name to)) own concerned
-closed-other events own (command.Blocks first last) no_gate no_view concerned =
-    one-closed (λ other. is_closed_phase (phase_of events other)) (hours_concerned (command.Blocks first last)) own concerned
-closed-other events own (command.Offer from to first last lots) no_gate no_view concerned =
-    one-closed (λ other. is_closed_phase (phase_of events other)) (hours_concerned (command.Offer from to first last lots)) own concerned
-closed-other events own (command.Request from to first last lots) no_gate no_view concerned =
-    one-closed (λ other. is_closed_phase (phase_of events other)) (hours_concerned (command.Request from to first last lots)) own concerned
-closed-other events own (command.Halt from to first last) no_gate no_view concerned =
-    one-closed (λ other. is_closed_phase (phase_of events other)) (hours_concerned (command.Halt from to first last)) own concerned
-closed-other events own (command.Resume from to first last) no_gate no_view concerned =
-    one-closed (λ other. is_closed_phase (phase_of events other)) (hours_concerned (command.Resume from to first last)) own concerned
 closed-other events own (command.Gate hour phase) no_gate no_view concerned = absurd (no_gate hour phase refl)
 closed-other events own (command.View contract side zone) no_gate no_view concerned = absurd (no_view contract side zone refl)
+closed-other events own given no_gate no_view concerned =
+    one-closed (λ other. is_closed_phase (phase_of events other)) (hours_concerned given) own concerned
 
 -- a command that asks for no capacity
 pub no_capacity : (graph : Graph) (events : List Event) (given : Command)
     → ((from to : ℕ) (first last : Quarter) (lots : ℕ) → ¬ (given ≡ command.Offer from to first last lots))
     → ((from to : ℕ) (first last : Quarter) (lots : ℕ) → ¬ (given ≡ command.Request from to first last lots)) → None ≡ capacity_refusal graph events given
 unfolding capacity_refusal
-no_capacity graph events (command.Enter order) no_offer no_request = refl
-no_capacity graph events (command.EnterBlock order) no_offer no_request = refl
-no_capacity graph events (command.EnterBasket orders) no_offer no_request = refl
-no_capacity graph events (command.Cancel name) no_offer no_request = refl
-no_capacity graph events (command.Reduce name to) no_offer no_request = refl
-no_capacity graph events (command.Blocks first last) no_offer no_request = refl
 no_capacity graph events (command.Offer from to first last lots) no_offer no_request = absurd (no_offer from to first last lots refl)
 no_capacity graph events (command.Request from to first last lots) no_offer no_request = absurd (no_request from to first last lots refl)
-no_capacity graph events (command.Halt from to first last) no_offer no_request = refl
-no_capacity graph events (command.Resume from to first last) no_offer no_request = refl
-no_capacity graph events (command.Gate hour phase) no_offer no_request = refl
-no_capacity graph events (command.View contract side zone) no_offer no_request = refl
+no_capacity graph events _ no_offer no_request = refl
 
 -- ---- orders of the hour
 

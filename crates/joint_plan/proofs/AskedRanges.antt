@@ -36,14 +36,7 @@ known-work graph (command.Offer from to first last lots) range known none = join
 known-work graph (command.Request from to first last lots) range known none = joined-work (arc_between graph from to) _ known none
 known-work graph (command.Halt from to first last) range known none = joined-work (arc_between graph from to) _ known none
 known-work graph (command.Resume from to first last) range known none = joined-work (arc_between graph from to) _ known none
-known-work graph (command.Enter order) range known none = range
-known-work graph (command.EnterBlock order) range known none = range
-known-work graph (command.EnterBasket orders) range known none = range
-known-work graph (command.Cancel name) range known none = range
-known-work graph (command.Reduce name to) range known none = range
-known-work graph (command.Blocks first last) range known none = range
-known-work graph (command.Gate hour asked) range known none = range
-known-work graph (command.View contract side zone) range known none = range
+known-work graph _ range known none = range
 
 module _ (setup : Setup) (graph : Graph) (caller : ℕ) (given : Command) (desks : List DeskState) (asked : AreAsked setup graph caller given desks) (range : IsOverRange given) where
   pub range-known : None ≡ range_work graph given → ⊥

@@ -78,28 +78,14 @@ range-work graph (command.Resume from to first last) w is =
       same = λ _. refl;
       fits = λ _. tt;
     })
-range-work graph (command.Enter order) w is = absurd (cc)
-range-work graph (command.EnterBlock order) w is = absurd (cc)
-range-work graph (command.EnterBasket orders) w is = absurd (cc)
-range-work graph (command.Cancel name) w is = absurd (cc)
-range-work graph (command.Reduce name to) w is = absurd (cc)
-range-work graph (command.Blocks first last) w is = absurd (cc)
-range-work graph (command.Gate hour asked) w is = absurd (cc)
-range-work graph (command.View contract side zone) w is = absurd (cc)
+range-work graph _ w is = absurd (cc)
 
 pub range-joint : (given : Command) → IsOverRange given → IsJoint given
 range-joint (command.Offer from to first last lots) range = tt
 range-joint (command.Request from to first last lots) range = tt
 range-joint (command.Halt from to first last) range = tt
 range-joint (command.Resume from to first last) range = tt
-range-joint (command.Enter order) range = absurd range
-range-joint (command.EnterBlock order) range = absurd range
-range-joint (command.EnterBasket orders) range = absurd range
-range-joint (command.Cancel name) range = absurd range
-range-joint (command.Reduce name to) range = absurd range
-range-joint (command.Blocks first last) range = absurd range
-range-joint (command.Gate hour asked) range = absurd range
-range-joint (command.View contract side zone) range = absurd range
+range-joint _ range = absurd range
 
 -- no rule on filling refuses such a command
 range-filled : (graph : Graph) (history : List Event) (caller : ℕ) (given : Command) → IsOverRange given → first_broken (filling_rules graph history caller given) ≡ None
@@ -107,14 +93,7 @@ range-filled graph history caller (command.Offer from to first last lots) range 
 range-filled graph history caller (command.Request from to first last lots) range = refl
 range-filled graph history caller (command.Halt from to first last) range = refl
 range-filled graph history caller (command.Resume from to first last) range = refl
-range-filled graph history caller (command.Enter order) range = absurd range
-range-filled graph history caller (command.EnterBlock order) range = absurd range
-range-filled graph history caller (command.EnterBasket orders) range = absurd range
-range-filled graph history caller (command.Cancel name) range = absurd range
-range-filled graph history caller (command.Reduce name to) range = absurd range
-range-filled graph history caller (command.Blocks first last) range = absurd range
-range-filled graph history caller (command.Gate hour asked) range = absurd range
-range-filled graph history caller (command.View contract side zone) range = absurd range
+range-filled graph history caller _ range = absurd range
 
 module _ (setup : Setup) (history : List Event) (desks : List DeskState) (caller : ℕ) (given : Command) (is : IsHistoryOf setup desks history)
     (early : early_refusal setup caller given ≡ None) (hours : hours_of desks ≡ hours_concerned given) where

@@ -98,12 +98,7 @@ module _ (own : ℕ → List Event) (desks : List DeskState) (are : Are own desk
   state-over graph caller (command.Resume from to first last) joint hours = joined _ _ None None (closed-at (hours_from first last) hours) refl
   state-over graph caller (command.Blocks first last) joint hours = joined _ _ None None (closed-at (hours_from first last) hours) refl
   state-over graph caller (command.EnterBlock order) joint hours = joined _ _ None None (closed-at (hours_from order.first order.last) hours) refl
-  state-over graph caller (command.Enter order) joint hours = absurd joint
-  state-over graph caller (command.EnterBasket orders) joint hours = absurd joint
-  state-over graph caller (command.Cancel name) joint hours = absurd joint
-  state-over graph caller (command.Reduce name to) joint hours = absurd joint
-  state-over graph caller (command.Gate hour asked) joint hours = absurd joint
-  state-over graph caller (command.View contract side zone) joint hours = absurd joint
+  state-over graph caller _ joint hours = absurd joint
 
 -- so the rules on the state refuse a command of several hours after a history as the desks tell
 pub state-by-desks : (setup : Setup) (history : List Event) (desks : List DeskState) (caller : ℕ) (given : Command) → FitAfter setup [] history → Are (hour_events history) desks

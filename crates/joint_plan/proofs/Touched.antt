@@ -31,12 +31,7 @@ concerned-some (command.Blocks first last) joint good =
 concerned-some (command.EnterBlock order) joint good =
     let less = ltb-true order.first order.last (and_parts (nat_lt order.first order.last) (nat_le (order.last + 1 - order.first) 24) good).0 in
     some-hours order.first order.last (omega arith)
-concerned-some (command.Enter order) joint good = absurd joint
-concerned-some (command.EnterBasket orders) joint good = absurd joint
-concerned-some (command.Cancel name) joint good = absurd joint
-concerned-some (command.Reduce name to) joint good = absurd joint
-concerned-some (command.Gate hour asked) joint good = absurd joint
-concerned-some (command.View contract side zone) joint good = absurd joint
+concerned-some _ joint good = absurd joint
 
 module _ (setup : Setup) (graph : Graph) (caller : ℕ) (given : Command) (desks : List DeskState) (asked : AreAsked setup graph caller given desks) where
   pub asked-length : length desks ≡ length (hours_concerned given)

@@ -118,14 +118,10 @@ concerned-ascend (command.Offer from to first last lots) good = hours-ascend fir
 concerned-ascend (command.Request from to first last lots) good = hours-ascend first.hour last.hour
 concerned-ascend (command.Halt from to first last) good = hours-ascend first last
 concerned-ascend (command.Resume from to first last) good = hours-ascend first last
-concerned-ascend (command.Enter order) good = refl
 concerned-ascend (command.EnterBasket orders) good =
     let front = and_parts (is_within 2 8 (length orders) && ascends (map (λ (order : Order). order.contract.hour) orders)) (list_all (λ (order : Order). is_fill_or_kill order.kind) orders) good in
     (and_parts (is_within 2 8 (length orders)) (ascends (map (λ (order : Order). order.contract.hour) orders)) front.0).1
-concerned-ascend (command.Cancel name) good = refl
-concerned-ascend (command.Reduce name to) good = refl
-concerned-ascend (command.Gate hour asked) good = refl
-concerned-ascend (command.View contract side zone) good = refl
+concerned-ascend _ good = refl
 
 -- hours of a day, ascending
 pub record AreHoursOf (setup : Setup) (hours : List ℕ) : Type 0 where

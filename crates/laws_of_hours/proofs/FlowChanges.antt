@@ -30,12 +30,7 @@ says_nothing history hour (event.Offered arc first last lots) is = record { orde
 says_nothing history hour (event.Halted border first last) is = record { orders = tt; blocks_too = tt; quiet = refl; no_name = refl }
 says_nothing history hour (event.Resumed border first last) is = record { orders = tt; blocks_too = tt; quiet = refl; no_name = refl }
 says_nothing history hour (event.Gated gated phase) is = record { orders = tt; blocks_too = tt; quiet = refl; no_name = refl }
-says_nothing history hour (event.Entered name caller order) is = absurd (true≢false (sym is))
-says_nothing history hour (event.EnteredBlock name caller order) is = absurd (true≢false (sym is))
-says_nothing history hour (event.Leg contract leg) is = absurd (true≢false (sym is))
-says_nothing history hour (event.BlockLeg first last leg) is = absurd (true≢false (sym is))
-says_nothing history hour (event.Withdrawn name lots) is = absurd (true≢false (sym is))
-says_nothing history hour (event.Reduced name by) is = absurd (true≢false (sym is))
+says_nothing history hour _ is = absurd (true≢false (sym is))
 
 pub leaves_books : FlowEventsLeaveTheBooks
 leaves_books graph hour events e stands is =

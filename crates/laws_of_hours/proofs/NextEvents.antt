@@ -1,5 +1,5 @@
 -- The last event of an hour fits a history whose hour the events before it are.
-use Rattle.std.proofs.Common.{◌≡◌, ◌∙◌, inl, ℕ, ◌+◌, Bool, true, false, cond, List, [], ◌∷◌, ◌++◌, filter, length, nat_eq, eq-eqb, append_assoc, refl, sym, ap, subst}
+use Rattle.std.proofs.Common.{◌≡◌, ◌∙◌, inl, ℕ, ◌+◌, Bool, List, [], ◌∷◌, ◌++◌, length, nat_eq, eq-eqb, append_assoc, refl, sym, ap, subst}
 use Rattle.std.proofs.lemmas.List.{append-nil}
 use Rattle.zone_graph.specs.Graph.{Graph}
 use Rattle.zone_graph.specs.Route.{IsIn}
@@ -9,8 +9,7 @@ use Rattle.market_model.specs.declared.event.Event.{Event}
 use Rattle.market_model.specs.Board.{IsHourOf}
 use Rattle.market_model.specs.History.{and_then, touches}
 use Rattle.market_model.specs.Orders.{Placed, placed}
-use Rattle.market_model.specs.WellFormed.{FitAfter}
-use Rattle.laws_of_market.proofs.Growing.{fit-back, fit-front}
+use Rattle.laws_of_market.proofs.LastOfHour.{before-last}
 use Rattle.laws_of_market.proofs.Repeats.{fit-more}
 use Rattle.laws_of_market.proofs.LocalMoments.{hour-more}
 use Rattle.laws_of_market.proofs.LocalStates.{Agree, placed-agree}
@@ -23,52 +22,17 @@ use Rattle.laws_of_hours.specs.Standing.{Stands}
 use Rattle.laws_of_hours.proofs.OtherEvents.{hours_have}
 use Rattle.laws_of_hours.specs.NextEvents.{FirstOfManyAreHours, FirstPartsAreHours, HoursBeginEmpty, IsNext, NextEventsFit}
 
--- where what passes a test ends with an item, the list goes on from what passes before it with the item
-record EndsAt {X : Type 0} (p : X → Bool) (item : X) (all passed : List X) : Type 0 where
-  front : List X
-  back : List X
-  is : all ≡ front ++ (item ∷ back)
-  passes : filter p front ≡ passed
-
-ends_at : {X : Type 0} (p : X → Bool) (item : X) (all passed : List X) → filter p all ≡ passed ++ item ∷ [] → EndsAt p item all passed
-ends_at p item [] [] same = absurd (cc)
-ends_at p item [] (x ∷ passed) same = absurd (cc)
-ends_at {X} p item (y ∷ all) passed same = go (p y) refl passed same (λ more k. ends_at p item all more k)
-  where
-    go : (b : Bool) → p y ≡ b → (xs : List X) → cond b (y ∷ filter p all) (filter p all) ≡ xs ++ item ∷ []
-        → ((more : List X) → filter p all ≡ more ++ item ∷ [] → EndsAt p item all more) → EndsAt p item (y ∷ all) xs
-    go true is [] here later = let first : y ≡ item = cc in record { front = []; back = all; is = ap (λ z. z ∷ all) first; passes = refl }
-    go true is (x ∷ xs) here later =
-        let first : y ≡ x = cc in
-        let rest : filter p all ≡ xs ++ item ∷ [] = cc in
-        let ends = later xs rest in
-        record {
-          front = y ∷ ends.front;
-          back = ends.back;
-          is = ap (λ zs. y ∷ zs) ends.is;
-          passes = ap (λ b. cond b (y ∷ filter p ends.front) (filter p ends.front)) is ∙ ap (λ zs. y ∷ zs) ends.passes ∙ ap (λ z. z ∷ xs) first;
-        }
-    go false is xs here later =
-        let ends = later xs here in
-        record {
-          front = y ∷ ends.front;
-          back = ends.back;
-          is = ap (λ zs. y ∷ zs) ends.is;
-          passes = ap (λ b. cond b (y ∷ filter p ends.front) (filter p ends.front)) is ∙ ends.passes;
-        }
-
 pub next : NextEventsFit
 next graph hour events e stands =
-    let split = ends_at (touches hour) e stands.history events stands.in_hour in
-    let all : FitAfter stands.setup [] (split.front ++ (e ∷ split.back)) = subst (FitAfter stands.setup []) split.is stands.fit in
+    let last = before-last stands.setup hour stands.history events e stands.fit stands.in_hour in
     record {
       setup = stands.setup;
-      history = split.front;
+      history = last.history;
       over_grid = stands.over_grid;
       is_setup = stands.is_setup;
-      fit = fit-front stands.setup [] split.front (e ∷ split.back) all;
-      in_hour = split.passes;
-      fits = (fit-back stands.setup [] split.front (e ∷ split.back) all).0;
+      fit = last.fit;
+      in_hour = last.in_hour;
+      fits = last.fits;
       touched = (from_filter (touches hour) e stands.history (subst (IsIn e) (sym stands.in_hour) (IsIn-right e events (e ∷ []) (inl refl)))).1;
     }
 

@@ -117,15 +117,7 @@ module _ (hour : ℕ) (ok : OrderName → Bool) where
       let given = given-one (name.hour == hour) name (filter_map (name_given hour) events) in
       let own = passing-cons of_block (record { name = name; caller = caller; order = order }) (blocks_placed events) in
       omega (arith, rest, given, own)
-  names-are (event.Leg contract leg ∷ events) = names-are events
-  names-are (event.BlockLeg first last leg ∷ events) = names-are events
-  names-are (event.Granted arc first last lots ∷ events) = names-are events
-  names-are (event.Offered arc first last lots ∷ events) = names-are events
-  names-are (event.Halted border first last ∷ events) = names-are events
-  names-are (event.Resumed border first last ∷ events) = names-are events
-  names-are (event.Gated gated phase ∷ events) = names-are events
-  names-are (event.Withdrawn name lots ∷ events) = names-are events
-  names-are (event.Reduced name by ∷ events) = names-are events
+  names-are (_ ∷ events) = names-are events
 
 -- ---- the lines of the parts
 

@@ -11,14 +11,13 @@ use Rattle.zone_graph.specs.Route.{IsIn}
 use Rattle.zone_graph.proofs.Finding.{from_find}
 use Rattle.zone_graph.proofs.InOrder.{in_order-filter}
 use Rattle.zone_graph.proofs.Membership.{IsIn-flat_map, IsIn-map, from_flat_map, from_map}
-use Rattle.contract_book.specs.declared.resting.Ice.{Ice}
 use Rattle.contract_book.specs.declared.resting.Resting.{Resting}
 use Rattle.contract_book.specs.Book.{filled, has_number, line_without, order_of, without}
 use Rattle.contract_book.specs.Resting.{order_after, resting_cmp}
-use Rattle.contract_book.proofs.BookShapes.{find-only, has-number, has_not-number}
-use Rattle.contract_book.proofs.Told.{filled-emptied, filled-rest}
+use Rattle.contract_book.proofs.BookShapes.{after-number, after-side, find-only, has-number, has_not-number}
 use Rattle.laws_of_market.proofs.Restrict.{find-filter, map-same}
-use Rattle.laws_of_books.proofs.LegFills.{fill_of, next_record}
+use Rattle.laws_of_books.proofs.LegFills.{fill_of}
+use Rattle.laws_of_books.proofs.LegsInBooks.{fill-by}
 use Rattle.laws_of_books.proofs.Updates.{Change, IsOfNumber, IsOfSide, after-strict, from_after, in_after, from_less, from_stands, less-both, line_after, stands}
 use Rattle.laws_of_hours.specs.OrderEvents.{filled_beside, holds, without_hand}
 
@@ -98,20 +97,6 @@ less-same change line own = go change.next refl
 
 -- ---- fills
 
-after-number : (order : Resting) (lots moment : ℕ) → (order_after order lots moment).number ≡ order.number
-after-number order lots moment = go order.ice refl
-  where
-    go : (ice : Option Ice) → order.ice ≡ ice → (order_after order lots moment).number ≡ order.number
-    go None e = rw e refl
-    go (Some ice) e = rw e refl
-
-after-side : (order : Resting) (lots moment : ℕ) → (order_after order lots moment).side ≡ order.side
-after-side order lots moment = go order.ice refl
-  where
-    go : (ice : Option Ice) → order.ice ≡ ice → (order_after order lots moment).side ≡ order.side
-    go None e = rw e refl
-    go (Some ice) e = rw e refl
-
 module _ (book : List (List Resting)) (orderly : IsOrderly book) (number : ℕ) (order : Resting) (found : order_of book number ≡ Some order) (lots moment : ℕ) where
   abbrev fill : Change
   fill = fill_of order lots moment
@@ -139,19 +124,7 @@ module _ (book : List (List Resting)) (orderly : IsOrderly book) (number : ℕ) 
 
   -- a fill changes the record of the order in each line
   pub filled-by : filled book number lots moment ≡ map (line_after fill) book
-  filled-by =
-      ap (λ n. filled book n lots moment) (sym numbered) ∙ go (order.left == lots) refl
-    where
-      by_next : Option Resting → List (List Resting)
-      by_next next = map (line_after (record { number = order.number; next = next })) book
-
-      go : (b : Bool) → (order.left == lots) ≡ b → filled book order.number lots moment ≡ by_next (next_record order lots moment)
-      go true e =
-          filled-emptied book order.number order found_too lots moment (eqb-true order.left lots e)
-          ∙ sym (ap (λ b. by_next (if b then None else Some (order_after order lots moment))) e)
-      go false e =
-          filled-rest book order.number order found_too lots moment (λ all. true≢false (sym (eq-eqb order.left lots all) ∙ e))
-          ∙ sym (ap (λ b. by_next (if b then None else Some (order_after order lots moment))) e)
+  filled-by = ap (λ n. filled book n lots moment) (sym numbered) ∙ fill-by book order lots moment found_too
 
   pub fill-sided : (line : List Resting) → IsIn line book → (own : IsSided line) → IsOfSide own.side fill line
   fill-sided line i own next is stood =

@@ -94,17 +94,5 @@ others setup graph events (event.Withdrawn name lots) hour flows fit fits is lea
     unsaid-stands graph events (event.Withdrawn name lots) hour flows is (λ quarter arc. refl) (λ quarter arc. refl) (λ border. refl) refl
 others setup graph events (event.Reduced name by) hour flows fit fits is leaves =
     unsaid-stands graph events (event.Reduced name by) hour flows is (λ quarter arc. refl) (λ quarter arc. refl) (λ border. refl) refl
-others setup graph events (event.Leg contract leg) hour flows fit fits is leaves =
-    untouched-stands setup graph events (event.Leg contract leg) hour flows fit fits is leaves
-others setup graph events (event.BlockLeg first last leg) hour flows fit fits is leaves =
-    untouched-stands setup graph events (event.BlockLeg first last leg) hour flows fit fits is leaves
-others setup graph events (event.Granted arc first last lots) hour flows fit fits is leaves =
-    untouched-stands setup graph events (event.Granted arc first last lots) hour flows fit fits is leaves
-others setup graph events (event.Offered arc first last lots) hour flows fit fits is leaves =
-    untouched-stands setup graph events (event.Offered arc first last lots) hour flows fit fits is leaves
-others setup graph events (event.Halted border first last) hour flows fit fits is leaves =
-    untouched-stands setup graph events (event.Halted border first last) hour flows fit fits is leaves
-others setup graph events (event.Resumed border first last) hour flows fit fits is leaves =
-    untouched-stands setup graph events (event.Resumed border first last) hour flows fit fits is leaves
-others setup graph events (event.Gated gated moved) hour flows fit fits is leaves =
-    untouched-stands setup graph events (event.Gated gated moved) hour flows fit fits is leaves
+others setup graph events e hour flows fit fits is leaves =
+    untouched-stands setup graph events e hour flows fit fits is leaves

@@ -1,5 +1,5 @@
 -- The rooms of flows that stand for a list of events.
-use Rattle.std.proofs.Common.{◌≡◌, ◌∙◌, ◌-◌, ℕ, zero, suc, Bool, true, [], ◌∷◌, filter, map, nat_le, refl, ap, ap₂, arith}
+use Rattle.std.proofs.Common.{◌≡◌, ◌∙◌, ℕ, zero, suc, Bool, true, [], ◌∷◌, filter, map, nat_le, refl, ap, ap₂, arith}
 use Rattle.std.proofs.lemmas.Bool.{leb-true, and_parts}
 use Rattle.order_kinds.specs.declared.contract.Part.{Part}
 use Rattle.order_kinds.specs.declared.contract.Part.TheVariants as part
@@ -19,21 +19,15 @@ use Rattle.laws_of_hours.specs.Standing.{IsSetOf}
 some_numbers : (part : Part) → is_known part ≡ true → (counts : ℕ → Bool)
     → counts 1 ≡ covers part 1 → counts 2 ≡ covers part 2 → counts 3 ≡ covers part 3 → counts 4 ≡ covers part 4
     → filter counts (1 ∷ 2 ∷ 3 ∷ 4 ∷ []) ≡ quarters part
-some_numbers part.Hour known counts a b c d = rw (a, b, c, d) refl
 some_numbers (part.Quarter zero) known counts a b c d = absurd (let both = and_parts (nat_le 1 0) (nat_le 0 4) known in let low = leb-true 1 0 both.0 in omega (arith, low))
-some_numbers (part.Quarter (suc zero)) known counts a b c d = rw (a, b, c, d) refl
-some_numbers (part.Quarter (suc (suc zero))) known counts a b c d = rw (a, b, c, d) refl
-some_numbers (part.Quarter (suc (suc (suc zero)))) known counts a b c d = rw (a, b, c, d) refl
-some_numbers (part.Quarter (suc (suc (suc (suc zero))))) known counts a b c d = rw (a, b, c, d) refl
 some_numbers (part.Quarter (suc (suc (suc (suc (suc n)))))) known counts a b c d =
     let number = suc (suc (suc (suc (suc n)))) in
     absurd (let both = and_parts (nat_le 1 number) (nat_le number 4) known in let high = leb-true number 4 both.1 in omega (arith, high))
 some_numbers (part.Half zero) known counts a b c d = absurd (let both = and_parts (nat_le 1 0) (nat_le 0 2) known in let low = leb-true 1 0 both.0 in omega (arith, low))
-some_numbers (part.Half (suc zero)) known counts a b c d = rw (a, b, c, d) refl
-some_numbers (part.Half (suc (suc zero))) known counts a b c d = rw (a, b, c, d) refl
 some_numbers (part.Half (suc (suc (suc n)))) known counts a b c d =
     let number = suc (suc (suc n)) in
     absurd (let both = and_parts (nat_le 1 number) (nat_le number 2) known in let high = leb-true number 2 both.1 in omega (arith, high))
+some_numbers _ known counts a b c d = rw (a, b, c, d) refl
 
 numbers-are : (set : QuarterSet) (part : Part) → is_known part ≡ true → IsSetOf set part → quarters_in set ≡ quarters part
 numbers-are set part known of_part =

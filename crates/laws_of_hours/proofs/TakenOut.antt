@@ -70,15 +70,7 @@ given-hour hour events name i =
     go : (e : Event) → name_given hour e ≡ Some name → name.hour ≡ hour
     go (event.Entered given caller order) is = by given (nat_eq given.hour hour) refl is
     go (event.EnteredBlock given caller order) is = by given (nat_eq given.hour hour) refl is
-    go (event.Leg contract leg) is = absurd (cc)
-    go (event.BlockLeg first last leg) is = absurd (cc)
-    go (event.Granted arc first last lots) is = absurd (cc)
-    go (event.Offered arc first last lots) is = absurd (cc)
-    go (event.Halted border first last) is = absurd (cc)
-    go (event.Resumed border first last) is = absurd (cc)
-    go (event.Gated gated phase) is = absurd (cc)
-    go (event.Withdrawn given lots) is = absurd (cc)
-    go (event.Reduced given by) is = absurd (cc)
+    go _ is = absurd (cc)
 
 -- what is open of an hour has not the number of what is closed
 beside-closed : (hour : ℕ) (events later : List Event) (number : ℕ) → is_open events (record { hour = hour; number = number }) ≡ false

@@ -1,23 +1,19 @@
 -- Each entry of the journal of a session is the next one after those before it.
-use Rattle.std.proofs.Common.{◌≡◌, ◌∙◌, ℕ, ◌+◌, ◌==◌, Bool, true, false, if◌then◌else◌, List, [], ◌∷◌, ◌++◌, append_assoc, count_by, pos, ◌≤ℤ◌, Ok, Option, None, Some, refl, sym, ap, subst}
+use Rattle.std.proofs.Common.{◌≡◌, ◌∙◌, ℕ, ◌+◌, ◌==◌, List, [], ◌∷◌, ◌++◌, append_assoc, count_by, Ok, Option, None, Some, refl, sym, ap, subst}
 use Rattle.std.proofs.lemmas.List.{append-nil}
 use Rattle.order_kinds.specs.declared.contract.Quarter.{Quarter}
 use Rattle.zone_graph.specs.declared.route.Arc.{Arc}
-use Rattle.zone_graph.specs.Graph.{Graph, IsGraph}
-use Rattle.quarter_capacity.specs.Capacity.{most_remaining}
 use Rattle.market_model.specs.declared.command.Command.{Command}
 use Rattle.market_model.specs.declared.command.Command.TheVariants as command
 use Rattle.market_model.specs.declared.entry.Entry.{Entry}
 use Rattle.market_model.specs.declared.event.Event.{Event}
 use Rattle.market_model.specs.declared.refusal.Refusal.{Refusal}
-use Rattle.market_model.specs.declared.reply.Reply.{Reply}
 use Rattle.market_model.specs.declared.reply.Reply.TheVariants as reply
 use Rattle.market_model.specs.declared.reply.ViewRow.{ViewRow}
 use Rattle.market_model.specs.declared.setup.Setup.{Setup}
-use Rattle.market_model.specs.Capacity.{allocated_by, remaining}
 use Rattle.market_model.specs.Grid.{graph_of}
 use Rattle.market_model.specs.History.{events_of, journal_events}
-use Rattle.market_model.specs.Market.{Turn, reply_let_in, entry_of, in_turn, refused_or, reply_by, reply_to, run_after, run_of}
+use Rattle.market_model.specs.Market.{Turn, reply_let_in, entry_of, in_turn, refused_or, reply_by, reply_to, run_after}
 use Rattle.market_model.specs.Refusals.{refusal_of_command}
 use Rattle.market_model.specs.Sweep.{all_parts}
 use Rattle.market_model.specs.View.{view}
@@ -53,17 +49,7 @@ viewed setup events caller given rows is = by (refusal_of_command setup events c
     seen : (other : Command) → reply_let_in all_parts setup events caller other ≡ reply.Seen rows → IsViewed setup events other rows
     seen (command.View contract side zone) e =
         record { contract = contract; side = side; zone = zone; asked = refl; are = let same : view (graph_of setup) events contract side zone ≡ rows = cc in sym same }
-    seen (command.Enter order) e = cc
-    seen (command.EnterBlock order) e = cc
-    seen (command.EnterBasket orders) e = cc
-    seen (command.Cancel name) e = cc
-    seen (command.Reduce name to) e = cc
-    seen (command.Blocks first last) e = cc
-    seen (command.Offer from to first last lots) e = cc
-    seen (command.Request from to first last lots) e = cc
-    seen (command.Halt from to first last) e = cc
-    seen (command.Resume from to first last) e = cc
-    seen (command.Gate hour asked) e = cc
+    seen _ e = cc
 
     by : (o : Option Refusal) → refused_or o (λ _. reply_let_in all_parts setup events caller given) ≡ reply.Seen rows → IsViewed setup events given rows
     by (Some broken) e = cc

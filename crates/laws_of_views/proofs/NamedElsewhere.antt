@@ -61,10 +61,6 @@ module _ (setup : Setup) (events : List Event) (fit : FitAfter setup [] events) 
   concerned-named (event.Leg contract leg) i order there = ap (λ b. same_name leg.taker order.name || b) (or-none (same_name leg.maker order.name))
   concerned-named (event.BlockLeg first last leg) i order there =
       let parts = between (event.BlockLeg first last leg) events i in block_leg-apart parts.0 parts.1 first last leg parts.2 order there
-  concerned-named (event.Granted arc first last lots) i order there = refl
-  concerned-named (event.Offered arc first last lots) i order there = refl
-  concerned-named (event.Halted border first last) i order there = refl
-  concerned-named (event.Resumed border first last) i order there = refl
-  concerned-named (event.Gated hour phase) i order there = refl
   concerned-named (event.Withdrawn name lots) i order there = or-none (same_name name order.name)
   concerned-named (event.Reduced name by) i order there = or-none (same_name name order.name)
+  concerned-named _ i order there = refl

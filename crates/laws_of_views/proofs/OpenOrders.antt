@@ -68,15 +68,7 @@ module _ (events : List Event) (contract : Contract) (side : Side) where
   all_open (event.Entered name caller order ∷ es) hours =
       enters (record { name = name; caller = caller; order = order }) es (hours (record { name = name; caller = caller; order = order }) (inl refl)) (all_open es (λ p i. hours p (inr i)))
   all_open (event.EnteredBlock name caller order ∷ es) hours = other (name_given contract.hour (event.EnteredBlock name caller order)) es (all_open es hours)
-  all_open (event.Leg traded leg ∷ es) hours = all_open es hours
-  all_open (event.BlockLeg first last leg ∷ es) hours = all_open es hours
-  all_open (event.Granted arc first last lots ∷ es) hours = all_open es hours
-  all_open (event.Offered arc first last lots ∷ es) hours = all_open es hours
-  all_open (event.Halted border first last ∷ es) hours = all_open es hours
-  all_open (event.Resumed border first last ∷ es) hours = all_open es hours
-  all_open (event.Gated hour phase ∷ es) hours = all_open es hours
-  all_open (event.Withdrawn name lots ∷ es) hours = all_open es hours
-  all_open (event.Reduced name by ∷ es) hours = all_open es hours
+  all_open (_ ∷ es) hours = all_open es hours
 
 -- so there are no more orders in a line than are open by its hour
 pub line-open : (setup : Setup) (events : List Event) → FitAfter setup [] events → (contract : Contract) (side : Side)

@@ -58,16 +58,7 @@ brought-concerned order e new =
   where
     by_event : (f : Event) → placed_by f ≡ Some order → concerns order.name f ≡ true
     by_event (event.Entered name caller entering) is = enters-placed order (event.Entered name caller entering) is
-    by_event (event.EnteredBlock name caller entering) is = absurd (cc)
-    by_event (event.Leg traded leg) is = absurd (cc)
-    by_event (event.BlockLeg first last leg) is = absurd (cc)
-    by_event (event.Granted arc first last lots) is = absurd (cc)
-    by_event (event.Offered arc first last lots) is = absurd (cc)
-    by_event (event.Halted border first last) is = absurd (cc)
-    by_event (event.Resumed border first last) is = absurd (cc)
-    by_event (event.Gated hour phase) is = absurd (cc)
-    by_event (event.Withdrawn name lots) is = absurd (cc)
-    by_event (event.Reduced name by) is = absurd (cc)
+    by_event _ is = absurd (cc)
 
 module _ (contract : Contract) (side : Side) (zones : List ℕ) where
   -- an order stands elsewhere

@@ -116,15 +116,7 @@ module _ (setup : Setup) (all : List Event) (fit : FitAfter setup [] all) (place
     event-is : (e : Event) → Fits setup before e → (selling : Bool) → position_lots quarter place selling before e ≡ traded_by all (side_of selling) place quarter e
     event-is (event.Leg contract leg) fits selling = leg-is contract leg fits selling
     event-is (event.BlockLeg first last leg) fits selling = block_leg-is first last leg fits selling
-    event-is (event.Entered name caller order) fits selling = refl
-    event-is (event.EnteredBlock name caller order) fits selling = refl
-    event-is (event.Granted arc first last lots) fits selling = refl
-    event-is (event.Offered arc first last lots) fits selling = refl
-    event-is (event.Halted border first last) fits selling = refl
-    event-is (event.Resumed border first last) fits selling = refl
-    event-is (event.Gated hour phase) fits selling = refl
-    event-is (event.Withdrawn name lots) fits selling = refl
-    event-is (event.Reduced name by) fits selling = refl
+    event-is _ fits selling = refl
 
   -- the events from some place on
   pub positions-are : (selling : Bool) (before more : List Event) → all ≡ before ++ more → FitAfter setup before more

@@ -197,24 +197,7 @@ module _ (setup : Setup) (all before more : List Event) (is : all ≡ before ++ 
   event-even : (e : Event) → Fits setup before e → IsEven (graph_of setup) all e
   event-even (event.Leg contract leg) fits = leg-even contract leg fits
   event-even (event.BlockLeg first last leg) fits = block_leg-even first last leg fits
-  event-even (event.Entered name caller order) fits =
-      still-even (graph_of setup) all (event.Entered name caller order) (λ quarter arc. refl) (λ side zone quarter. refl)
-  event-even (event.EnteredBlock name caller order) fits =
-      still-even (graph_of setup) all (event.EnteredBlock name caller order) (λ quarter arc. refl) (λ side zone quarter. refl)
-  event-even (event.Granted arc first last lots) fits =
-      still-even (graph_of setup) all (event.Granted arc first last lots) (λ quarter other. refl) (λ side zone quarter. refl)
-  event-even (event.Offered arc first last lots) fits =
-      still-even (graph_of setup) all (event.Offered arc first last lots) (λ quarter other. refl) (λ side zone quarter. refl)
-  event-even (event.Halted border first last) fits =
-      still-even (graph_of setup) all (event.Halted border first last) (λ quarter arc. refl) (λ side zone quarter. refl)
-  event-even (event.Resumed border first last) fits =
-      still-even (graph_of setup) all (event.Resumed border first last) (λ quarter arc. refl) (λ side zone quarter. refl)
-  event-even (event.Gated hour phase) fits =
-      still-even (graph_of setup) all (event.Gated hour phase) (λ quarter arc. refl) (λ side zone quarter. refl)
-  event-even (event.Withdrawn name lots) fits =
-      still-even (graph_of setup) all (event.Withdrawn name lots) (λ quarter arc. refl) (λ side zone quarter. refl)
-  event-even (event.Reduced name by) fits =
-      still-even (graph_of setup) all (event.Reduced name by) (λ quarter arc. refl) (λ side zone quarter. refl)
+  event-even e fits = still-even (graph_of setup) all e (λ quarter arc. refl) (λ side zone quarter. refl)
 
 -- what stands before an item of a list, and behind it
 pub parted : {X : Type 0} (x : X) (xs : List X) → IsIn x xs → (before : List X) × (after : List X) × (xs ≡ before ++ (x ∷ after))

@@ -20,14 +20,7 @@ of_either : (quarter : Quarter) (arc : Arc) (e : Event)
 of_either quarter arc (event.Leg contract leg) = omega arith
 of_either quarter arc (event.BlockLeg first last leg) = omega arith
 of_either quarter arc (event.Granted granted first last lots) = omega arith
-of_either quarter arc (event.Entered name caller order) = refl
-of_either quarter arc (event.EnteredBlock name caller order) = refl
-of_either quarter arc (event.Offered given first last lots) = refl
-of_either quarter arc (event.Halted border first last) = refl
-of_either quarter arc (event.Resumed border first last) = refl
-of_either quarter arc (event.Gated hour phase) = refl
-of_either quarter arc (event.Withdrawn name lots) = refl
-of_either quarter arc (event.Reduced name by) = refl
+of_either quarter arc _ = refl
 
 allocated-parts : (events : List Event) (quarter : Quarter) (arc : Arc)
     → allocated events quarter arc ≡ allocated (filter is_trade events) quarter arc + allocated (filter is_grant events) quarter arc

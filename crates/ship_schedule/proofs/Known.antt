@@ -43,15 +43,7 @@ length-if false y = refl
 one_party : (hour : ℕ) (e : Event) → length (cons_option (party_in hour e) []) ≡ cond (enters_in hour e) 1 0
 one_party hour (event.Entered name caller order) = length-if (name.hour == hour) (record { zone = order.zone; sells = sells order.side })
 one_party hour (event.EnteredBlock name caller order) = length-if (name.hour == hour) (record { zone = order.zone; sells = sells order.side })
-one_party hour (event.Leg contract leg) = refl
-one_party hour (event.BlockLeg first last leg) = refl
-one_party hour (event.Granted arc first last lots) = refl
-one_party hour (event.Offered arc first last lots) = refl
-one_party hour (event.Halted border first last) = refl
-one_party hour (event.Resumed border first last) = refl
-one_party hour (event.Gated gated phase) = refl
-one_party hour (event.Withdrawn name lots) = refl
-one_party hour (event.Reduced name by) = refl
+one_party hour _ = refl
 
 length-parties : (hour : ℕ) (events : List Event) → length (parties_in events hour) ≡ count_by (enters_in hour) events
 length-parties hour [] = refl
@@ -104,20 +96,10 @@ order_found setup before (event.Entered name caller entering) order fits is =
     subst (λ (o : Placed). party_of (and_then before (event.Entered name caller entering)) o.name ≡ Some (order_party o)) same
     (newest before (event.Entered name caller entering) name (order_party own)
     (fits.named ∙ ap (next_name before) (sym hour)) (own_hour name.hour (order_party own)))
-order_found setup before (event.EnteredBlock name caller entering) order fits is = absurd (cc)
-order_found setup before (event.Leg contract leg) order fits is = absurd (cc)
-order_found setup before (event.BlockLeg first last leg) order fits is = absurd (cc)
-order_found setup before (event.Granted arc first last lots) order fits is = absurd (cc)
-order_found setup before (event.Offered arc first last lots) order fits is = absurd (cc)
-order_found setup before (event.Halted border first last) order fits is = absurd (cc)
-order_found setup before (event.Resumed border first last) order fits is = absurd (cc)
-order_found setup before (event.Gated hour phase) order fits is = absurd (cc)
-order_found setup before (event.Withdrawn name lots) order fits is = absurd (cc)
-order_found setup before (event.Reduced name by) order fits is = absurd (cc)
+order_found setup before _ order fits is = absurd (cc)
 
 block_found : (setup : Setup) (before : List Event) (e : Event) (block : PlacedBlock) → Fits setup before e → block_placed_by e ≡ Some block
     → party_of (and_then before e) block.name ≡ Some (block_party block)
-block_found setup before (event.Entered name caller entering) block fits is = absurd (cc)
 block_found setup before (event.EnteredBlock name caller entering) block fits is =
     let own : PlacedBlock = record { name = name; caller = caller; order = entering } in
     let same : own ≡ block = cc in
@@ -125,15 +107,7 @@ block_found setup before (event.EnteredBlock name caller entering) block fits is
     subst (λ (b : PlacedBlock). party_of (and_then before (event.EnteredBlock name caller entering)) b.name ≡ Some (block_party b)) same
     (newest before (event.EnteredBlock name caller entering) name (block_party own)
     (fits.named ∙ ap (next_name before) (sym hour)) (own_hour name.hour (block_party own)))
-block_found setup before (event.Leg contract leg) block fits is = absurd (cc)
-block_found setup before (event.BlockLeg first last leg) block fits is = absurd (cc)
-block_found setup before (event.Granted arc first last lots) block fits is = absurd (cc)
-block_found setup before (event.Offered arc first last lots) block fits is = absurd (cc)
-block_found setup before (event.Halted border first last) block fits is = absurd (cc)
-block_found setup before (event.Resumed border first last) block fits is = absurd (cc)
-block_found setup before (event.Gated hour phase) block fits is = absurd (cc)
-block_found setup before (event.Withdrawn name lots) block fits is = absurd (cc)
-block_found setup before (event.Reduced name by) block fits is = absurd (cc)
+block_found setup before _ block fits is = absurd (cc)
 
 knows-more : (setup : Setup) (before : List Event) (e : Event) → Knows before → Fits setup before e → Knows (and_then before e)
 knows-more setup before e known fits = record {

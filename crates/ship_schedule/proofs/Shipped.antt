@@ -144,15 +144,7 @@ module _ (setup : Setup) (before : List Event) (sound : AllAreSound setup before
     taker = block_hour fits.taker leg.taker fits.taker_open;
     maker = block_hour fits.maker leg.maker fits.maker_open;
   }
-  event_within (event.Entered name caller order) fits = tt
-  event_within (event.EnteredBlock name caller order) fits = tt
-  event_within (event.Granted arc first last lots) fits = tt
-  event_within (event.Offered arc first last lots) fits = tt
-  event_within (event.Halted border first last) fits = tt
-  event_within (event.Resumed border first last) fits = tt
-  event_within (event.Gated hour phase) fits = tt
-  event_within (event.Withdrawn name lots) fits = tt
-  event_within (event.Reduced name by) fits = tt
+  event_within _ fits = tt
 
 events_within : (setup : Setup) (events : List Event) → FitAfter setup [] events → AreWithin (setup.hours + 1) events
 events_within setup events fit = λ e i.

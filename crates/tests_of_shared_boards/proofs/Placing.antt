@@ -1,50 +1,23 @@
 -- An order that has entered a small board can take on it.
-use Rattle.std.proofs.Common.{◌≡◌, ◌∙◌, ◌*◌, ◌/◌, ℕ, zero, suc, pos, ◌+ℤ◌, ◌-ℤ◌, true, nat_le, length, refl, sym, ap, arith}
-use Rattle.std.proofs.Math.Nat.{zero-div}
+use Rattle.std.proofs.Common.{◌≡◌, ◌∙◌, ℕ, zero, suc, true, nat_le, length, refl, sym, ap, arith}
 use Rattle.std.proofs.lemmas.Bool.{and_parts, leb-true}
 use Rattle.order_kinds.specs.declared.contract.Contract.{Contract}
 use Rattle.order_kinds.specs.declared.contract.Part.{Part}
 use Rattle.order_kinds.specs.declared.contract.Part.TheVariants as part
-use Rattle.order_kinds.specs.declared.order.Kind.{Kind}
-use Rattle.order_kinds.specs.declared.order.Kind.TheVariants as kind
 use Rattle.order_kinds.specs.declared.order.Order.{Order}
-use Rattle.order_kinds.specs.declared.price.Price.{Price}
-use Rattle.order_kinds.specs.declared.side.Side.{Side}
-use Rattle.order_kinds.specs.declared.side.Side.TheVariants.{Buy, Sell}
 use Rattle.order_kinds.specs.Contract.{contract_at, is_known, part_at, part_number}
-use Rattle.iceberg_peak.specs.Peak.{showing_price}
 use Rattle.market_model.specs.Board.{BoardState}
-use Rattle.market_model.specs.Orders.{Placed, left, moment, price_now}
+use Rattle.market_model.specs.Orders.{Placed, left, moment}
+use Rattle.laws_of_market.proofs.Prices.{price-entered}
 use Rattle.match_core.specs.declared.taker.Taker.{Taker}
 use Rattle.match_core.specs.Takers.{price_at, taker_at}
 use Rattle.match_core.specs.Takings.{HasEntered}
 use Rattle.tests_of_shared_boards.specs.Small.{CanEnter, IsFresh, order_of, with_entry}
 
--- the first peak shows at the order's own price
-first_peak : (side : Side) (price : Price) (peak delta : ℕ) → showing_price side price peak delta 0 ≡ price
-first_peak Buy price peak delta =
-    let at : ℕ → Price = λ n. record { 0 = price.0 -ℤ pos (delta * n) } in
-    let first : 0 / peak ≡ 0 = zero-div peak in
-    let none : price.0 -ℤ pos (delta * 0) ≡ price.0 = grind arith in
-    ap at first ∙ ap (λ z. record { 0 = z }) none
-first_peak Sell price peak delta =
-    let at : ℕ → Price = λ n. record { 0 = price.0 +ℤ pos (delta * n) } in
-    let first : 0 / peak ≡ 0 = zero-div peak in
-    let none : price.0 +ℤ pos (delta * 0) ≡ price.0 = grind arith in
-    ap at first ∙ ap (λ z. record { 0 = z }) none
-
-price-first : (order : Order) → price_now order 0 ≡ order.price
-price-first order = go order.kind
-  where
-    go : (given : Kind) → price_now (record order { kind = given }) 0 ≡ order.price
-    go kind.Limit = refl
-    go kind.Ioc = refl
-    go kind.Fok = refl
-    go (kind.Iceberg peak delta) = first_peak order.side order.price peak.0 delta
-
+-- an order that has just entered takes at its own price
 pub price-fresh : (order : Order) (left : ℕ) → price_at order 0 left ≡ order.price
-price-fresh order zero = price-first order
-price-fresh order (suc more) = price-first order
+price-fresh order zero = price-entered order
+price-fresh order (suc more) = price-entered order
 
 -- the part of its number is the part
 part-of_number : (p : Part) → is_known p ≡ true → part_at (part_number p) ≡ p

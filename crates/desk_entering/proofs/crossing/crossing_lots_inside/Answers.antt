@@ -3,17 +3,18 @@ use Rattle.order_kinds.specs.Side.{opposite}
 use Rattle.contract_book.specs.Book.{first_of, line_of}
 use Rattle.desk_entering.specs.Crossing.{lots_inside}
 use Rattle.desk_entering.proofs.Crosses.{inside-sum}
-use Rattle.desk_entering.proofs.Walk.{begins, begins-first, book-differ, from_order, goes-on, line-any, line-few, line-found, one-less, some-left, sum-less, walk-in}
+use Rattle.zone_graph.proofs.Walks.{begins, begins-first, from_found, goes-on, one-less, sum-less}
+use Rattle.desk_entering.proofs.Walk.{book-differ, line-any, line-few, line-found, number_of, some-left, walk-in}
 use Rattle.desk_entering.proofs.crossing.crossing_lots_inside.Goals as goal
 
 pub loop-next-init : goal.loop-next-init
 loop-next-init c =
     let line = line_of c.args.book.now c.args.part (opposite c.args.taker.now.side) in
     let first : c.first-next.result ≡ first_of line = c.first-next.ensures ∙ ap (λ side. first_of (line_of c.args.book.now c.args.part side)) c.opposite.ensures in
-    let whole = begins line c.first-next.result first in
+    let whole = begins number_of line c.first-next.result first in
     let sum = ap (sum_by (lots_inside c.args.taker.now c.args.zones.now)) whole in
     let many = ap length whole in
-    record { stands = begins-first line c.first-next.result first; lots = omega (arith, sum); most = omega (arith, many) }
+    record { stands = begins-first number_of line c.first-next.result first; lots = omega (arith, sum); most = omega (arith, many) }
 
 pub lots_inside-requires : goal.lots_inside-requires
 lots_inside-requires c =
@@ -41,9 +42,9 @@ loop-next-smaller c =
     let line = line_of c.args.book.now c.args.part side in
     let there = walk-in line c.loop-next.next c.in-Some.order c.in-Some.is c.loop-next.invariant.stands in
     let any = line-any c.args.book.now c.len.ensures.sound c.args.part side c.in-Some.order there in
-    let goes = goes-on line c.loop-next.next c.after-next.result c.in-Some.order (book-differ c.args.book.now c.len.ensures.sound c.args.part side)
+    let goes = goes-on number_of line c.loop-next.next c.after-next.result c.in-Some.order (book-differ c.args.book.now c.len.ensures.sound c.args.part side)
     c.in-Some.is c.loop-next.invariant.stands (c.after-next.ensures c.args.part side any) in
-    let less = one-less line c.loop-next.next c.after-next.result c.in-Some.order goes in
+    let less = one-less number_of line c.loop-next.next c.after-next.result c.in-Some.order goes in
     omega (arith, less)
 
 pub loop-next-preserved : goal.loop-next-preserved
@@ -52,10 +53,10 @@ loop-next-preserved c =
     let line = line_of c.args.book.now c.args.part side in
     let there = walk-in line c.loop-next.next c.in-Some.order c.in-Some.is c.loop-next.invariant.stands in
     let any = line-any c.args.book.now c.len.ensures.sound c.args.part side c.in-Some.order there in
-    let goes = goes-on line c.loop-next.next c.after-next.result c.in-Some.order (book-differ c.args.book.now c.len.ensures.sound c.args.part side)
+    let goes = goes-on number_of line c.loop-next.next c.after-next.result c.in-Some.order (book-differ c.args.book.now c.len.ensures.sound c.args.part side)
     c.in-Some.is c.loop-next.invariant.stands (c.after-next.ensures c.args.part side any) in
-    let less = one-less line c.loop-next.next c.after-next.result c.in-Some.order goes in
-    let sum = sum-less line c.loop-next.next c.after-next.result c.in-Some.order goes (lots_inside c.args.taker.now c.args.zones.now) in
+    let less = one-less number_of line c.loop-next.next c.after-next.result c.in-Some.order goes in
+    let sum = sum-less number_of line c.loop-next.next c.after-next.result c.in-Some.order goes (lots_inside c.args.taker.now c.args.zones.now) in
     let lots = c.loop-next.invariant.lots in
     let most = c.loop-next.invariant.most in
     record {
@@ -67,7 +68,7 @@ loop-next-preserved c =
 pub returns-clause-lots : goal.returns-clause-lots
 returns-clause-lots c =
     let line = line_of c.args.book.now c.args.part (opposite c.args.taker.now.side) in
-    let none = ap (sum_by (lots_inside c.args.taker.now c.args.zones.now)) (ap (from_order line) c.in_default.is) in
+    let none = ap (sum_by (lots_inside c.args.taker.now c.args.zones.now)) (ap (from_found number_of line) c.in_default.is) in
     let lots = c.loop-next.invariant.lots in
     let total : c.loop-next.lots ≡ sum_by (lots_inside c.args.taker.now c.args.zones.now) line = omega (arith, none, lots) in
     total ∙ sym (inside-sum c.args.taker.now c.args.zones.now line)
