@@ -1,5 +1,5 @@
 -- What rows rest on, moved to another line and to other rooms.
-use Rattle.std.proofs.Common.{Global, Vec, ◌≡◌, ◌≢◌, ◌∙◌, ◌⊎◌, ℕ, ◌+◌, ◌*◌, ◌%◌, ◌^◌, ◌<◌, ◌≤◌, ◌==◌, ◌&&◌, Bool, not, true, false, List, [], inl, inr, length, map, None, Option, Some, refl, set, slice_index_or, ap, subst, sym, arith}
+use Rattle.std.proofs.Common.{Global, Vec, ◌≡◌, ◌≢◌, ◌∙◌, ◌⊎◌, ℕ, ◌+◌, ◌*◌, ◌%◌, ◌^◌, ◌<◌, ◌≤◌, ◌==◌, ◌&&◌, Bool, not, true, false, List, inl, inr, length, map, None, Option, Some, refl, set, slice_index_or, ap, subst, sym, arith}
 use Rattle.std.proofs.lemmas.Bool.{true≢false}
 use Rattle.std.proofs.lemmas.Bool.Decides.{eqb_tells}
 use Rattle.std.proofs.lemmas.List.{get_or-set_other, get_or-set_same, length-set}
@@ -22,8 +22,8 @@ use Rattle.local_view.specs.declared.footing.Certificate.{Certificate}
 use Rattle.local_view.specs.declared.footing.Footing.{Footing}
 use Rattle.local_view.specs.declared.whole.LineOrder.{LineOrder}
 use Rattle.local_view.specs.Certified.{IsCertified, lots_from, lots_to}
-use Rattle.local_view.specs.Footing.{AreFilled, AreMadeOver, IsFootingAfter, IsFoundedAt, IsOver, Rest, RestOn, certificate_at}
-use Rattle.local_view.specs.Moved.{AreBehindCuts, IsMoved, IsReplaced, StandOver, StandsOn, cut_in, flow_in}
+use Rattle.local_view.specs.Footing.{AreFilled, AreMadeOver, AreMovable, IsFootingAfter, IsFoundedAt, IsOver, Rest, RestOn, certificate_at, no_certificate}
+use Rattle.local_view.specs.Moved.{AreBehindCuts, AreSameBut, IsMoved, IsReplaced, StandOver, StandsOn, cut_in, flow_in}
 use Rattle.local_view.specs.Whole.{IsRead, in_line}
 use Rattle.local_view.specs.declared.whole.WholeLine.{WholeLine}
 use Rattle.local_view.specs.Boards.{AreRoomsOf, view_of}
@@ -33,21 +33,21 @@ use Rattle.local_view.proofs.Certificates.{certified_view}
 use Rattle.local_view.proofs.Moving.{replaced_stand}
 use Rattle.local_view.proofs.Wholes.{zones-resting}
 
--- what stands over other rooms certifies the same there
-over_rooms : (graph : Graph) (old new : Arc → ℕ) (side : Side) (zone : ℕ) (line : List Standing) (flow : Arc → ℕ) (taken cut : ℕ → ℕ) → StandOver graph old new side flow cut
-    → IsCertified graph old side zone line flow taken cut → IsCertified graph new side zone line flow taken cut
-over_rooms graph old new side zone line flow taken cut stand certified = record {
-  within = λ arc there. elim (stand arc there) [
-    | inl same ↦ subst (λ room. flow arc ≤ room + flow (opposite_arc arc)) (sym same) (certified.within arc there)
-    | inr stands ↦ stands.within
+-- what stands over the rooms that changed certifies the same over all rooms
+over_rooms : (graph : Graph) (changed : List ℕ) (old new : Arc → ℕ) (side : Side) (zone : ℕ) (line : List Standing) (flow : Arc → ℕ) (taken cut : ℕ → ℕ) → AreSameBut graph changed old new
+    → StandOver graph changed new side flow cut → IsCertified graph old side zone line flow taken cut → IsCertified graph new side zone line flow taken cut
+over_rooms graph changed old new side zone line flow taken cut but stand certified = record {
+  within = λ arc there. elim (but arc there) [
+    | inl other ↦ (stand arc other).within
+    | inr same ↦ subst (λ room. flow arc ≤ room + flow (opposite_arc arc)) (sym same) (certified.within arc there)
   ];
   balanced = certified.balanced;
   before = certified.before;
   behind = certified.behind;
   own = certified.own;
-  closed = λ arc there spare. elim (stand arc there) [
-    | inl same ↦ certified.closed arc there (subst (λ room. flow arc < room + flow (opposite_arc arc)) same spare)
-    | inr stands ↦ stands.closed spare
+  closed = λ arc there spare. elim (but arc there) [
+    | inl other ↦ (stand arc other).closed spare
+    | inr same ↦ certified.closed arc there (subst (λ room. flow arc < room + flow (opposite_arc arc)) same spare)
   ];
 }
 
@@ -65,25 +65,24 @@ module _ (graph other : Graph) (same : other.borders ≡ graph.borders) where
   same-from Sell arc = sym (ap (λ (ends : ℕ × ℕ). ends.0) (same-ends arc.border arc.forward))
   same-from Buy arc = sym (ap (λ (ends : ℕ × ℕ). ends.1) (same-ends arc.border arc.forward))
 
-  same_stand : (old new : Arc → ℕ) (side : Side) (flow : Arc → ℕ) (cut : ℕ → ℕ) → StandOver graph old new side flow cut → StandOver other old new side flow cut
-  same_stand old new side flow cut stand = λ arc there. elim (stand arc (subst (λ borders. arc.border < length borders) same there)) [
-    | inl alike ↦ inl alike
-    | inr stands ↦ inr (record {
-      within = stands.within;
-      closed = λ spare. subst (λ to. cut to ≤ cut (lots_from other side arc)) (same-to side arc) (subst (λ from. cut (lots_to graph side arc) ≤ cut from) (same-from side arc) (stands.closed spare));
-    })
-  ]
+  same_stand : (changed : List ℕ) (room : Arc → ℕ) (side : Side) (flow : Arc → ℕ) (cut : ℕ → ℕ) → StandOver graph changed room side flow cut → StandOver other changed room side flow cut
+  same_stand changed room side flow cut stand = λ arc there. record {
+    within = (stand arc there).within;
+    closed = λ spare.
+        subst (λ to. cut to ≤ cut (lots_from other side arc)) (same-to side arc)
+        (subst (λ from. cut (lots_to graph side arc) ≤ cut from) (same-from side arc) ((stand arc there).closed spare));
+  }
 
 -- rows that rest on a line and rooms rest on others, where the certificate stands over the rooms and its cuts are moved to
 -- where they are in the new line
 pub moved_rest : (graph : Graph) (old_rooms new_rooms : List (ℕ × ℕ)) (side : Side) (old new : List LineOrder) (line : List Standing) (certificate moved : Certificate) (first last next : ℕ)
     → new ≡ map in_line line → ((order : Standing) → IsIn order line → HasZone graph order.order.zone)
     → IsReplaced old new first last next → AreBehindCuts old first last (cut_in certificate.cuts) → AreBehindCuts new first next (cut_in certificate.cuts)
-    → StandOver graph (room_of old_rooms) (room_of new_rooms) side (flow_in certificate.flow) (cut_in certificate.cuts)
+    → (changed : List ℕ) → AreSameBut graph changed (room_of old_rooms) (room_of new_rooms) → StandOver graph changed (room_of new_rooms) side (flow_in certificate.flow) (cut_in certificate.cuts)
     → ((other : ℕ) → other < zone_count graph → IsMoved first last next (cut_in certificate.cuts other) (cut_in moved.cuts other))
     → moved.flow ≡ certificate.flow → (zone : ℕ) (rows : List ViewRow)
     → RestOn (zone_count graph) graph.borders old_rooms side zone old certificate rows → RestOn (zone_count graph) graph.borders new_rooms side zone new moved rows
-moved_rest graph old_rooms new_rooms side old new line certificate moved first last next orders zones replaced old_behind new_behind stand cuts flow zone rows rest = record {
+moved_rest graph old_rooms new_rooms side old new line certificate moved first last next orders zones replaced old_behind new_behind changed but stand cuts flow zone rows rest = record {
   graph = rest.graph;
   is_graph = rest.is_graph;
   zones_are = rest.zones_are;
@@ -104,8 +103,9 @@ moved_rest graph old_rooms new_rooms side old new line certificate moved first l
     stood =
         replaced_stand rest.graph (room_of new_rooms) side zone rest.line line (flow_in certificate.flow) rest.taken (cut_in certificate.cuts) (cut_in moved.cuts) first last next rest.is_graph
         rest.has_zone rest.in_zones in_zones
-        (over_rooms rest.graph (room_of old_rooms) (room_of new_rooms) side zone rest.line (flow_in certificate.flow) rest.taken (cut_in certificate.cuts)
-        (same_stand graph rest.graph rest.borders_are (room_of old_rooms) (room_of new_rooms) side (flow_in certificate.flow) (cut_in certificate.cuts) stand) rest.certified)
+        (over_rooms rest.graph changed (room_of old_rooms) (room_of new_rooms) side zone rest.line (flow_in certificate.flow) rest.taken (cut_in certificate.cuts)
+        (λ arc there. but arc (subst (λ borders. arc.border < length borders) rest.borders_are there))
+        (same_stand graph rest.graph rest.borders_are changed (room_of new_rooms) side (flow_in certificate.flow) (cut_in certificate.cuts) stand) rest.certified)
         (subst (λ list. IsReplaced list (map in_line line) first last next) rest.orders_are (subst (λ list. IsReplaced old list first last next) orders replaced))
         (subst (λ list. AreBehindCuts list first last (cut_in certificate.cuts)) rest.orders_are old_behind) (subst (λ list. AreBehindCuts list first next (cut_in certificate.cuts)) orders new_behind)
         (λ other there. cuts other (let same = rest.zones_are in omega (arith, there, same)))
@@ -209,10 +209,10 @@ module _ (zones : ℕ) (base : Footing) (rooms : List (ℕ × ℕ)) (orders : Li
   }
     where
       here : certificate_at (set certificates count certificate) count ≡ certificate
-      here = get_or-set_same certificates count certificate (record { flow = []; cuts = [] }) there
+      here = get_or-set_same certificates count certificate no_certificate there
 
       other : (zone : ℕ) → zone ≢ count → certificate_at (set certificates count certificate) zone ≡ certificate_at certificates zone
-      other zone apart = get_or-set_other certificates count zone certificate (record { flow = []; cuts = [] }) apart
+      other zone apart = get_or-set_other certificates count zone certificate no_certificate apart
 
   -- where it stands
   pub one_moved : (count still : ℕ) (certificates : List Certificate) (certificate : Certificate) → count < length certificates → count < 64
@@ -234,52 +234,36 @@ module _ (zones : ℕ) (base : Footing) (rooms : List (ℕ × ℕ)) (orders : Li
 
 -- ---- lists made and kept
 
--- one footing after the other
-pub after_on : (zones : ℕ) (first next last : Footing) → IsFootingAfter zones first next → IsFootingAfter zones next last → IsFootingAfter zones first last
-after_on zones first next last one two = record {
-  had = λ zone held. one.had zone (two.had zone held);
-  rest = λ zone rows less held rest. two.rest zone rows less held (one.rest zone rows less (two.had zone held) rest);
+-- a footing on which fewer rows rest
+pub over_fewer : (old new : Footing) → new ≡ record old { resting = new.resting } → (graph : Graph) (side : Side) → IsOver graph side old → IsOver graph side new
+over_fewer old new same graph side over = subst (IsOver graph side) (sym same) (record {
+  side_is = over.side_is;
+  ends_are = over.ends_are;
+  sized = record { rooms_are = over.sized.rooms_are; count = over.sized.count; flows = over.sized.flows; orders_in = over.sized.orders_in };
+})
+
+-- a footing with other certificates
+pub over_listed : (old : Footing) (certificates : Vec Certificate Global) (list : List Certificate) → certificates.items ≡ list → (graph : Graph) (side : Side) → length list ≡ zone_count graph
+    → ((zone : ℕ) → HasZone graph zone → length (certificate_at list zone).flow ≡ border_count graph) → IsOver graph side old → IsOver graph side (record old { certificates = certificates })
+over_listed old certificates list are graph side size flows over = record {
+  side_is = over.side_is;
+  ends_are = over.ends_are;
+  sized = record {
+    rooms_are = over.sized.rooms_are;
+    count = ap length are ∙ size;
+    flows = λ zone less. ap (λ l. length (certificate_at l zone).flow) are ∙ flows zone less ∙ sym (ap length over.ends_are);
+    orders_in = over.sized.orders_in;
+  };
 }
 
--- a footing on which fewer rows rest
-module _ (old new : Footing) (same : new ≡ record old { resting = new.resting }) where
-  pub after_fewer : (zones : ℕ) → ((zone : ℕ) → holds new.resting zone ≡ true → holds old.resting zone ≡ true) → IsFootingAfter zones old new
-  after_fewer zones had = record { had = had; rest = λ zone rows less held rest. subst (λ f. Rest zones f zone rows) (sym same) rest }
-
-  pub over_fewer : (graph : Graph) (side : Side) → IsOver graph side old → IsOver graph side new
-  over_fewer graph side over = subst (IsOver graph side) (sym same) (record {
-    side_is = over.side_is;
-    ends_are = over.ends_are;
-    sized = record { rooms_are = over.sized.rooms_are; count = over.sized.count; flows = over.sized.flows; orders_in = over.sized.orders_in };
-  })
-
--- a footing with other certificates of a set of zones whose rows do not rest on it
-module _ (zones : ℕ) (old : Footing) (certificates : Vec Certificate Global) (list : List Certificate) (are : certificates.items ≡ list) (made : ℕ)
-    (others : (zone : ℕ) → holds made zone ≡ false → certificate_at list zone ≡ certificate_at old.certificates.items zone)
-    (apart : (zone : ℕ) → zone < zones → holds old.resting zone ≡ true → holds made zone ≡ false) where
-  abbrev new : Footing
-  new = record old { certificates = certificates }
-
-  pub after_listed : IsFootingAfter zones old new
-  after_listed = record {
-    had = λ zone held. held;
-    rest = λ zone rows less held rest.
-        subst (λ certificate. RestOn zones old.ends.items old.rooms old.side zone old.orders.items certificate rows)
-        (sym (ap (λ l. certificate_at l zone) are ∙ others zone (apart zone less held))) rest;
-  }
-
-  pub over_listed : (graph : Graph) (side : Side) → length list ≡ zone_count graph → ((zone : ℕ) → HasZone graph zone → length (certificate_at list zone).flow ≡ border_count graph)
-      → IsOver graph side old → IsOver graph side new
-  over_listed graph side size flows over = record {
-    side_is = over.side_is;
-    ends_are = over.ends_are;
-    sized = record {
-      rooms_are = over.sized.rooms_are;
-      count = ap length are ∙ size;
-      flows = λ zone less. ap (λ l. length (certificate_at l zone).flow) are ∙ flows zone less ∙ sym (ap length over.ends_are);
-      orders_in = over.sized.orders_in;
-    };
-  }
+-- a footing with other orders
+pub over_orders : (old : Footing) (orders : Vec LineOrder Global) (resting : ℕ) (graph : Graph) (side : Side) → ((order : LineOrder) → IsIn order orders.items → HasZone graph order.zone)
+    → IsOver graph side old → IsOver graph side (record old { orders = orders; resting = resting })
+over_orders old orders resting graph side zones over = record {
+  side_is = over.side_is;
+  ends_are = over.ends_are;
+  sized = record { rooms_are = over.sized.rooms_are; count = over.sized.count; flows = over.sized.flows; orders_in = zones };
+}
 
 -- what is in one set and not in another one
 only_first : (a b c : Bool) → c ≡ (a && not b) → c ≡ true → (a ≡ true) × (b ≡ false)
@@ -297,36 +281,7 @@ not_left true true c e is = e
 not_left true false c e is = absurd (true≢false (sym is))
 not_left false b c e is = e
 
--- of a set of zones those are listed whose rows do not rest on a footing once it is moved
-module _ (graph : Graph) (first fewer moved : Footing) (may : Bool) (same : fewer ≡ record first { resting = fewer.resting })
-    (had : (zone : ℕ) → holds fewer.resting zone ≡ true → (may ≡ true) × (holds first.resting zone ≡ true)) (after : IsFootingAfter (zone_count graph) fewer moved) (computed made : ℕ)
-    (are_made : (zone : ℕ) → holds made zone ≡ (holds computed zone && not (holds moved.resting zone))) where
-  pub after_moved : IsFootingAfter (zone_count graph) first moved
-  after_moved = after_on (zone_count graph) first fewer moved (after_fewer first fewer same (zone_count graph) (λ zone held. (had zone held).1)) after
-
-  pub resting_apart : (zone : ℕ) → HasZone graph zone → holds moved.resting zone ≡ true → holds made zone ≡ false
-  resting_apart zone there held = not_left (holds computed zone) (holds moved.resting zone) (holds made zone) (are_made zone) held
-
-  pub made_within : (zone : ℕ) → HasZone graph zone → holds made zone ≡ true → holds computed zone ≡ true
-  made_within zone there held = (only_first (holds computed zone) (holds moved.resting zone) (holds made zone) (are_made zone) held).0
-
-  pub kept_rests : (zone : ℕ) → HasZone graph zone → holds computed zone ≡ true → holds made zone ≡ false
-      → (may ≡ true) × (holds first.resting zone ≡ true) × ((rows : List ViewRow) → Rest (zone_count graph) first zone rows → Rest (zone_count graph) moved zone rows)
-  kept_rests zone there is none =
-      let held = in_second (holds computed zone) (holds moved.resting zone) (holds made zone) (are_made zone) is none in
-      let had_it = had zone (after.had zone held) in
-      (had_it.0, had_it.1, λ rows rest. after_moved.rest zone rows there held rest)
-
 -- rows rest on what a footing holds
-pub held_by : (zones : ℕ) (footing : Footing) (ends rooms : List (ℕ × ℕ)) (side : Side) (orders : List LineOrder) (certificate : Certificate) (zone : ℕ) (rows : List ViewRow)
-    → footing.ends.items ≡ ends → footing.rooms ≡ rooms → footing.side ≡ side → footing.orders.items ≡ orders
-    → RestOn zones footing.ends.items footing.rooms footing.side zone footing.orders.items certificate rows → RestOn zones ends rooms side zone orders certificate rows
-held_by zones footing ends rooms side orders certificate zone rows ends_are rooms_are side_is orders_are rest =
-    subst (λ list. RestOn zones ends rooms side zone list certificate rows) orders_are
-    (subst (λ s. RestOn zones ends rooms s zone footing.orders.items certificate rows) side_is
-    (subst (λ list. RestOn zones ends list footing.side zone footing.orders.items certificate rows) rooms_are
-    (subst (λ list. RestOn zones list footing.rooms footing.side zone footing.orders.items certificate rows) ends_are rest)))
-
 pub holds_it : (zones : ℕ) (footing : Footing) (ends rooms : List (ℕ × ℕ)) (side : Side) (orders : List LineOrder) (certificate : Certificate) (zone : ℕ) (rows : List ViewRow)
     → footing.ends.items ≡ ends → footing.rooms ≡ rooms → footing.side ≡ side → footing.orders.items ≡ orders
     → RestOn zones ends rooms side zone orders certificate rows → RestOn zones footing.ends.items footing.rooms footing.side zone footing.orders.items certificate rows
@@ -335,6 +290,47 @@ holds_it zones footing ends rooms side orders certificate zone rows ends_are roo
     (subst (λ s. RestOn zones footing.ends.items footing.rooms s zone orders certificate rows) (sym side_is)
     (subst (λ list. RestOn zones footing.ends.items list side zone orders certificate rows) (sym rooms_are)
     (subst (λ list. RestOn zones list rooms side zone orders certificate rows) (sym ends_are) rest)))
+
+-- of a set of zones those are listed whose rows do not rest on a footing once it is moved
+module _ (graph : Graph) (side : Side) (first fewer : Footing) (over : IsOver graph side first) (may : Bool) (same : fewer ≡ record first { resting = fewer.resting })
+    (had : (zone : ℕ) → holds fewer.resting zone ≡ true → (may ≡ true) × (holds first.resting zone ≡ true)) (still : ℕ) (rooms : List (ℕ × ℕ)) (orders : List LineOrder)
+    (moved : List Certificate) (movable : AreMovable (zone_count graph) fewer still rooms orders moved) (computed made : ℕ)
+    (are_made : (zone : ℕ) → holds made zone ≡ (holds computed zone && not (holds still zone))) where
+  still_there : (zone : ℕ) (rows : List ViewRow) → HasZone graph zone → holds still zone ≡ true → Rest (zone_count graph) first zone rows
+      → RestOn (zone_count graph) graph.borders rooms side zone orders (certificate_at moved zone) rows
+  still_there zone rows there held rest =
+      subst (λ s. RestOn (zone_count graph) graph.borders rooms s zone orders (certificate_at moved zone) rows) (ap (λ (f : Footing). f.side) same ∙ over.side_is)
+      (subst (λ ends. RestOn (zone_count graph) ends rooms fewer.side zone orders (certificate_at moved zone) rows) (ap (λ (f : Footing). f.ends.items) same ∙ over.ends_are)
+      (movable.rest zone rows there held (subst (λ f. Rest (zone_count graph) f zone rows) (sym same) rest)))
+
+  pub resting_apart : (zone : ℕ) → HasZone graph zone → holds still zone ≡ true → holds made zone ≡ false
+  resting_apart zone there held = not_left (holds computed zone) (holds still zone) (holds made zone) (are_made zone) held
+
+  pub made_within : (zone : ℕ) → HasZone graph zone → holds made zone ≡ true → holds computed zone ≡ true
+  made_within zone there held = (only_first (holds computed zone) (holds still zone) (holds made zone) (are_made zone) held).0
+
+  pub kept_rests : (zone : ℕ) → HasZone graph zone → holds computed zone ≡ true → holds made zone ≡ false
+      → (may ≡ true) × (holds first.resting zone ≡ true)
+      × ((rows : List ViewRow) → Rest (zone_count graph) first zone rows → RestOn (zone_count graph) graph.borders rooms side zone orders (certificate_at moved zone) rows)
+  kept_rests zone there is none =
+      let held = in_second (holds computed zone) (holds still zone) (holds made zone) (are_made zone) is none in
+      let had_it = had zone (movable.had zone held) in
+      (had_it.0, had_it.1, λ rows rest. still_there zone rows there held rest)
+
+  -- they rest on a footing of the new line
+  pub after_moved : (last : Footing) → IsOver graph side last → last.resting ≡ still → last.rooms ≡ rooms → last.orders.items ≡ orders
+      → ((zone : ℕ) → holds made zone ≡ false → certificate_at last.certificates.items zone ≡ certificate_at moved zone) → IsFootingAfter (zone_count graph) first last
+  after_moved last over_last resting_is rooms_are orders_are others = record {
+    had = λ zone held. (had zone (movable.had zone (still_held zone held))).1;
+    rest = λ zone rows there held rest.
+        let is = still_held zone held in
+        holds_it (zone_count graph) last graph.borders rooms side orders (certificate_at last.certificates.items zone) zone rows over_last.ends_are rooms_are over_last.side_is orders_are
+        (subst (λ certificate. RestOn (zone_count graph) graph.borders rooms side zone orders certificate rows) (sym (others zone (resting_apart zone there is)))
+        (still_there zone rows there is rest));
+  }
+    where
+      still_held : (zone : ℕ) → holds last.resting zone ≡ true → holds still zone ≡ true
+      still_held zone held = ap (λ n. holds n zone) (sym resting_is) ∙ held
 
 -- ---- what lists were made over a footing
 

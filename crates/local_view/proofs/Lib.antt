@@ -1,6 +1,7 @@
 pub mod Bits
 mod Bringing
 mod Certificates
+mod Changed
 mod Chosen
 mod Drafting
 mod Cutting

@@ -14,7 +14,7 @@ use Rattle.local_view.specs.declared.footing.Certificate.{Certificate}
 use Rattle.local_view.specs.declared.work.Work.{Work}
 use Rattle.local_view.specs.Certified.{IsCertified, rows_in_turn}
 use Rattle.local_view.specs.Cuts.{cut_by, flow_beside, given_by}
-use Rattle.local_view.specs.Footing.{RestOnWork, certificate_at}
+use Rattle.local_view.specs.Footing.{RestOnWork, certificate_at, no_certificate}
 use Rattle.local_view.specs.Moved.{cut_in, flow_in}
 use Rattle.local_view.specs.Works.{IsLineWork}
 use Rattle.local_view.proofs.Hours.{hour-graph}
@@ -64,10 +64,6 @@ rest-drafted graph board part side same_grid zone known work of_line rows certif
     ]
 
 -- ---- one zone after the other
-
--- what stands for a certificate where there is none
-abbrev pub no_certificate : Certificate
-no_certificate = record { flow = []; cuts = [] }
 
 -- so many first zones are gone along: of a set of them lists were made
 pub record AreMade (graph : Graph) (work : Work) (side : Side) (made count : ℕ) (first certificates : List Certificate) (lists : List (List ViewRow)) (resting : ℕ) : Type 0 where

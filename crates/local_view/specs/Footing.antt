@@ -35,8 +35,11 @@ pub record RestOn (zones : ℕ) (ends rooms : List (ℕ × ℕ)) (side : Side) (
   pub rows_are : rows ≡ rows_in_turn taken line
 
 -- what stands for a certificate where there is none
+abbrev pub no_certificate : Certificate
+no_certificate = record { flow = []; cuts = [] }
+
 abbrev pub certificate_at : List Certificate → (zone : ℕ) → Certificate
-certificate_at certificates zone = get_or certificates zone (record { flow = []; cuts = [] })
+certificate_at certificates zone = get_or certificates zone no_certificate
 
 -- a footing has a room and a flow for each border, a certificate for each of so many zones, and orders of these
 pub record IsSized (zones : ℕ) (footing : Footing) : Type 0 where
@@ -73,6 +76,12 @@ pub record AreFounded (zones : ℕ) (footing : Option Footing) (rows : (zone : �
 pub record IsFootingAfter (zones : ℕ) (old new : Footing) : Type 0 where
   pub had : (zone : ℕ) → holds new.resting zone ≡ true → holds old.resting zone ≡ true
   pub rest : (zone : ℕ) (rows : List ViewRow) → zone < zones → holds new.resting zone ≡ true → Rest zones old zone rows → Rest zones new zone rows
+
+-- of the rows that rest on a footing those of a set of zones rest on other orders, rooms and certificates
+pub record AreMovable (zones : ℕ) (footing : Footing) (still : ℕ) (rooms : List (ℕ × ℕ)) (orders : List LineOrder) (certificates : List Certificate) : Type 0 where
+  pub had : (zone : ℕ) → holds still zone ≡ true → holds footing.resting zone ≡ true
+  pub rest : (zone : ℕ) (rows : List ViewRow) → zone < zones → holds still zone ≡ true → Rest zones footing zone rows
+      → RestOn zones footing.ends.items rooms footing.side zone orders (certificate_at certificates zone) rows
 
 -- rows of a zone rest on the line and the rooms that lists work with
 abbrev pub RestOnWork : Graph → Work → Side → (zone : ℕ) → Certificate → List ViewRow → Type 0

@@ -2,7 +2,7 @@
 use Rattle.std.specs.Prelude.{◌≡◌, ◌⊎◌, ℕ, ◌+◌, ◌<◌, ◌≤◌, List, drop, get_or, length, map, pos, take}
 use Rattle.order_kinds.specs.declared.side.Side.{Side}
 use Rattle.zone_graph.specs.declared.route.Arc.{Arc}
-use Rattle.zone_graph.specs.Graph.{Graph, HasArc, HasZone, IsGraph}
+use Rattle.zone_graph.specs.Graph.{Graph, HasArc, HasZone, IsGraph, border_count}
 use Rattle.zone_graph.specs.Pour.{opposite_arc}
 use Rattle.zone_graph.specs.Rooms.{room_of}
 use Rattle.zone_graph.specs.Route.{IsIn}
@@ -54,10 +54,19 @@ cut_in cuts zone = get_or cuts zone 0
 abbrev pub flow_in : List (ℕ × ℕ) → Arc → ℕ
 flow_in flow arc = room_of flow arc
 
--- a certificate's flow and cuts stand over other rooms of an arc, or these are the same
-pub record StandsOver (graph : Graph) (old new : Arc → ℕ) (side : Side) (flow : Arc → ℕ) (cut : ℕ → ℕ) (arc : Arc) : Type 0 where
-  pub within : flow arc ≤ new arc + flow (opposite_arc arc)
-  pub closed : flow arc < new arc + flow (opposite_arc arc) → cut (lots_to graph side arc) ≤ cut (lots_from graph side arc)
+-- what certified rows over other rooms stands over the rooms of an arc
+pub record StandsOver (graph : Graph) (room : Arc → ℕ) (side : Side) (flow : Arc → ℕ) (cut : ℕ → ℕ) (arc : Arc) : Type 0 where
+  pub within : flow arc ≤ room arc + flow (opposite_arc arc)
+  pub closed : flow arc < room arc + flow (opposite_arc arc) → cut (lots_to graph side arc) ≤ cut (lots_from graph side arc)
 
-abbrev pub StandOver : Graph → (old new : Arc → ℕ) → Side → (flow : Arc → ℕ) → (cut : ℕ → ℕ) → Type 0
-StandOver graph old new side flow cut = (arc : Arc) → HasArc graph arc → (new arc ≡ old arc) ⊎ StandsOver graph old new side flow cut arc
+-- over those of some borders
+abbrev pub StandOver : Graph → (borders : List ℕ) → (room : Arc → ℕ) → Side → (flow : Arc → ℕ) → (cut : ℕ → ℕ) → Type 0
+StandOver graph borders room side flow cut = (arc : Arc) → IsIn arc.border borders → StandsOver graph room side flow cut arc
+
+-- these are borders
+abbrev pub AreBorders : Graph → (borders : List ℕ) → Type 0
+AreBorders graph borders = (border : ℕ) → IsIn border borders → border < border_count graph
+
+-- and all others have the same rooms
+abbrev pub AreSameBut : Graph → (borders : List ℕ) → (old new : Arc → ℕ) → Type 0
+AreSameBut graph borders old new = (arc : Arc) → HasArc graph arc → IsIn arc.border borders ⊎ (new arc ≡ old arc)

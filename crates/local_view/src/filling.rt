@@ -126,7 +126,8 @@ fn fill_over<B: Board>(
     fill_zones(alloc, grid, work, line, computed, lists, footing)
 }
 
-// Makes the lists of those zones whose rows do not rest on the footing once it is moved to the line and the rooms.
+// Makes the lists of those zones whose rows do not rest on the footing once it is moved to the line and the rooms. The orders
+// of the footing and those of the line change places.
 fn fill_zones(
     alloc: Global,
     grid: &Grid,
@@ -147,14 +148,16 @@ fn fill_zones(
     ensures footing { IsOver grid.now line.side footing.new }
     ensures after { IsFootingAfter (zone_count grid.now) footing.old footing.new }
     ensures size { length lists.new ≡ length lists.old }
-    ensures work { IsLineWork of.board of.part of.side work.new }
+    ensures work { IsWork grid.now work.new }
 {
     footing.rest_where(work.whole.fits);
     let orders = work.whole.orders.as_slice();
-    footing.move_to(grid, orders, &work.of_part)?;
-    let made = without(computed, footing.resting);
+    let still = footing.move_to(grid, orders, &work.of_part)?;
+    let made = without(computed, still);
     let certificates = footing.certificates.as_mut_slice();
     let resting = list_zones(alloc, grid, work, line, made, lists, certificates)?;
+    mem::swap(&mut footing.orders, &mut work.whole.orders);
+    footing.resting = still;
     Ok(Made {
         lists: made,
         resting,

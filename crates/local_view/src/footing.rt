@@ -5,16 +5,17 @@ ghost use Rattle.cut_proof.specs.ZoneSet.{holds};
 ghost use Rattle.market_model.specs.declared.reply.ViewRow.{ViewRow as AViewRow};
 ghost use Rattle.market_model.specs.Orders.{Standing};
 ghost use Rattle.zone_graph.specs.Graph.{HasZone, border_count, zone_count};
+ghost use Rattle.zone_graph.specs.Rooms.{room_of};
 ghost use Rattle.zone_graph.specs.Route.{IsIn};
 ghost use Rattle.local_view.specs.declared.whole.LineOrder.{LineOrder as ALineOrder};
-ghost use Rattle.local_view.specs.Footing.{IsFootingAfter, IsFoundedAt, IsOver, IsSized, IsThereOver, Rest, RestOn, certificate_at};
-ghost use Rattle.local_view.specs.Moved.{IsReplaced};
+ghost use Rattle.local_view.specs.Footing.{AreMovable, IsFoundedAt, IsOver, IsSized, IsThereOver, RestOn, certificate_at};
+ghost use Rattle.local_view.specs.Moved.{AreBorders, AreSameBut, IsReplaced};
 ghost use Rattle.local_view.specs.Whole.{in_line};
 
 use crate::draft::Flow;
 use crate::filling::{is_set, without};
 use crate::replacing::{Replaced, are_behind, find_replaced, move_cuts};
-use crate::still_standing::{are_borders, note_borders, stand_over};
+use crate::still_standing::{are_borders, find_changed, note_borders, stand_over};
 use crate::taker::is_sell;
 use crate::whole::LineOrder;
 use market_model::{NoMemory, Side};
@@ -44,6 +45,8 @@ pub(crate) struct Footing {
     pub(crate) orders: Vec<LineOrder>,
     /// What certifies the rows of each zone, where they rest on this.
     pub(crate) certificates: Vec<Certificate>,
+    // The borders whose rooms the last move changed.
+    changed: Vec<u32>,
     /// The zones whose rows rest on this. Bit z stands for zone z.
     pub(crate) resting: u64,
 }
@@ -62,6 +65,7 @@ impl Footing {
             rooms: Rooms::new(grid)?,
             orders: Vec::new(alloc),
             certificates: certificates_over(alloc, grid)?,
+            changed: Vec::new(alloc),
             resting: 0,
         })
     }
@@ -76,37 +80,34 @@ impl Footing {
         }
     }
 
-    /// Has the rows that rest on this rest on another line and on other rooms, as far as what certifies them stands there.
+    /// Moves what certifies the rows that rest on this to another line and to other rooms, and answers for which zones it stands
+    /// there. No rows rest on this then, until it has the orders of that line.
     ///
     /// # Errors
     ///
-    /// [`NoMemory`], where there is no memory for an order. No rows rest on this then.
+    /// [`NoMemory`], where there is no memory for a border.
     pub(crate) fn move_to(
         &mut self,
         grid: &Grid,
         orders: &[LineOrder],
         rooms: &Rooms,
-    ) -> Result<(), NoMemory>
+    ) -> Result<u64, NoMemory>
         ghost line: { List Standing }
         requires over { IsOver grid.now self.old.side self.old }
         requires orders { orders.now ≡ map in_line line }
         requires zones { (order : Standing) → IsIn order line → HasZone grid.now order.order.zone }
         requires rooms { length rooms.now ≡ border_count grid.now }
         ensures over { IsOver grid.now self.old.side self.new }
-        ensures orders { OnOk result (self.new.orders.items ≡ orders.now) }
+        ensures none { self.new.resting ≡ 0 }
         ensures rooms { OnOk result (self.new.rooms ≡ rooms.now) }
-        ensures after { IsFootingAfter (zone_count grid.now) self.old self.new }
+        ensures rest { IfOk result (λ still. AreMovable (zone_count grid.now) self.old still rooms.now orders.now self.new.certificates.items) }
     {
-        let still = self.still_certified(grid, orders, rooms);
+        let resting = self.resting;
         self.resting = 0;
-        self.orders.clear();
-        if self.orders.extend_from_slice(orders).is_err() {
-            self.orders.clear();
-            return Err(NoMemory);
-        }
+        find_changed(grid, &self.rooms, rooms, &mut self.changed)?;
+        let still = self.still_certified(grid, orders, rooms, resting);
         self.rooms.copy_from(rooms);
-        self.resting = still;
-        Ok(())
+        Ok(still)
     }
 
     // Whether this is of a side and over a grid of as many zones.
@@ -117,34 +118,35 @@ impl Footing {
         is_sell(self.side) == is_sell(side) && are_borders(grid, self.ends.as_slice())
     }
 
-    // Moves what certifies the rows that rest on this to another line and to other rooms, and answers for which zones it stands
-    // there.
-    fn still_certified(&mut self, grid: &Grid, orders: &[LineOrder], rooms: &Rooms) -> u64
+    // Moves what certifies the rows of a set of zones to another line and to other rooms, of which some changed, and answers for
+    // which zones it stands there.
+    fn still_certified(
+        &mut self,
+        grid: &Grid,
+        orders: &[LineOrder],
+        rooms: &Rooms,
+        resting: u64,
+    ) -> u64
         ghost line: { List Standing }
         requires over { IsOver grid.now self.old.side self.old }
         requires orders { orders.now ≡ map in_line line }
         requires zones { (order : Standing) → IsIn order line → HasZone grid.now order.order.zone }
         requires rooms { length rooms.now ≡ border_count grid.now }
+        requires changed { AreBorders grid.now self.old.changed.items }
+        requires others { AreSameBut grid.now self.old.changed.items (room_of self.old.rooms) (room_of rooms.now) }
         ensures same { self.new ≡ record self.old { certificates = self.new.certificates } }
         ensures over { IsOver grid.now self.old.side self.new }
-        ensures had { (zone : ℕ) → holds result zone ≡ true → holds self.old.resting zone ≡ true }
-        ensures rest { (zone : ℕ) (rows : List AViewRow) → HasZone grid.now zone → holds result zone ≡ true → Rest (zone_count grid.now) self.old zone rows
-            → RestOn (zone_count grid.now) self.old.ends.items rooms.now self.old.side zone orders.now (certificate_at self.new.certificates.items zone) rows }
+        ensures rest { AreMovable (zone_count grid.now) (record self.old { resting = resting }) result rooms.now orders.now self.new.certificates.items }
     {
         // It shows that the grid has no more than 64 zones.
         let _ = grid.zones();
         let old = self.orders.as_slice();
+        let changed = self.changed.as_slice();
         let replaced = find_replaced(old, orders);
         let mut still: u64 = 0;
         for (zone, certificate) in self.certificates.iter_mut().enumerate() {
-            if is_set(self.resting, zone)
-                && certificate.moves(
-                    grid,
-                    self.side,
-                    replaced,
-                    (old, &self.rooms),
-                    (orders, rooms),
-                )
+            if is_set(resting, zone)
+                && certificate.moves(grid, self.side, replaced, (old, changed), (orders, rooms))
             {
                 still |= 1 << zone;
             }
@@ -155,26 +157,27 @@ impl Footing {
 
 impl Certificate {
     // Moves the cuts from a line to another one, and answers whether what this certified there over the rooms of its part it
-    // certifies here over others. Where it does not, it certifies nothing.
+    // certifies here over others, where only those of some borders changed. Where it does not, it certifies nothing.
     fn moves(
         &mut self,
         grid: &Grid,
         side: Side,
         replaced: Replaced,
-        old: (&[LineOrder], &Rooms),
+        old: (&[LineOrder], &[u32]),
         new: (&[LineOrder], &Rooms),
     ) -> bool
         ghost line: { List Standing }
         requires few { zone_count grid.now ≤ 64 }
         requires replaced { IsReplaced old.0.now new.0.now replaced.first replaced.last replaced.next }
-        requires old_rooms { length old.1.now ≡ border_count grid.now }
+        requires changed { AreBorders grid.now old.1.now }
         requires old_zones { (order : ALineOrder) → IsIn order old.0.now → HasZone grid.now order.zone }
         requires orders { new.0.now ≡ map in_line line }
         requires zones { (order : Standing) → IsIn order line → HasZone grid.now order.order.zone }
         requires rooms { length new.1.now ≡ border_count grid.now }
         requires flow { length self.old.flow ≡ border_count grid.now }
         ensures flow { self.new.flow ≡ self.old.flow }
-        ensures rest { IsTrue result → (zone : ℕ) (rows : List AViewRow) → RestOn (zone_count grid.now) grid.now.borders old.entry.1.now side zone old.entry.0.now self.old rows
+        ensures rest { IsTrue result → (rooms : List (ℕ × ℕ)) (zone : ℕ) (rows : List AViewRow) → AreSameBut grid.now old.entry.1.now (room_of rooms) (room_of new.entry.1.now)
+            → RestOn (zone_count grid.now) grid.now.borders rooms side zone old.entry.0.now self.old rows
             → RestOn (zone_count grid.now) grid.now.borders new.entry.1.now side zone new.entry.0.now self.new rows }
     {
         are_behind(&self.cuts, old.0, replaced.first, replaced.last)

@@ -3,35 +3,71 @@
 ghost use Rattle.std.specs.Prelude.{◌≡◌, ◌⊎◌, ◌+◌, ◌<◌, ◌≤◌, IsTrue, OnOk, length};
 ghost use Rattle.zone_graph.specs.Graph.{HasArc, border_count};
 ghost use Rattle.zone_graph.specs.Rooms.{room_of};
-ghost use Rattle.zone_graph.specs.Pour.{opposite_arc};
+ghost use Rattle.zone_graph.specs.declared.route.Arc.{Arc as AnArc};
 ghost use Rattle.local_view.specs.Certified.{lots_from, lots_to};
-ghost use Rattle.local_view.specs.Moved.{StandOver, StandsOver, cut_in, flow_in};
+ghost use Rattle.local_view.specs.Moved.{AreBorders, AreSameBut, StandOver, StandsOver, cut_in, flow_in};
 
 use crate::draft::Flow;
 use market_model::{NoMemory, Side};
 use zone_graph::{Arc, Grid, MOST_ZONES, Rooms};
 
-/// Whether a flow and cuts stand over new rooms: no arc carries more than these and what flows back
-/// allow, and where they leave room to spare over an arc, the zone that lots come to over it has its
-/// cut no later than the one that they come from. Only arcs whose rooms changed are asked.
-pub(crate) fn stand_over(
+/// Lists the borders whose rooms are others in new rooms, in place of those that were listed.
+///
+/// # Errors
+///
+/// [`NoMemory`], where there is no memory for a border.
+pub(crate) fn find_changed(
     grid: &Grid,
     old: &Rooms,
+    new: &Rooms,
+    changed: &mut Vec<u32>,
+) -> Result<(), NoMemory>
+    requires old { length old.now ≡ border_count grid.now }
+    requires new { length new.now ≡ border_count grid.now }
+    ensures within { OnOk result (AreBorders grid.now changed.new.items) }
+    ensures same { OnOk result (AreSameBut grid.now changed.new.items (room_of old.now) (room_of new.now)) }
+{
+    changed.clear();
+    for border in 0..grid.borders() {
+        if !are_same(old, new, border) {
+            changed.push(border)?;
+        }
+    }
+    Ok(())
+}
+
+// Whether both arcs over a border have the same room in both.
+fn are_same(old: &Rooms, new: &Rooms, border: u32) -> bool
+    requires old { border < length old.now }
+    requires new { border < length new.now }
+    ensures { IsTrue result → (arc : AnArc) → arc.border ≡ border → room_of new.now arc ≡ room_of old.now arc }
+{
+    let forward = Arc::over(border, true);
+    let backward = Arc::over(border, false);
+    new.at(forward) == old.at(forward) && new.at(backward) == old.at(backward)
+}
+
+/// Whether a flow and cuts stand over new rooms of some borders: no arc carries more than these and
+/// what flows back allow, and where they leave room to spare over an arc, the zone that lots come to
+/// over it has its cut no later than the one that they come from.
+pub(crate) fn stand_over(
+    grid: &Grid,
+    changed: &[u32],
     new: &Rooms,
     flow: &Flow,
     cuts: &[usize; MOST_ZONES],
     side: Side,
 ) -> bool
-    requires old { length old.now ≡ border_count grid.now }
+    requires changed { AreBorders grid.now changed.now }
     requires new { length new.now ≡ border_count grid.now }
     requires flow { length flow.now ≡ border_count grid.now }
-    ensures { IsTrue result → StandOver grid.now (room_of old.now) (room_of new.now) side (flow_in flow.now) (cut_in cuts.now) }
+    ensures { IsTrue result → StandOver grid.now changed.now (room_of new.now) side (flow_in flow.now) (cut_in cuts.now) }
 {
-    for border in 0..grid.borders() {
-        let forward = Arc::over(border, true);
-        let backward = Arc::over(border, false);
-        if !stands_over(grid, old, new, flow, cuts, side, forward)
-            || !stands_over(grid, old, new, flow, cuts, side, backward)
+    for place in 0..changed.len() {
+        let forward = Arc::over(changed[place], true);
+        let backward = Arc::over(changed[place], false);
+        if !stands_over(grid, new, flow, cuts, side, forward)
+            || !stands_over(grid, new, flow, cuts, side, backward)
         {
             return false;
         }
@@ -39,10 +75,9 @@ pub(crate) fn stand_over(
     true
 }
 
-// Whether an arc has the same room in both, or the flow and cuts stand over its new one.
+// Whether the flow and cuts stand over the room of an arc.
 fn stands_over(
     grid: &Grid,
-    old: &Rooms,
     new: &Rooms,
     flow: &Flow,
     cuts: &[usize; MOST_ZONES],
@@ -50,30 +85,11 @@ fn stands_over(
     arc: Arc,
 ) -> bool
     requires arc { HasArc grid.now arc }
-    requires old { length old.now ≡ border_count grid.now }
     requires new { length new.now ≡ border_count grid.now }
     requires flow { length flow.now ≡ border_count grid.now }
-    ensures { IsTrue result → (room_of new.now arc ≡ room_of old.now arc) ⊎ StandsOver grid.now (room_of old.now) (room_of new.now) side (flow_in flow.now) (cut_in cuts.now) arc }
+    ensures { IsTrue result → StandsOver grid.now (room_of new.now) side (flow_in flow.now) (cut_in cuts.now) arc }
 {
-    let room = new.at(arc);
-    room == old.at(arc) || stands_within(grid, room, flow, cuts, side, arc)
-}
-
-// Whether the flow and cuts stand over an arc that has a room.
-fn stands_within(
-    grid: &Grid,
-    room: u32,
-    flow: &Flow,
-    cuts: &[usize; MOST_ZONES],
-    side: Side,
-    arc: Arc,
-) -> bool
-    requires arc { HasArc grid.now arc }
-    requires flow { length flow.now ≡ border_count grid.now }
-    ensures within { IsTrue result → flow_in flow.now arc ≤ room + flow_in flow.now (opposite_arc arc) }
-    ensures closed { IsTrue result → flow_in flow.now arc < room + flow_in flow.now (opposite_arc arc) → cut_in cuts.now (lots_to grid.now side arc) ≤ cut_in cuts.now (lots_from grid.now side arc) }
-{
-    let most = u64::from(room) + u64::from(flow.at(arc.opposite()));
+    let most = u64::from(new.at(arc)) + u64::from(flow.at(arc.opposite()));
     let lots = u64::from(flow.at(arc));
     lots == most || (lots < most && comes_no_later(grid, cuts, side, arc))
 }

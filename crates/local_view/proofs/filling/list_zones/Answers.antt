@@ -12,10 +12,10 @@ use Rattle.local_view.specs.Ways.{ComeTogether}
 use Rattle.local_view.specs.declared.footing.Certificate.{Certificate}
 use Rattle.local_view.specs.declared.whole.WholeLine.{WholeLine}
 use Rattle.local_view.specs.declared.work.Work.{Work}
-use Rattle.local_view.specs.Footing.{RestOn, certificate_at}
+use Rattle.local_view.specs.Footing.{RestOn, certificate_at, no_certificate}
 use Rattle.market_model.specs.declared.reply.ViewRow.{ViewRow}
 use Rattle.local_view.proofs.Bits.{holds-zero}
-use Rattle.local_view.proofs.Resting.{AreMade, no_certificate, none_made, one_made}
+use Rattle.local_view.proofs.Resting.{AreMade, none_made, one_made}
 use Rattle.local_view.proofs.Wholes.{whole_view}
 use Rattle.local_view.proofs.filling.list_zones.Goals as goal
 use Rattle.local_view.proofs.filling.list_zones.Goals.{then-is_set+in_ok-is, else-is_set}

@@ -8,4 +8,4 @@ ghost-moves g a = g.line
 
 -- the certificates so far are moved
 abbrev pub invariant-loop-zone : goal.invariant-loop-zone
-invariant-loop-zone g l = AreMoved (zone_count l.grid) l.fn.self l.rooms l.orders l.zone l.still l.certificate-items
+invariant-loop-zone g l = AreMoved (zone_count l.grid) (record l.fn.self { resting = l.resting }) l.rooms l.orders l.zone l.still l.certificate-items
