@@ -1,23 +1,13 @@
 -- What the orders of each zone give along a line, and where it ends; and the rooms over which it goes.
-use Rattle.std.specs.Prelude.{◌≡◌, ◌⊎◌, ℕ, suc, ◌+◌, ◌-◌, ◌<◌, ◌≤◌, Bool, false, List, min, slice_index_or, sum_by, take}
+use Rattle.std.specs.Prelude.{◌≡◌, ◌⊎◌, ℕ, suc, ◌-◌, ◌<◌, ◌≤◌, List, min, slice_index_or, take}
 use Rattle.order_kinds.specs.declared.side.Side.{Side}
-use Rattle.order_kinds.specs.declared.side.Side.TheVariants.{Buy, Sell}
 use Rattle.zone_graph.specs.declared.route.Arc.{Arc}
-use Rattle.zone_graph.specs.Graph.{Graph, HasArc, arcs_from, end_of, start_of}
-use Rattle.zone_graph.specs.Pour.{opposite_arc}
+use Rattle.zone_graph.specs.Graph.{Graph}
 use Rattle.zone_graph.specs.Rooms.{room_of}
 use Rattle.market_model.specs.Orders.{Standing}
 use Rattle.local_view.specs.declared.cuts.Cuts.{Cuts}
+use Rattle.local_view.specs.Certified.{lots_from, lots_to}
 use Rattle.local_view.specs.Whole.{shown_in}
-
--- the arc by which lots leave the zone that an arc leads from: those of sells go along it, those of buys come back
-abbrev pub leaving : Side → Arc → Arc
-leaving Sell arc = arc
-leaving Buy arc = opposite_arc arc
-
--- the room over which lots can leave a zone
-abbrev pub room_out : Graph → (Arc → ℕ) → Side → (zone : ℕ) → ℕ
-room_out graph room side zone = sum_by (λ arc. room (leaving side arc)) (arcs_from graph zone)
 
 -- what the orders of each zone give, and the place of its cut
 abbrev pub given_by : Cuts → (zone : ℕ) → ℕ
@@ -39,8 +29,6 @@ pub record AreAlong (line : List Standing) (cuts : Cuts) : Type 0 where
 abbrev pub IsNoLater : (place old new : ℕ) → Type 0
 IsNoLater place old new = (new ≡ old) ⊎ (new ≡ min old place)
 
--- no zone that has room left for more of a zone's lots has a later cut; and but for the zone that lots come to, what a zone
--- gives and the room that is left for its lots are together the room that there was
-pub record IsStanding (graph : Graph) (rooms left : Arc → ℕ) (side : Side) (cuts : Cuts) (zone : ℕ) (is_end : Bool) : Type 0 where
-  pub closed : (arc : Arc) → HasArc graph arc → start_of graph arc ≡ zone → 0 < left (leaving side arc) → cut_by cuts (end_of graph arc) ≤ cut_by cuts zone
-  pub passed : is_end ≡ false → given_by cuts zone + room_out graph left side zone ≡ room_out graph rooms side zone
+-- over neither arc of a border room is left for lots to come to a zone with a later cut
+abbrev pub AreClosedOver : Graph → (left : Arc → ℕ) → Side → (cut : ℕ → ℕ) → (border : ℕ) → Type 0
+AreClosedOver graph left side cut border = (arc : Arc) → arc.border ≡ border → 0 < left arc → cut (lots_to graph side arc) ≤ cut (lots_from graph side arc)

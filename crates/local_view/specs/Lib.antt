@@ -1,4 +1,5 @@
 -- What the contracts of this crate cite.
+pub mod Balances
 pub mod Boards
 pub mod Certified
 pub mod Cuts

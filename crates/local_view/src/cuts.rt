@@ -1,18 +1,20 @@
 //! Rows that a flow and cuts certify.
 
-ghost use Rattle.std.specs.Prelude.{◌≡◌, ◌+◌, ◌-◌, ◌<◌, ◌≤◌, ◌^◌, ℕ, IsTrue, List, OnOk, length, map, slice_index_or, slice_set};
-ghost use Rattle.zone_graph.specs.Graph.{HasZone, border_count};
+ghost use Rattle.std.specs.Prelude.{◌≡◌, ◌+◌, ◌<◌, ◌≤◌, ◌^◌, ℕ, IsTrue, List, OnOk, length, map, slice_index_or, slice_set};
+ghost use Rattle.zone_graph.specs.Graph.{HasArc, HasZone, border_count};
 ghost use Rattle.zone_graph.specs.Rooms.{room_of};
 ghost use Rattle.zone_graph.specs.Route.{IsIn};
 ghost use Rattle.cut_proof.specs.Carrying.{FitTogether};
 ghost use Rattle.market_model.specs.Orders.{Standing};
-ghost use Rattle.local_view.specs.Certified.{IsCertified, rows_in_turn};
-ghost use Rattle.local_view.specs.Cuts.{AreAlong, IsNoLater, IsStanding, cut_by, flow_beside, given_by, leaving};
+ghost use Rattle.local_view.specs.Certified.{IsCertified, lots_from, lots_to, rows_in_turn};
+ghost use Rattle.local_view.specs.Cuts.{AreAlong, AreClosedOver, IsNoLater, cut_by, flow_beside, given_by};
 ghost use Rattle.local_view.specs.Drafts.{AreKept};
 ghost use Rattle.local_view.specs.Whole.{all_shown, in_line, rows_shown, shown_in};
 
+use crate::balance::Balance;
 use crate::draft::Draft;
 use crate::listing::add_row;
+use crate::still_standing::comes_no_later;
 use crate::whole::{LineOrder, WholeLine};
 use market_model::{NoMemory, Side, ViewRow};
 use zone_graph::{Arc, Grid, MOST_ZONES, Rooms};
@@ -140,55 +142,41 @@ impl Cuts {
         requires kept { AreKept rooms.now left.now }
         ensures { IsTrue result → IsCertified grid.now (room_of rooms.now) side zone line (flow_beside rooms.now left.now) (given_by self.now) (cut_by self.now) }
     {
+        let mut balance = Balance::new();
+        for border in 0..grid.borders() {
+            if !self.close_over(grid, left, side, border) {
+                return false;
+            }
+            balance.add(grid, rooms, left, side, border);
+        }
         for other in 0..grid.zones() {
-            if !self.stands(grid, rooms, left, side, other, other == zone) {
+            if other != zone && !balance.gives(other, self.given[other as usize]) {
                 return false;
             }
         }
         self.places[zone as usize] == end
     }
 
-    // Whether no zone that could get more of a zone's lots has its cut later, and what the zone gives goes out of it, or it is
-    // the one that lots come to.
-    fn stands(
-        &self,
-        grid: &Grid,
-        rooms: &Rooms,
-        left: &Rooms,
-        side: Side,
-        zone: u32,
-        is_end: bool,
-    ) -> bool
-        requires zone { HasZone grid.now zone }
-        requires rooms { length rooms.now ≡ border_count grid.now }
+    // Whether over neither arc of a border room is left for lots to come to a zone with a later cut.
+    #[inline(always)]
+    fn close_over(&self, grid: &Grid, left: &Rooms, side: Side, border: u32) -> bool
+        requires border { border < border_count grid.now }
         requires size { length left.now ≡ border_count grid.now }
-        ensures { IsTrue result → IsStanding grid.now (room_of rooms.now) (room_of left.now) side self.now zone is_end }
+        ensures { IsTrue result → AreClosedOver grid.now (room_of left.now) side (cut_by self.now) border }
     {
-        let neighbours = grid.neighbours(zone);
-        let cut = self.places[zone as usize];
-        let mut lots = self.given[zone as usize];
-        let mut wide: u32 = 0;
-        for neighbour in neighbours {
-            let spare = room_out_over(left, side, neighbour.arc);
-            lots = lots.saturating_add(spare);
-            wide = wide.saturating_add(room_out_over(rooms, side, neighbour.arc));
-            if spare > 0 && self.places[neighbour.zone as usize] > cut {
-                return false;
-            }
-        }
-        is_end || (lots == wide && lots < u32::MAX)
+        let arc = Arc::over(border, true);
+        self.closes(grid, left, side, arc) && self.closes(grid, left, side, arc.opposite())
     }
-}
 
-/// The room for lots that leave the zone from which an arc leads.
-pub(crate) fn room_out_over(rooms: &Rooms, side: Side, arc: Arc) -> u32
-    requires { arc.border < length rooms.now }
-    ensures { result ≡ room_of rooms.now (leaving side arc) }
-{
-    rooms.at(match side {
-        Side::Buy => arc.opposite(),
-        Side::Sell => arc,
-    })
+    // Whether an arc has no room left, or leads lots to a zone whose cut is no later.
+    #[inline(always)]
+    fn closes(&self, grid: &Grid, left: &Rooms, side: Side, arc: Arc) -> bool
+        requires arc { HasArc grid.now arc }
+        requires size { length left.now ≡ border_count grid.now }
+        ensures { IsTrue result → 0 < room_of left.now arc → cut_by self.now (lots_to grid.now side arc) ≤ cut_by self.now (lots_from grid.now side arc) }
+    {
+        left.at(arc) == 0 || comes_no_later(grid, &self.places, side, arc)
+    }
 }
 
 // The zones of a set have their cuts at a place, where they have none before it.

@@ -2,6 +2,7 @@
 //! orders, for each part, side and zone, kept and refreshed near a change.
 #![tactic(auto)]
 
+mod balance;
 mod cuts;
 mod draft;
 mod filling;

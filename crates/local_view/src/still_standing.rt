@@ -94,8 +94,9 @@ fn stands_over(
     lots == most || (lots < most && comes_no_later(grid, cuts, side, arc))
 }
 
-// Whether the zone that lots come to over an arc has its cut no later than the one that they come from.
-fn comes_no_later(grid: &Grid, cuts: &[usize; MOST_ZONES], side: Side, arc: Arc) -> bool
+/// Whether the zone that lots come to over an arc has its cut no later than the one that they come from.
+#[inline(always)]
+pub(crate) fn comes_no_later(grid: &Grid, cuts: &[usize; MOST_ZONES], side: Side, arc: Arc) -> bool
     requires { HasArc grid.now arc }
     ensures { IsTrue result → cut_in cuts.now (lots_to grid.now side arc) ≤ cut_in cuts.now (lots_from grid.now side arc) }
 {

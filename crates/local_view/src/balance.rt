@@ -1,0 +1,97 @@
+//! What goes out of zones, and what comes in.
+
+ghost use Rattle.std.specs.Prelude.{◌≡◌, ℕ, ◌+◌, ◌<◌, ◌≤◌, ◌==◌, ◌^◌, IsTrue, length};
+ghost use Rattle.zone_graph.specs.Graph.{HasArc, border_count};
+ghost use Rattle.zone_graph.specs.Pour.{lots_if};
+ghost use Rattle.local_view.specs.Balances.{HasFew, HasPassed, into_of, out_of};
+ghost use Rattle.local_view.specs.Certified.{lots_from, lots_to};
+ghost use Rattle.local_view.specs.Cuts.{flow_beside};
+
+use market_model::Side;
+use zone_graph::{Arc, Grid, MOST_ZONES, Rooms};
+
+/// The lots that go out of each zone over some borders, and those that come in.
+#[derive(Drop)]
+pub(crate) struct Balance {
+    out: [u64; MOST_ZONES],
+    into: [u64; MOST_ZONES],
+}
+
+impl Balance {
+    /// Over no border.
+    pub(crate) fn new() -> Balance
+        ensures out { (zone : ℕ) → zone < 64 → out_of result zone ≡ 0 }
+        ensures into { (zone : ℕ) → zone < 64 → into_of result zone ≡ 0 }
+    {
+        Balance {
+            out: [0; MOST_ZONES],
+            into: [0; MOST_ZONES],
+        }
+    }
+
+    /// Whether a zone sends on what comes in and gives so many lots more.
+    pub(crate) fn gives(&self, zone: u32, lots: u32) -> bool
+        requires zone { zone < 64 }
+        requires few { HasFew self.now (2 ^ 40) }
+        ensures { IsTrue result → out_of self.now zone ≡ into_of self.now zone + lots }
+    {
+        self.out[zone as usize] == self.into[zone as usize] + u64::from(lots)
+    }
+
+    /// Adds what flows over a border, where rooms are left of others.
+    #[inline(always)]
+    pub(crate) fn add(
+        &mut self,
+        grid: &Grid,
+        rooms: &Rooms,
+        left: &Rooms,
+        side: Side,
+        border: u32,
+    )
+        requires border { border < border_count grid.now }
+        requires rooms { length rooms.now ≡ border_count grid.now }
+        requires size { length left.now ≡ border_count grid.now }
+        requires few { HasFew self.old (2 ^ 40) }
+        ensures passed { HasPassed grid.now side (flow_beside rooms.now left.now) border self.old self.new }
+        ensures few { (most : ℕ) → HasFew self.old most → HasFew self.new (most + 2 ^ 33) }
+    {
+        let arc = Arc::over(border, true);
+        self.pass_over(grid, rooms, left, side, arc);
+        self.pass_over(grid, rooms, left, side, arc.opposite());
+    }
+
+    // Adds what flows over an arc.
+    #[inline(always)]
+    fn pass_over(&mut self, grid: &Grid, rooms: &Rooms, left: &Rooms, side: Side, arc: Arc)
+        requires arc { HasArc grid.now arc }
+        requires rooms { length rooms.now ≡ border_count grid.now }
+        requires size { length left.now ≡ border_count grid.now }
+        requires few { HasFew self.old (2 ^ 41) }
+        ensures out { (zone : ℕ) → zone < 64 → out_of self.new zone ≡ out_of self.old zone + lots_if (lots_from grid.now side arc == zone) (flow_beside rooms.now left.now arc) }
+        ensures into { (zone : ℕ) → zone < 64 → into_of self.new zone ≡ into_of self.old zone + lots_if (lots_to grid.now side arc == zone) (flow_beside rooms.now left.now arc) }
+        ensures few { (most : ℕ) → HasFew self.old most → HasFew self.new (most + 2 ^ 32) }
+    {
+        let lots = rooms.at(arc).saturating_sub(left.at(arc));
+        if lots == 0 {
+            return;
+        }
+        let (start, end) = grid.ends(arc);
+        match side {
+            Side::Sell => self.pass(start, end, lots),
+            Side::Buy => self.pass(end, start, lots),
+        }
+    }
+
+    // Lots go out of a zone and come into another one.
+    #[inline(always)]
+    fn pass(&mut self, from: u32, to: u32, lots: u32)
+        requires from { from < 64 }
+        requires to { to < 64 }
+        requires few { HasFew self.old (2 ^ 41) }
+        ensures out { (zone : ℕ) → zone < 64 → out_of self.new zone ≡ out_of self.old zone + lots_if (from == zone) lots }
+        ensures into { (zone : ℕ) → zone < 64 → into_of self.new zone ≡ into_of self.old zone + lots_if (to == zone) lots }
+    {
+        self.out[from as usize] += u64::from(lots);
+        self.into[to as usize] += u64::from(lots);
+    }
+}
