@@ -22,6 +22,7 @@ use Rattle.local_view.specs.declared.footing.Certificate.{Certificate}
 use Rattle.local_view.specs.declared.footing.Footing.{Footing}
 use Rattle.local_view.specs.declared.whole.LineOrder.{LineOrder}
 use Rattle.local_view.specs.Certified.{IsCertified, lots_from, lots_to}
+use Rattle.local_view.specs.Drafts.{IsFlow}
 use Rattle.local_view.specs.Footing.{AreFilled, AreMadeOver, AreMovable, IsFootingAfter, IsFoundedAt, IsOver, Rest, RestOn, certificate_at, no_certificate}
 use Rattle.local_view.specs.Moved.{AreBehindCuts, AreSameBut, IsMoved, IsReplaced, StandOver, StandsOn, cut_in, flow_in}
 use Rattle.local_view.specs.Whole.{IsRead, in_line}
@@ -244,14 +245,15 @@ over_fewer old new same graph side over = subst (IsOver graph side) (sym same) (
 
 -- a footing with other certificates
 pub over_listed : (old : Footing) (certificates : Vec Certificate Global) (list : List Certificate) → certificates.items ≡ list → (graph : Graph) (side : Side) → length list ≡ zone_count graph
-    → ((zone : ℕ) → HasZone graph zone → length (certificate_at list zone).flow ≡ border_count graph) → IsOver graph side old → IsOver graph side (record old { certificates = certificates })
+    → ((zone : ℕ) → HasZone graph zone → IsFlow (border_count graph) (certificate_at list zone).flow) → IsOver graph side old → IsOver graph side (record old { certificates = certificates })
 over_listed old certificates list are graph side size flows over = record {
   side_is = over.side_is;
   ends_are = over.ends_are;
   sized = record {
     rooms_are = over.sized.rooms_are;
     count = ap length are ∙ size;
-    flows = λ zone less. ap (λ l. length (certificate_at l zone).flow) are ∙ flows zone less ∙ sym (ap length over.ends_are);
+    flows = λ zone less.
+        subst (λ l. IsFlow (length old.ends.items) (certificate_at l zone).flow) (sym are) (subst (λ borders. IsFlow borders (certificate_at list zone).flow) (sym (ap length over.ends_are)) (flows zone less));
     orders_in = over.sized.orders_in;
   };
 }

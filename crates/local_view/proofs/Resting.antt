@@ -1,41 +1,32 @@
 -- Rows that rest on a line and rooms, where a draft of them is certified.
-use Rattle.std.proofs.Common.{◌≡◌, ◌≢◌, ◌∙◌, ◌⊎◌, ◌+◌, ◌<◌, ◌≤◌, ℕ, Bool, true, false, IsTrue, List, [], inl, inr, get_or, get_or-set_other, get_or-set_same, length, set, refl, sym, ap, subst, arith}
-use Rattle.std.proofs.lemmas.Bool.{cases_lt, true≢false}
+use Rattle.std.proofs.Common.{◌≡◌, ◌≢◌, ◌∙◌, ◌⊎◌, ◌+◌, ◌<◌, ℕ, Bool, true, false, IsTrue, List, [], inl, inr, get_or, get_or-set_other, get_or-set_same, length, set, refl, sym, ap, subst, arith}
+use Rattle.std.proofs.lemmas.Bool.{true≢false}
 use Rattle.std.proofs.lemmas.Bool.Decides.{eqb_tells}
-use Rattle.std.proofs.lemmas.List.{get_or_past, length-set}
+use Rattle.std.proofs.lemmas.List.{length-set}
 use Rattle.cut_proof.specs.ZoneSet.{holds}
 use Rattle.order_kinds.specs.declared.side.Side.{Side}
-use Rattle.zone_graph.specs.declared.route.Arc.{Arc}
-use Rattle.zone_graph.specs.Graph.{Graph, HasArc, HasZone, IsGraph, border_count, zone_count}
-use Rattle.zone_graph.specs.Rooms.{part_of, room_of}
+use Rattle.zone_graph.specs.Graph.{Graph, HasZone, IsGraph, border_count, zone_count}
+use Rattle.zone_graph.specs.Rooms.{room_of}
 use Rattle.market_model.specs.declared.reply.ViewRow.{ViewRow}
 use Rattle.market_model.specs.Board.{BoardState, resting_line}
 use Rattle.local_view.specs.declared.footing.Certificate.{Certificate}
 use Rattle.local_view.specs.declared.work.Work.{Work}
 use Rattle.local_view.specs.Certified.{IsCertified, rows_in_turn}
 use Rattle.local_view.specs.Cuts.{cut_by, flow_beside, given_by}
+use Rattle.local_view.specs.Drafts.{IsFlow}
 use Rattle.local_view.specs.Footing.{RestOnWork, certificate_at, no_certificate}
 use Rattle.local_view.specs.Moved.{cut_in, flow_in}
 use Rattle.local_view.specs.Works.{IsLineWork}
 use Rattle.local_view.proofs.Hours.{hour-graph}
 use Rattle.local_view.proofs.Wholes.{zones-resting}
 
--- behind the last border there is no room
-none_past : (rooms : List (ℕ × ℕ)) (arc : Arc) → length rooms ≤ arc.border → room_of rooms arc ≡ 0
-none_past rooms arc past = ap (part_of arc.forward) (get_or_past rooms arc.border (0, 0) past) ∙ none arc.forward
-  where
-    none : (forward : Bool) → part_of forward (0, 0) ≡ 0
-    none true = refl
-    none false = refl
-
 -- rows of a draft that are certified rest on its line and rooms, where what certifies them is noted
 pub rest-drafted : (graph : Graph) (board : BoardState) (part : ℕ) (side : Side) → graph ≡ board.grid → (zone : ℕ) → HasZone graph zone → (work : Work) → IsLineWork board part side work
     → (rows : List ViewRow) (certificate : Certificate)
     → IsCertified graph (room_of work.of_part) side zone (resting_line board part side) (flow_beside work.of_part work.walk.rooms) (given_by work.cuts.value) (cut_by work.cuts.value)
-    → rows ≡ rows_in_turn (given_by work.cuts.value) (resting_line board part side) → length certificate.flow ≡ border_count graph
-    → ((arc : Arc) → HasArc graph arc → flow_in certificate.flow arc ≡ flow_beside work.of_part work.walk.rooms arc) → certificate.cuts ≡ work.cuts.value.places
-    → RestOnWork graph work side zone certificate rows
-rest-drafted graph board part side same_grid zone known work of_line rows certificate certified rows_are flow_size flows cuts = record {
+    → rows ≡ rows_in_turn (given_by work.cuts.value) (resting_line board part side) → certificate.flow.of ≡ work.of_part → certificate.flow.left ≡ work.walk.rooms
+    → certificate.cuts ≡ work.cuts.value.places → RestOnWork graph work side zone certificate rows
+rest-drafted graph board part side same_grid zone known work of_line rows certificate certified rows_are of left cuts = record {
   graph = graph;
   is_graph = subst IsGraph (sym same_grid) (hour-graph board.grid board.hour board.events of_line.read.is_board.stands);
   zones_are = refl;
@@ -47,28 +38,18 @@ rest-drafted graph board part side same_grid zone known work of_line rows certif
   taken = given_by work.cuts.value;
   certified =
       subst (λ (list : List ℕ). IsCertified graph (room_of work.of_part) side zone (resting_line board part side) (flow_in certificate.flow) (given_by work.cuts.value) (cut_in list)) (sym cuts)
-      (subst (λ (flow : Arc → ℕ). IsCertified graph (room_of work.of_part) side zone (resting_line board part side) flow (given_by work.cuts.value) (cut_by work.cuts.value)) (λ i. λ arc. sym (same arc) i)
-      certified);
+      (subst (λ rooms. IsCertified graph (room_of work.of_part) side zone (resting_line board part side) (flow_beside rooms certificate.flow.left) (given_by work.cuts.value) (cut_by work.cuts.value)) (sym of)
+      (subst (λ rooms. IsCertified graph (room_of work.of_part) side zone (resting_line board part side) (flow_beside work.of_part rooms) (given_by work.cuts.value) (cut_by work.cuts.value)) (sym left)
+      certified));
   rows_are = rows_are;
 }
-  where
-    size : length work.of_part ≡ border_count graph
-    size = of_line.sized.sound.of_part ∙ of_line.sized.borders ∙ ap border_count (sym same_grid)
-
-    same : (arc : Arc) → flow_in certificate.flow arc ≡ flow_beside work.of_part work.walk.rooms arc
-    same arc = elim (cases_lt arc.border (border_count graph)) [
-      | inl has ↦ flows arc has
-      | inr past ↦
-          let none = none_past work.of_part arc (omega (arith, past, size)) in
-          none_past certificate.flow arc (omega (arith, past, flow_size)) ∙ sym (omega (arith, none))
-    ]
 
 -- ---- one zone after the other
 
 -- so many first zones are gone along: of a set of them lists were made
 pub record AreMade (graph : Graph) (work : Work) (side : Side) (made count : ℕ) (first certificates : List Certificate) (lists : List (List ViewRow)) (resting : ℕ) : Type 0 where
   pub size : length certificates ≡ zone_count graph
-  pub flows : (zone : ℕ) → HasZone graph zone → length (certificate_at certificates zone).flow ≡ border_count graph
+  pub flows : (zone : ℕ) → HasZone graph zone → IsFlow (border_count graph) (certificate_at certificates zone).flow
   pub others : (zone : ℕ) → holds made zone ≡ false → certificate_at certificates zone ≡ certificate_at first zone
   pub within : (zone : ℕ) → holds resting zone ≡ true → (zone < count) × (holds made zone ≡ true)
   pub rest : (zone : ℕ) → holds resting zone ≡ true → RestOnWork graph work side zone (certificate_at certificates zone) (get_or lists zone [])
@@ -76,15 +57,16 @@ pub record AreMade (graph : Graph) (work : Work) (side : Side) (made count : ℕ
 module _ (graph : Graph) (work : Work) (side : Side) (made count : ℕ) (first certificates : List Certificate) (lists : List (List ViewRow)) (resting : ℕ)
     (are : AreMade graph work side made count first certificates lists resting) where
   -- one more, of which the list is made
-  pub one_made : (row : List ViewRow) (new : Certificate) (is : Bool) (more : ℕ) → count < length lists → HasZone graph count → holds made count ≡ true → length new.flow ≡ border_count graph
+  pub one_made : (row : List ViewRow) (new : Certificate) (is : Bool) (more : ℕ) → count < length lists → HasZone graph count → holds made count ≡ true → IsFlow (border_count graph) new.flow
       → (IsTrue is → RestOnWork graph work side count new row) → ((other : ℕ) → holds more other ≡ true → (holds resting other ≡ true) ⊎ ((other ≡ count) × (is ≡ true)))
       → AreMade graph work side made (count + 1) first (set certificates count new) (set lists count row) more
   one_made row new is more within known is_made flow rest either = record {
     size = length-set certificates count new ∙ are.size;
     flows = λ zone has. elim (eqb_tells zone count) [
       | inl same ↦
-          ap (λ (c : Certificate). length c.flow) (ap (certificate_at (set certificates count new)) same.1 ∙ get_or-set_same certificates count new no_certificate (omega (arith, known, are.size))) ∙ flow
-      | inr apart ↦ ap (λ (c : Certificate). length c.flow) (get_or-set_other certificates count zone new no_certificate apart.1) ∙ are.flows zone has
+          subst (λ (c : Certificate). IsFlow (border_count graph) c.flow)
+          (sym (ap (certificate_at (set certificates count new)) same.1 ∙ get_or-set_same certificates count new no_certificate (omega (arith, known, are.size)))) flow
+      | inr apart ↦ subst (λ (c : Certificate). IsFlow (border_count graph) c.flow) (sym (get_or-set_other certificates count zone new no_certificate apart.1)) (are.flows zone has)
     ];
     others = λ zone none. elim (eqb_tells zone count) [
       | inl same ↦ absurd (true≢false (sym is_made ∙ ap (holds made) (sym same.1) ∙ none))

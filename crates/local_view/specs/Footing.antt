@@ -15,6 +15,7 @@ use Rattle.local_view.specs.declared.work.Work.{Work}
 use Rattle.market_model.specs.Board.{BoardState}
 use Rattle.local_view.specs.Boards.{view_of}
 use Rattle.local_view.specs.Certified.{IsCertified, rows_in_turn}
+use Rattle.local_view.specs.Drafts.{IsFlow}
 use Rattle.local_view.specs.Moved.{cut_in, flow_in}
 use Rattle.local_view.specs.Rows.{HaveLists, chosen_at}
 use Rattle.local_view.specs.Whole.{in_line}
@@ -36,7 +37,7 @@ pub record RestOn (zones : ℕ) (ends rooms : List (ℕ × ℕ)) (side : Side) (
 
 -- what stands for a certificate where there is none
 abbrev pub no_certificate : Certificate
-no_certificate = record { flow = []; cuts = [] }
+no_certificate = record { flow = record { of = []; left = []; leads = []; given = [] }; cuts = [] }
 
 abbrev pub certificate_at : List Certificate → (zone : ℕ) → Certificate
 certificate_at certificates zone = get_or certificates zone no_certificate
@@ -45,7 +46,7 @@ certificate_at certificates zone = get_or certificates zone no_certificate
 pub record IsSized (zones : ℕ) (footing : Footing) : Type 0 where
   pub rooms_are : length footing.rooms ≡ length footing.ends.items
   pub count : length footing.certificates.items ≡ zones
-  pub flows : (zone : ℕ) → zone < zones → length (certificate_at footing.certificates.items zone).flow ≡ length footing.ends.items
+  pub flows : (zone : ℕ) → zone < zones → IsFlow (length footing.ends.items) (certificate_at footing.certificates.items zone).flow
   pub orders_in : (order : LineOrder) → IsIn order footing.orders.items → order.zone < zones
 
 -- a footing of a side is over a grid

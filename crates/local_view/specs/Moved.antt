@@ -4,11 +4,12 @@ use Rattle.order_kinds.specs.declared.side.Side.{Side}
 use Rattle.zone_graph.specs.declared.route.Arc.{Arc}
 use Rattle.zone_graph.specs.Graph.{Graph, HasArc, HasZone, IsGraph, border_count}
 use Rattle.zone_graph.specs.Pour.{opposite_arc}
-use Rattle.zone_graph.specs.Rooms.{room_of}
 use Rattle.zone_graph.specs.Route.{IsIn}
 use Rattle.market_model.specs.Orders.{Standing}
+use Rattle.local_view.specs.declared.draft.Flow.{Flow}
 use Rattle.local_view.specs.declared.whole.LineOrder.{LineOrder}
 use Rattle.local_view.specs.Certified.{IsCertified, lots_from, lots_to, rows_in_turn}
+use Rattle.local_view.specs.Cuts.{flow_beside}
 use Rattle.local_view.specs.Whole.{in_line}
 
 -- what stands for an order where there is none
@@ -47,12 +48,12 @@ ReplacedBehindCutsStand = (graph : Graph) (room : Arc → ℕ) (side : Side) (zo
     → ((other : ℕ) → HasZone graph other → IsMoved first last next (cut other) (moved other))
     → StandsOn graph room side zone old new flow taken moved
 
--- where the cut of a zone is, by an array, and what flows over an arc, by a list of what flows over each border
+-- where the cut of a zone is, by an array, and what flows over an arc, by the rooms that a flow leaves of others
 abbrev pub cut_in : List ℕ → (zone : ℕ) → ℕ
 cut_in cuts zone = get_or cuts zone 0
 
-abbrev pub flow_in : List (ℕ × ℕ) → Arc → ℕ
-flow_in flow arc = room_of flow arc
+abbrev pub flow_in : Flow → Arc → ℕ
+flow_in flow arc = flow_beside flow.of flow.left arc
 
 -- what certified rows over other rooms stands over the rooms of an arc
 pub record StandsOver (graph : Graph) (room : Arc → ℕ) (side : Side) (flow : Arc → ℕ) (cut : ℕ → ℕ) (arc : Arc) : Type 0 where

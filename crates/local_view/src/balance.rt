@@ -40,14 +40,7 @@ impl Balance {
 
     /// Adds what flows over a border, where rooms are left of others.
     #[inline(always)]
-    pub(crate) fn add(
-        &mut self,
-        grid: &Grid,
-        rooms: &Rooms,
-        left: &Rooms,
-        side: Side,
-        border: u32,
-    )
+    pub(crate) fn add(&mut self, grid: &Grid, rooms: &Rooms, left: &Rooms, side: Side, border: u32)
         requires border { border < border_count grid.now }
         requires rooms { length rooms.now ≡ border_count grid.now }
         requires size { length left.now ≡ border_count grid.now }

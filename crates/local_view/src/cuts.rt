@@ -22,8 +22,8 @@ use zone_graph::{Arc, Grid, MOST_ZONES, Rooms};
 /// What the orders of each zone give, one after the other, and where that ends.
 #[derive(Drop)]
 pub(crate) struct Cuts {
-    // What the orders of each zone give together, in lots.
-    given: [u32; MOST_ZONES],
+    /// What the orders of each zone give together, in lots.
+    pub(crate) given: [u32; MOST_ZONES],
     /// The place of each zone's cut: no order of the zone before it gives less than all that it shows.
     pub(crate) places: [usize; MOST_ZONES],
 }

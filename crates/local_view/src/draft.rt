@@ -1,17 +1,19 @@
 //! Drafts of what comes to a zone from the orders of a line: a flow, mended until nothing better is found. Nothing rests on
 //! a draft, since what it says is tested.
 
-ghost use Rattle.std.specs.Prelude.{◌≡◌, ◌+◌, ◌-◌, ◌<◌, ◌≤◌, ◌^◌, IfSome, length};
+ghost use Rattle.std.specs.Prelude.{◌≡◌, ◌≢◌, ◌+◌, ◌<◌, ◌≤◌, ◌^◌, IfOk, IfSome, IsTrue, length};
 ghost use Rattle.zone_graph.specs.Graph.{HasArc, border_count};
 ghost use Rattle.zone_graph.specs.Pour.{opposite_arc};
 ghost use Rattle.zone_graph.specs.Rooms.{room_of};
 ghost use Rattle.zone_graph.specs.declared.route.Arc.{Arc as AnArc};
 ghost use Rattle.cut_proof.specs.Carrying.{FitTogether};
-ghost use Rattle.local_view.specs.Drafts.{AreKept};
+ghost use Rattle.local_view.specs.Drafts.{AreKept, IsFlow, IsKept};
+ghost use Rattle.local_view.specs.Moved.{flow_in};
 
 use crate::filling::is_set;
+use crate::still_standing::are_same;
 use market_model::Side;
-use zone_graph::{Arc, Grid, MOST_ZONES, Rooms};
+use zone_graph::{Arc, Grid, MOST_ZONES, NoMemory, Rooms};
 
 // Over how many ways lots are sent before the rest of them is given up.
 const MOST_WAYS: usize = 64;
@@ -19,8 +21,61 @@ const MOST_WAYS: usize = 64;
 // More lots than these are taken for less than none.
 const MOST_LOTS: u32 = u32::MAX / 2;
 
-/// What flows over each arc, in lots: a number for each, as rooms have.
-pub(crate) type Flow = Rooms;
+/// What flows to a zone: the rooms that it flows over and what it leaves of them, and what the draft of it knew. What flows over
+/// an arc is its room less what is left of that.
+#[derive(Drop)]
+pub(crate) struct Flow {
+    // The rooms.
+    of: Rooms,
+    // What is left of them.
+    left: Rooms,
+    // For each zone those that it can pass more lots on to.
+    leads: [u64; MOST_ZONES],
+    // What each zone gives.
+    given: [u32; MOST_ZONES],
+}
+
+impl Flow {
+    /// No flow, over no rooms of a grid.
+    pub(crate) fn over(grid: &Grid) -> Result<Flow, NoMemory>
+        ensures { IfOk result (IsFlow (border_count grid.now)) }
+    {
+        Ok(Flow {
+            of: Rooms::new(grid)?,
+            left: Rooms::new(grid)?,
+            leads: [0; MOST_ZONES],
+            given: [0; MOST_ZONES],
+        })
+    }
+
+    /// What flows over an arc.
+    pub(crate) fn at(&self, arc: Arc) -> u32
+        requires of { arc.border < length self.now.of }
+        requires left { arc.border < length self.now.left }
+        ensures { result ≡ flow_in self.now arc }
+    {
+        self.of.at(arc).saturating_sub(self.left.at(arc))
+    }
+
+    /// Notes what a draft leaves of the rooms of a part, and what each zone gives.
+    pub(crate) fn note(
+        &mut self,
+        of_part: &Rooms,
+        left: &Rooms,
+        draft: &Draft,
+        given: &[u32; MOST_ZONES],
+    )
+        requires of { length self.old.of ≡ length of_part.now }
+        requires left { length self.old.left ≡ length left.now }
+        ensures of { self.new.of ≡ of_part.now }
+        ensures left { self.new.left ≡ left.now }
+    {
+        self.of.copy_from(of_part);
+        self.left.copy_from(left);
+        self.leads = draft.leads;
+        self.given = *given;
+    }
+}
 
 /// A draft of what comes to a zone from the orders of a side. The rooms that its flow leaves stand beside it. Lots that sells
 /// give go along arcs, those that buys give come against them. Of a set of zones bit z stands for zone z.
@@ -67,7 +122,7 @@ impl Draft {
         requires size { length of_part.now ≡ border_count grid.now }
         requires fit { FitTogether grid.now (room_of of_part.now) }
         requires left { length left.old ≡ border_count grid.now }
-        requires flow { length flow.now ≡ border_count grid.now }
+        requires flow { IsFlow (border_count grid.now) flow.now }
         ensures left { length left.new ≡ border_count grid.now }
         ensures kept { AreKept of_part.now left.new }
     {
@@ -79,34 +134,54 @@ impl Draft {
     }
 
     // Tells the rooms that a flow leaves of others, as far as these are wide enough for it, what goes out of each zone beyond
-    // what comes in, and to which zones more could go.
+    // what comes in, and to which zones more could go: as the flow has it, but for the borders whose rooms are others.
     fn lay(&mut self, grid: &Grid, of_part: &Rooms, left: &mut Rooms, flow: &Flow)
         requires size { length of_part.now ≡ border_count grid.now }
         requires fit { FitTogether grid.now (room_of of_part.now) }
         requires left { length left.old ≡ border_count grid.now }
-        requires flow { length flow.now ≡ border_count grid.now }
+        requires flow { IsFlow (border_count grid.now) flow.now }
         ensures left { length left.new ≡ border_count grid.now }
         ensures kept { AreKept of_part.now left.new }
     {
-        left.copy_from(of_part);
-        self.leads = [0; MOST_ZONES];
-        self.given = [0; MOST_ZONES];
+        left.copy_from(&flow.left);
+        self.leads = flow.leads;
+        self.given = flow.given;
         for border in 0..grid.borders() {
-            let arc = Arc {
-                border,
-                forward: true,
-            };
-            let (out, back) = (flow.at(arc), flow.at(arc.opposite()));
-            let (forward, backward) = (of_part.at(arc), of_part.at(arc.opposite()));
-            let (out, back) = (out.min(forward), back.min(backward));
-            let (forward, backward) = (forward - out + back, backward - back + out);
-            left.set(arc, forward);
-            left.set(arc.opposite(), backward);
-            self.flow_over(grid, arc, out.wrapping_sub(back), forward > 0, backward > 0);
+            self.lay_over(grid, of_part, left, flow, border);
         }
     }
 
-    // Notes what flows over a border, and in which directions more could.
+    // Tells the rooms that a flow leaves over a border, where it is not over these or does not leave as much of them together.
+    fn lay_over(&mut self, grid: &Grid, of_part: &Rooms, left: &mut Rooms, flow: &Flow, border: u32)
+        requires border { border < border_count grid.now }
+        requires size { length of_part.now ≡ border_count grid.now }
+        requires fit { FitTogether grid.now (room_of of_part.now) }
+        requires left { length left.old ≡ border_count grid.now }
+        requires flow { IsFlow (border_count grid.now) flow.now }
+        ensures left { length left.new ≡ border_count grid.now }
+        ensures kept { (arc : AnArc) → (arc.border ≢ border → IsKept of_part.now left.old arc) → IsKept of_part.now left.new arc }
+    {
+        if is_laid(of_part, &flow.of, left, border) {
+            return;
+        }
+        let arc = Arc {
+            border,
+            forward: true,
+        };
+        let opposite = arc.opposite();
+        let (old_out, old_back) = (flow.at(arc), flow.at(opposite));
+        let (forward, backward) = (of_part.at(arc), of_part.at(opposite));
+        let (out, back) = (old_out.min(forward), old_back.min(backward));
+        let (forward, backward) = (forward - out + back, backward - back + out);
+        left.set(arc, forward);
+        left.set(opposite, backward);
+        let more = out
+            .wrapping_sub(back)
+            .wrapping_sub(old_out.wrapping_sub(old_back));
+        self.flow_over(grid, arc, more, forward > 0, backward > 0);
+    }
+
+    // Notes that more flows over a border, and in which directions more could.
     fn flow_over(&mut self, grid: &Grid, arc: Arc, lots: u32, forward: bool, backward: bool)
         requires { HasArc grid.now arc }
     {
@@ -119,11 +194,18 @@ impl Draft {
         prove!(from < zones && to < zones);
         self.given[from as usize] = self.given[from as usize].wrapping_add(lots);
         self.given[to as usize] = self.given[to as usize].wrapping_sub(lots);
-        if forward {
+        self.lead(from, to, forward);
+        self.lead(to, from, backward);
+    }
+
+    // Notes whether a zone can pass more lots on to another one.
+    fn lead(&mut self, from: u32, to: u32, can: bool)
+        requires { from < 64 }
+    {
+        if can {
             self.leads[from as usize] |= bit(to);
-        }
-        if backward {
-            self.leads[to as usize] |= bit(from);
+        } else {
+            self.leads[from as usize] &= !bit(to);
         }
     }
 
@@ -410,21 +492,16 @@ fn bit(zone: u32) -> u64 {
     if zone < 64 { 1 << zone } else { 0 }
 }
 
-/// Writes down what flows over each arc, where rooms are left of others.
-pub(crate) fn note(grid: &Grid, of_part: &Rooms, left: &Rooms, flow: &mut Flow)
-    requires size { length of_part.now ≡ border_count grid.now }
-    requires left { length left.now ≡ border_count grid.now }
-    requires flow { length flow.old ≡ border_count grid.now }
-    ensures size { length flow.new ≡ border_count grid.now }
-    ensures flow { (arc : AnArc) → HasArc grid.now arc → room_of flow.new arc ≡ room_of of_part.now arc - room_of left.now arc }
+// Whether a flow is over the rooms that a border has in a part, and what it leaves of them is as much together.
+fn is_laid(of_part: &Rooms, of: &Rooms, left: &Rooms, border: u32) -> bool
+    requires size { border < length of_part.now }
+    requires of { border < length of.now }
+    requires left { border < length left.now }
+    ensures { IsTrue result → (arc : AnArc) → arc.border ≡ border → IsKept of_part.now left.now arc }
 {
-    for border in 0..grid.borders() {
-        let arc = Arc {
-            border,
-            forward: true,
-        };
-        let back = arc.opposite();
-        flow.set(arc, of_part.at(arc).saturating_sub(left.at(arc)));
-        flow.set(back, of_part.at(back).saturating_sub(left.at(back)));
-    }
+    let forward = Arc::over(border, true);
+    let backward = Arc::over(border, false);
+    let all = u64::from(of_part.at(forward)) + u64::from(of_part.at(backward));
+    all == u64::from(left.at(forward)) + u64::from(left.at(backward))
+        && are_same(of, of_part, border)
 }

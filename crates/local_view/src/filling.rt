@@ -4,17 +4,15 @@ ghost use Rattle.std.specs.Prelude.{◌≡◌, ◌⊎◌, ◌&&◌, not, ◌<◌
 ghost use Rattle.cut_proof.specs.ZoneSet.{holds};
 ghost use Rattle.market_model.specs.declared.reply.ViewRow.{ViewRow as AViewRow};
 ghost use Rattle.market_model.specs.Board.{BoardState, resting_line};
-ghost use Rattle.zone_graph.specs.declared.route.Arc.{Arc as AnArc};
-ghost use Rattle.zone_graph.specs.Graph.{HasArc, HasZone, border_count, zone_count};
+ghost use Rattle.zone_graph.specs.Graph.{HasZone, border_count, zone_count};
 ghost use Rattle.local_view.specs.Certified.{rows_in_turn};
-ghost use Rattle.local_view.specs.Cuts.{AreAlong, flow_beside, given_by};
+ghost use Rattle.local_view.specs.Cuts.{AreAlong, given_by};
 ghost use Rattle.local_view.specs.Footing.{AreFilled, AreListed, AreMadeOver, IsFootingAfter, IsFoundedAt, IsOver, IsSized, RestOnWork, certificate_at};
-ghost use Rattle.local_view.specs.Moved.{flow_in};
 ghost use Rattle.local_view.specs.Boards.{view_of};
-ghost use Rattle.local_view.specs.Drafts.{AreKept};
+ghost use Rattle.local_view.specs.Drafts.{AreKept, IsFlow};
 ghost use Rattle.local_view.specs.Works.{AreComputed, BoardLine, IsLineWork, IsSound, IsWork};
 
-use crate::draft::{Flow, note};
+use crate::draft::Flow;
 use crate::footing::{Certificate, Footing, make_footing};
 use crate::listing::{Line, list_rows};
 use crate::work::{Work, make_work};
@@ -209,13 +207,13 @@ fn list_zones(
     requires work { IsLineWork board line.part line.side work.old }
     requires zones { length lists.old ≡ zone_count grid.now }
     requires certificates { length certificates.old ≡ zone_count grid.now }
-    requires flows { (zone : ℕ) → HasZone grid.now zone → length (certificate_at certificates.old zone).flow ≡ border_count grid.now }
+    requires flows { (zone : ℕ) → HasZone grid.now zone → IsFlow (border_count grid.now) (certificate_at certificates.old zone).flow }
     ensures lists { OnOk result (AreComputed made board line.part line.side lists.new) }
     ensures size { length lists.new ≡ length lists.old }
     ensures work { IsLineWork board line.part line.side work.new }
     ensures same { (work.new.of_part ≡ work.old.of_part) × (work.new.whole ≡ work.old.whole) }
     ensures certificates { length certificates.new ≡ zone_count grid.now }
-    ensures flows { (zone : ℕ) → HasZone grid.now zone → length (certificate_at certificates.new zone).flow ≡ border_count grid.now }
+    ensures flows { (zone : ℕ) → HasZone grid.now zone → IsFlow (border_count grid.now) (certificate_at certificates.new zone).flow }
     ensures others { (zone : ℕ) → holds made zone ≡ false → certificate_at certificates.new zone ≡ certificate_at certificates.old zone }
     ensures rest { IfOk result (λ resting. AreListed grid.now work.new line.side made resting certificates.new lists.new) }
 {
@@ -274,11 +272,11 @@ fn make_list(
     requires zone { HasZone grid.now zone }
     requires whole { IsTrue is_whole → work.old.whole.rows.items ≡ view_of board line.part line.side zone }
     requires work { IsLineWork board line.part line.side work.old }
-    requires flow { length certificate.old.flow ≡ border_count grid.now }
+    requires flow { IsFlow (border_count grid.now) certificate.old.flow }
     ensures list { OnOk result (list.new ≡ view_of board line.part line.side zone) }
     ensures work { IsLineWork board line.part line.side work.new }
     ensures same { (work.new.of_part ≡ work.old.of_part) × (work.new.whole ≡ work.old.whole) }
-    ensures flow { length certificate.new.flow ≡ border_count grid.now }
+    ensures flow { IsFlow (border_count grid.now) certificate.new.flow }
     ensures rest { IfOk result (λ is. IsTrue is → RestOnWork grid.now work.new line.side zone certificate.new list.new) }
 {
     if is_whole {
@@ -311,7 +309,7 @@ pub(crate) fn is_set(bits: u64, place: usize) -> bool
 }
 
 // Makes the rows of a zone, in place of those that were there: those of a draft, where they are certified, and else those that
-// a walk along the line finds. The draft begins with the flow that is noted, and its own is noted then.
+// a walk along the line finds. The draft begins with the flow that is noted, and its own is noted where they are certified.
 fn fill_list(
     alloc: Global,
     grid: &Grid,
@@ -325,11 +323,11 @@ fn fill_list(
     requires grid { grid.now ≡ board.grid }
     requires zone { HasZone grid.now zone }
     requires work { IsLineWork board line.part line.side work.old }
-    requires flow { length certificate.old.flow ≡ border_count grid.now }
+    requires flow { IsFlow (border_count grid.now) certificate.old.flow }
     ensures list { OnOk result (list.new ≡ view_of board line.part line.side zone) }
     ensures work { IsLineWork board line.part line.side work.new }
     ensures same { (work.new.of_part ≡ work.old.of_part) × (work.new.whole ≡ work.old.whole) }
-    ensures flow { length certificate.new.flow ≡ border_count grid.now }
+    ensures flow { IsFlow (border_count grid.now) certificate.new.flow }
     ensures rest { IfOk result (λ is. IsTrue is → RestOnWork grid.now work.new line.side zone certificate.new list.new) }
 {
     let mut rows = mem::replace(list, Rows::new(alloc)).into_vec();
@@ -346,8 +344,6 @@ fn fill_list(
         zone,
         &mut rows,
     )?;
-    let flow = &mut certificate.flow;
-    note(grid, &work.of_part, &work.walk.rooms, flow);
     *list = Rows::from(rows);
     Ok(false)
 }
@@ -366,11 +362,11 @@ fn list_certified(
     requires zone { HasZone grid.now zone }
     requires side { line.side ≡ of.side }
     requires work { IsLineWork of.board of.part of.side work.old }
-    requires flow { length certificate.old.flow ≡ border_count grid.now }
+    requires flow { IsFlow (border_count grid.now) certificate.old.flow }
     ensures rows { IfOk result (λ is. IsTrue is → rows.new.items ≡ view_of of.board of.part of.side zone) }
     ensures work { IsLineWork of.board of.part of.side work.new }
     ensures same { (work.new.of_part ≡ work.old.of_part) × (work.new.whole ≡ work.old.whole) }
-    ensures flow { length certificate.new.flow ≡ border_count grid.now }
+    ensures flow { IsFlow (border_count grid.now) certificate.new.flow }
     ensures rest { IfOk result (λ is. IsTrue is → RestOnWork grid.now work.new line.side zone certificate.new rows.new.items) }
 {
     if !work.whole.fits {
@@ -384,19 +380,22 @@ fn list_certified(
     {
         return Ok(false);
     }
-    note_draft(grid, work, certificate);
+    note_draft(work, certificate);
     Ok(true)
 }
 
 // Notes the flow and the cuts of a draft.
-fn note_draft(grid: &Grid, work: &Work, certificate: &mut Certificate)
-    requires work { IsWork grid.now work.now }
-    requires flow { length certificate.old.flow ≡ border_count grid.now }
-    ensures flow { length certificate.new.flow ≡ border_count grid.now }
-    ensures flows { (arc : AnArc) → HasArc grid.now arc → flow_in certificate.new.flow arc ≡ flow_beside work.now.of_part work.now.walk.rooms arc }
+fn note_draft(work: &Work, certificate: &mut Certificate)
+    requires of { length certificate.old.flow.of ≡ length work.now.of_part }
+    requires left { length certificate.old.flow.left ≡ length work.now.walk.rooms }
+    ensures of { certificate.new.flow.of ≡ work.now.of_part }
+    ensures left { certificate.new.flow.left ≡ work.now.walk.rooms }
     ensures cuts { certificate.new.cuts ≡ work.now.cuts.value.places }
 {
-    note(grid, &work.of_part, &work.walk.rooms, &mut certificate.flow);
+    let (rooms, left) = (&work.of_part, &work.walk.rooms);
+    certificate
+        .flow
+        .note(rooms, left, &work.draft, &work.cuts.given);
     certificate.cuts = work.cuts.places;
 }
 
@@ -413,7 +412,7 @@ fn draft_rows(
     requires grid { grid.now ≡ of.board.grid }
     requires fits { work.old.whole.fits ≡ true }
     requires work { IsLineWork of.board of.part of.side work.old }
-    requires flow { length flow.now ≡ border_count grid.now }
+    requires flow { IsFlow (border_count grid.now) flow.now }
     ensures along { OnOk result (AreAlong (resting_line of.board of.part of.side) work.new.cuts.value) }
     ensures rows { OnOk result (rows.new.items ≡ rows_in_turn (given_by work.new.cuts.value) (resting_line of.board of.part of.side)) }
     ensures kept { AreKept work.new.of_part work.new.walk.rooms }

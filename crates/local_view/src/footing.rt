@@ -8,6 +8,7 @@ ghost use Rattle.zone_graph.specs.Graph.{HasZone, border_count, zone_count};
 ghost use Rattle.zone_graph.specs.Rooms.{room_of};
 ghost use Rattle.zone_graph.specs.Route.{IsIn};
 ghost use Rattle.local_view.specs.declared.whole.LineOrder.{LineOrder as ALineOrder};
+ghost use Rattle.local_view.specs.Drafts.{IsFlow};
 ghost use Rattle.local_view.specs.Footing.{AreMovable, IsFoundedAt, IsOver, IsSized, IsThereOver, RestOn, certificate_at};
 ghost use Rattle.local_view.specs.Moved.{AreBorders, AreSameBut, IsReplaced};
 ghost use Rattle.local_view.specs.Whole.{in_line};
@@ -25,7 +26,7 @@ use zone_graph::{Grid, MOST_ZONES, Rooms};
 /// What certifies the rows of a zone.
 #[derive(Drop)]
 pub(crate) struct Certificate {
-    /// What flows to it over each arc.
+    /// What flows to it.
     pub(crate) flow: Flow,
     /// The place in the line of each zone's cut.
     pub(crate) cuts: [usize; MOST_ZONES],
@@ -174,7 +175,7 @@ impl Certificate {
         requires orders { new.0.now ≡ map in_line line }
         requires zones { (order : Standing) → IsIn order line → HasZone grid.now order.order.zone }
         requires rooms { length new.1.now ≡ border_count grid.now }
-        requires flow { length self.old.flow ≡ border_count grid.now }
+        requires flow { IsFlow (border_count grid.now) self.old.flow }
         ensures flow { self.new.flow ≡ self.old.flow }
         ensures rest { IsTrue result → (rooms : List (ℕ × ℕ)) (zone : ℕ) (rows : List AViewRow) → AreSameBut grid.now old.entry.1.now (room_of rooms) (room_of new.entry.1.now)
             → RestOn (zone_count grid.now) grid.now.borders rooms side zone old.entry.0.now self.old rows
@@ -190,13 +191,13 @@ impl Certificate {
 // Certificates of no rows, for each zone of a grid.
 fn certificates_over(alloc: Global, grid: &Grid) -> Result<Vec<Certificate>, NoMemory>
     ensures count { IfOk result (λ certificates. length certificates.items ≡ zone_count grid.now) }
-    ensures flows { IfOk result (λ certificates. (zone : ℕ) → HasZone grid.now zone → length (certificate_at certificates.items zone).flow ≡ border_count grid.now) }
+    ensures flows { IfOk result (λ certificates. (zone : ℕ) → HasZone grid.now zone → IsFlow (border_count grid.now) (certificate_at certificates.items zone).flow) }
 {
     let zones = grid.zones();
     let mut made = Vec::with_capacity(alloc, zones as usize)?;
     for _ in 0..zones {
         made.push(Certificate {
-            flow: Rooms::new(grid)?,
+            flow: Flow::over(grid)?,
             cuts: [0; MOST_ZONES],
         })?;
     }

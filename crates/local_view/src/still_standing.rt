@@ -5,6 +5,7 @@ ghost use Rattle.zone_graph.specs.Graph.{HasArc, border_count};
 ghost use Rattle.zone_graph.specs.Rooms.{room_of};
 ghost use Rattle.zone_graph.specs.declared.route.Arc.{Arc as AnArc};
 ghost use Rattle.local_view.specs.Certified.{lots_from, lots_to};
+ghost use Rattle.local_view.specs.Drafts.{IsFlow};
 ghost use Rattle.local_view.specs.Moved.{AreBorders, AreSameBut, StandOver, StandsOver, cut_in, flow_in};
 
 use crate::draft::Flow;
@@ -36,8 +37,8 @@ pub(crate) fn find_changed(
     Ok(())
 }
 
-// Whether both arcs over a border have the same room in both.
-fn are_same(old: &Rooms, new: &Rooms, border: u32) -> bool
+/// Whether both arcs over a border have the same room in both.
+pub(crate) fn are_same(old: &Rooms, new: &Rooms, border: u32) -> bool
     requires old { border < length old.now }
     requires new { border < length new.now }
     ensures { IsTrue result → (arc : AnArc) → arc.border ≡ border → room_of new.now arc ≡ room_of old.now arc }
@@ -60,7 +61,7 @@ pub(crate) fn stand_over(
 ) -> bool
     requires changed { AreBorders grid.now changed.now }
     requires new { length new.now ≡ border_count grid.now }
-    requires flow { length flow.now ≡ border_count grid.now }
+    requires flow { IsFlow (border_count grid.now) flow.now }
     ensures { IsTrue result → StandOver grid.now changed.now (room_of new.now) side (flow_in flow.now) (cut_in cuts.now) }
 {
     for place in 0..changed.len() {
@@ -86,7 +87,7 @@ fn stands_over(
 ) -> bool
     requires arc { HasArc grid.now arc }
     requires new { length new.now ≡ border_count grid.now }
-    requires flow { length flow.now ≡ border_count grid.now }
+    requires flow { IsFlow (border_count grid.now) flow.now }
     ensures { IsTrue result → StandsOver grid.now (room_of new.now) side (flow_in flow.now) (cut_in cuts.now) arc }
 {
     let most = u64::from(new.at(arc)) + u64::from(flow.at(arc.opposite()));

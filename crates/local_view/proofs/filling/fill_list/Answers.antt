@@ -56,6 +56,6 @@ returns g c =
         read = work.read;
       };
       same = c.list_certified.ensures.same;
-      flow = c.note.ensures.size;
+      flow = c.list_certified.ensures.flow;
       rest = λ is. absurd (true≢false (sym is));
     }

@@ -5,13 +5,14 @@ use Rattle.std.proofs.lemmas.List.{get_or-set_other, get_or-set_same, get_or_def
 use Rattle.cut_proof.specs.ZoneSet.{holds}
 use Rattle.local_view.specs.Boards.{view_of}
 use Rattle.local_view.specs.Works.{IsLineWork}
-use Rattle.zone_graph.specs.Graph.{Graph, HasZone, zone_count}
+use Rattle.zone_graph.specs.Graph.{Graph, HasZone, border_count, zone_count}
 use Rattle.zone_graph.specs.Grid.{IsGrid}
 use Rattle.zone_graph.specs.Rooms.{room_of}
 use Rattle.local_view.specs.Ways.{ComeTogether}
 use Rattle.local_view.specs.declared.footing.Certificate.{Certificate}
 use Rattle.local_view.specs.declared.whole.WholeLine.{WholeLine}
 use Rattle.local_view.specs.declared.work.Work.{Work}
+use Rattle.local_view.specs.Drafts.{IsFlow}
 use Rattle.local_view.specs.Footing.{RestOn, certificate_at, no_certificate}
 use Rattle.market_model.specs.declared.reply.ViewRow.{ViewRow}
 use Rattle.local_view.proofs.Bits.{holds-zero}
@@ -41,10 +42,10 @@ make_list-requires g c =
               (c.comes_to-whole.ensures.together c.loop-zone.zone there holds)),
           (
             c.loop-zone.invariant.work,
-            ap (λ (certificate : Certificate). length certificate.flow)
-                (get_or_default c.loop-zone.certificates c.loop-zone.zone c.index-certificates-zone.result no_certificate
-                (let size = c.loop-zone.invariant.made.size in omega (arith, size, there)))
-                ∙ c.loop-zone.invariant.made.flows c.loop-zone.zone there,
+            subst (λ (certificate : Certificate). IsFlow (border_count c.args.grid.now) certificate.flow)
+                (sym (get_or_default c.loop-zone.certificates c.loop-zone.zone c.index-certificates-zone.result no_certificate
+                (let size = c.loop-zone.invariant.made.size in omega (arith, size, there))))
+                (c.loop-zone.invariant.made.flows c.loop-zone.zone there),
           ),
         ),
       ),

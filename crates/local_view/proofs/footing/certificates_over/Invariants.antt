@@ -1,5 +1,6 @@
 use Rattle.std.proofs.Common.{◌≡◌, ◌<◌, ℕ, length}
 use Rattle.zone_graph.specs.Graph.{border_count}
+use Rattle.local_view.specs.Drafts.{IsFlow}
 use Rattle.local_view.specs.Footing.{certificate_at}
 use Rattle.local_view.proofs.footing.certificates_over.Given as goal
 
@@ -7,5 +8,5 @@ use Rattle.local_view.proofs.footing.certificates_over.Given as goal
 abbrev pub invariant-loop : goal.invariant-loop
 invariant-loop l = record {
   count : length l.made.items ≡ l.counter;
-  flows : (zone : ℕ) → zone < l.counter → length (certificate_at l.made.items zone).flow ≡ border_count l.grid;
+  flows : (zone : ℕ) → zone < l.counter → IsFlow (border_count l.grid) (certificate_at l.made.items zone).flow;
 }

@@ -1,6 +1,5 @@
-use Rattle.std.proofs.Common.{◌≡◌, ◌≢◌, ◌∙◌, ◌*◌, ◌^◌, below_more, eqb-true, sym, arith, subst}
+use Rattle.std.proofs.Common.{◌≡◌, ◌∙◌, ◌*◌, ◌^◌, below_more, eqb-true, sym, arith, subst}
 use Rattle.zone_graph.specs.Graph.{border_count}
-use Rattle.local_view.specs.Balances.{HasFew}
 use Rattle.local_view.specs.Cuts.{cut_by, flow_beside}
 use Rattle.local_view.proofs.Standing.{IsBalanced, balanced-more, certified}
 use Rattle.local_view.proofs.cuts.Cuts.are_certified.Goals as goal

@@ -1,16 +1,17 @@
-use Rattle.std.proofs.Common.{◌∙◌, ◌+◌, ◌-◌, true, ap, arith}
-use Rattle.zone_graph.specs.declared.route.Arc.{Arc}
-use Rattle.zone_graph.specs.Rooms.{room_of}
-use Rattle.local_view.proofs.Drafting.{kept-both}
+use Rattle.std.proofs.Common.{inl, inr, arith}
+use Rattle.std.proofs.lemmas.Bool.{cases_lt}
+use Rattle.zone_graph.specs.Graph.{border_count}
+use Rattle.local_view.proofs.Drafting.{kept_past}
 use Rattle.local_view.proofs.draft.Draft.lay.Goals as goal
 
 pub loop-border-preserved : goal.loop-border-preserved
-loop-border-preserved c =
-    let arc : Arc = record { border = c.loop-border.border; forward = true } in
-    record {
-      size = c.set-in-loop-border.ensures.size ∙ c.set.ensures.size ∙ c.loop-border.invariant.size;
-      kept = kept-both c.args.of_part.now c.loop-border.left c.set.new.self c.set-in-loop-border.new.self arc c.opposite-in-loop-border-2.result
-          ((c.at-forward.result - c.min-out.result) + c.min-back.result) ((c.at-backward.result - c.min-back.result) + c.min-out.result)
-          c.set.ensures.rooms c.set-in-loop-border.ensures.rooms c.opposite-in-loop-border-2.ensures c.loop-border.invariant.kept
-          (omega (arith, c.at-forward.ensures, c.at-backward.ensures, ap (room_of c.args.of_part.now) c.opposite-in-loop-border.ensures, c.min-out.ensures, c.min-back.ensures));
-    }
+loop-border-preserved c = record {
+  size = c.lay_over.ensures.left;
+  kept = λ arc less. c.lay_over.ensures.kept arc (λ apart. c.loop-border.invariant.kept arc (omega (arith, less, apart)));
+}
+
+pub returns-clause-kept : goal.returns-clause-kept
+returns-clause-kept c = λ arc. elim (cases_lt arc.border (border_count c.args.grid.now)) [
+  | inl there ↦ c.loop-border.invariant.kept arc (let end = c.loop-border-test.false in let count = c.borders-border-end.ensures.count in omega (arith, there, end, count))
+  | inr past ↦ kept_past c.args.of_part.now c.loop-border.left arc (let size = c.requires.size in omega (arith, past, size)) (let size = c.loop-border.invariant.size in omega (arith, past, size))
+]

@@ -1,10 +1,11 @@
-use Rattle.std.proofs.Common.{◌∙◌, ◌+◌, ◌<◌, [], ap, length, subst, sym, arith}
-use Rattle.zone_graph.specs.Graph.{zone_count}
+use Rattle.std.proofs.Common.{◌∙◌, ◌+◌, ◌<◌, ap, length, subst, sym, arith}
+use Rattle.zone_graph.specs.Graph.{border_count, zone_count}
 use Rattle.zone_graph.specs.Rooms.{room_of}
 use Rattle.zone_graph.specs.Route.{IsIn}
 use Rattle.zone_graph.proofs.Places.{at_any}
 use Rattle.local_view.specs.declared.footing.Certificate.{Certificate}
-use Rattle.local_view.specs.Footing.{no_certificate}
+use Rattle.local_view.specs.Drafts.{IsFlow}
+use Rattle.local_view.specs.Footing.{certificate_at, no_certificate}
 use Rattle.local_view.specs.Moved.{AreBorders, AreSameBut}
 use Rattle.local_view.proofs.Footings.{AreMoved, none_moved, one_moved, stands_by}
 use Rattle.local_view.proofs.footing.Footing.still_certified.Goals as goal
@@ -30,10 +31,9 @@ moves-requires g c =
                 c.requires.1.1.0,
                 (
                   c.requires.1.1.1.0,
-                  ap (λ (certificate : Certificate). length certificate.flow) slot
-                      ∙ ap length (c.loop-zone.invariant.flows zone)
-                      ∙ over.sized.flows zone (let size = c.loop-zone.invariant.size in let count = over.sized.count in omega (arith, there, size, count))
-                      ∙ ap length over.ends_are,
+                  subst (IsFlow (border_count c.args.grid.now)) (sym (ap (λ (certificate : Certificate). certificate.flow) slot ∙ c.loop-zone.invariant.flows zone))
+                      (subst (λ borders. IsFlow borders (certificate_at c.args.self.now.certificates.items zone).flow) (ap length over.ends_are)
+                      (over.sized.flows zone (let size = c.loop-zone.invariant.size in let count = over.sized.count in omega (arith, there, size, count)))),
                 ),
               ),
             ),
