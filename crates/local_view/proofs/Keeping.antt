@@ -54,6 +54,21 @@ module _ (zones computed : ℕ) (kept next : List (List ViewRow)) (is_next : Boo
   pub kept_at : is_next ≡ false → (zone : ℕ) → zone < zones → IsFoundedAt zones footing zone (get_or kept zone [])
   kept_at none zone less = subst (IsFoundedAt zones footing zone) (ap (λ b. standing_at computed b kept next zone) none) (line.founded.at zone less)
 
+  -- next rows of a set of zones may be written where nothing is next, which rest on nothing
+  pub written_line : is_next ≡ false → (written : ℕ) (new_next : List (List ViewRow)) (new : Option Footing) → length new_next ≡ length next → IfSome new (IsSized zones)
+      → ((zone : ℕ) (rows : List ViewRow) → (holds written zone ≡ false → IsFoundedAt zones footing zone rows) → IsFoundedAt zones new zone rows) → IsLine zones kept new_next written true new
+  written_line none written new_next new size sized rest = record {
+    lists = record {
+      same = size ∙ line.lists.same;
+      made = elim line.lists.made [ inl none_made ↦ inl (size ∙ none_made) | inr all ↦ inr (size ∙ all) ];
+    };
+    founded = record {
+      sized = sized;
+      at = λ zone less. rest zone (chosen_at written kept new_next zone) (λ other.
+          subst (IsFoundedAt zones footing zone) (sym (ap (λ b. if b then get_or new_next zone [] else get_or kept zone []) other)) (kept_at none zone less));
+    };
+  }
+
   -- lists may be made anew where nothing is next
   pub kept_line : is_next ≡ false → (new_kept new_next : List (List ViewRow)) (new : Option Footing) → HaveLists zones new_kept new_next
       → ((zone : ℕ) → zone < zones → get_or new_kept zone [] ≡ get_or kept zone []) → IfSome new (IsSized zones)

@@ -120,7 +120,7 @@ impl LineViews {
         self.forget();
         if board.first(line.part, line.side).is_none() {
             clear_lists(alloc, self.next.as_mut_slice());
-            self.footing = None;
+            take_off(&mut self.footing, computed);
             self.computed = computed;
             self.is_next = true;
             return Ok(());

@@ -4,7 +4,7 @@ use Rattle.zone_graph.proofs.Finding.{none_from}
 use Rattle.local_view.specs.Footing.{IsFoundedAt, IsSized}
 use Rattle.local_view.specs.Rows.{LineRows, chosen, chosen_at, of_zones}
 use Rattle.local_view.proofs.Chosen.{listed_same, made_of, made_of_some, written_whole, zones_are}
-use Rattle.local_view.proofs.Keeping.{kept_at, kept_line, next_at, next_made, not_next}
+use Rattle.local_view.proofs.Keeping.{kept_at, kept_line, next_at, next_made, not_next, written_line}
 use Rattle.local_view.proofs.Listed.{nothing-shown}
 use Rattle.local_view.proofs.part_views.LineViews.refresh.Goals as goal
 
@@ -23,6 +23,14 @@ returns-then-is_none-clause-next g c =
     ∙ sym (nothing-shown board c.first.ensures.board c.requires.hand c.args.line.part c.requires.part c.args.line.side zone
     (sym c.first.ensures.first ∙ none_from c.first.result c.if-is_none.ensures)))
     refl
+
+pub invariant_of-self : goal.invariant_of-self
+invariant_of-self g c =
+    let none = not_next c.self.inside.is_next _ (ap (λ (line : LineRows). line.next) (c.self.view_is ∙ c.forget.ensures)) in
+    let written = written_whole c.clear_lists.new.lists _ c.self.inside.next.len (c.clear_lists.ensures.size ∙ c.as_mut_slice.ensures.len) in
+    written_line c.self.inside.zones c.self.inside.computed c.self.inside.kept.items c.self.inside.next.items c.self.inside.is_next c.self.inside.footing c.self.invariant none c.args.computed _
+    c.take_off.new.footing (ap length written ∙ c.clear_lists.ensures.size ∙ ap length c.as_mut_slice.ensures.value) (c.take_off.ensures.sized c.self.inside.zones c.self.invariant.founded.sized)
+    (c.take_off.ensures.rest c.self.inside.zones)
 
 pub invariant_of-self-in_err-make_lists : goal.invariant_of-self-in_err-make_lists
 invariant_of-self-in_err-make_lists g c =
