@@ -12,37 +12,47 @@ use Rattle.market_model.specs.Board.{BoardState, resting_line}
 use Rattle.local_view.specs.declared.footing.Certificate.{Certificate}
 use Rattle.local_view.specs.declared.work.Work.{Work}
 use Rattle.local_view.specs.Certified.{IsCertified, rows_in_turn}
-use Rattle.local_view.specs.Cuts.{cut_by, flow_beside, given_by}
 use Rattle.local_view.specs.Drafts.{IsFlow}
 use Rattle.local_view.specs.Footing.{RestOnWork, certificate_at, no_certificate}
 use Rattle.local_view.specs.Moved.{cut_in, flow_in}
 use Rattle.local_view.specs.Works.{IsLineWork}
+use Rattle.local_view.specs.Boards.{view_of}
+use Rattle.local_view.proofs.Certificates.{certified_view}
 use Rattle.local_view.proofs.Hours.{hour-graph}
 use Rattle.local_view.proofs.Wholes.{zones-resting}
 
--- rows of a draft that are certified rest on its line and rooms, where what certifies them is noted
-pub rest-drafted : (graph : Graph) (board : BoardState) (part : ℕ) (side : Side) → graph ≡ board.grid → (zone : ℕ) → HasZone graph zone → (work : Work) → IsLineWork board part side work
-    → (rows : List ViewRow) (certificate : Certificate)
-    → IsCertified graph (room_of work.of_part) side zone (resting_line board part side) (flow_beside work.of_part work.walk.rooms) (given_by work.cuts.value) (cut_by work.cuts.value)
-    → rows ≡ rows_in_turn (given_by work.cuts.value) (resting_line board part side) → certificate.flow.of ≡ work.of_part → certificate.flow.left ≡ work.walk.rooms
-    → certificate.cuts ≡ work.cuts.value.places → RestOnWork graph work side zone certificate rows
-rest-drafted graph board part side same_grid zone known work of_line rows certificate certified rows_are of left cuts = record {
-  graph = graph;
-  is_graph = subst IsGraph (sym same_grid) (hour-graph board.grid board.hour board.events of_line.read.is_board.stands);
-  zones_are = refl;
-  borders_are = refl;
-  has_zone = known;
-  line = resting_line board part side;
-  orders_are = of_line.read.orders;
-  in_zones = λ order i. subst (λ (g : Graph). HasZone g order.order.zone) (sym same_grid) (zones-resting board of_line.hand part side work.whole of_line.read order i);
-  taken = given_by work.cuts.value;
-  certified =
-      subst (λ (list : List ℕ). IsCertified graph (room_of work.of_part) side zone (resting_line board part side) (flow_in certificate.flow) (given_by work.cuts.value) (cut_in list)) (sym cuts)
-      (subst (λ rooms. IsCertified graph (room_of work.of_part) side zone (resting_line board part side) (flow_beside rooms certificate.flow.left) (given_by work.cuts.value) (cut_by work.cuts.value)) (sym of)
-      (subst (λ rooms. IsCertified graph (room_of work.of_part) side zone (resting_line board part side) (flow_beside work.of_part rooms) (given_by work.cuts.value) (cut_by work.cuts.value)) (sym left)
-      certified));
-  rows_are = rows_are;
-}
+-- rows of a board's line that a certificate tells
+pub record AreTold (graph : Graph) (board : BoardState) (part : ℕ) (side : Side) (zone : ℕ) (rooms : List (ℕ × ℕ)) (certificate : Certificate) (rows : List ViewRow) : Type 0 where
+  pub taken : ℕ → ℕ
+  pub certified : IsCertified graph (room_of rooms) side zone (resting_line board part side) (flow_in certificate.flow) taken (cut_in certificate.cuts)
+  pub rows_are : rows ≡ rows_in_turn taken (resting_line board part side)
+
+module _ (graph : Graph) (board : BoardState) (part : ℕ) (side : Side) (same_grid : graph ≡ board.grid) (zone : ℕ) (known : HasZone graph zone) (work : Work) (of_line : IsLineWork board part side work)
+    (certificate : Certificate) (rows : List ViewRow) (told : AreTold graph board part side zone work.of_part certificate rows) where
+  -- they rest on it
+  pub rest-told : RestOnWork graph work side zone certificate rows
+  rest-told = record {
+    graph = graph;
+    is_graph = subst IsGraph (sym same_grid) (hour-graph board.grid board.hour board.events of_line.read.is_board.stands);
+    zones_are = refl;
+    borders_are = refl;
+    has_zone = known;
+    line = resting_line board part side;
+    orders_are = of_line.read.orders;
+    in_zones = λ order i. subst (λ (g : Graph). HasZone g order.order.zone) (sym same_grid) (zones-resting board of_line.hand part side work.whole of_line.read order i);
+    taken = told.taken;
+    certified = told.certified;
+    rows_are = told.rows_are;
+  }
+
+  -- and are its view
+  pub view-told : work.whole.fits ≡ true → rows ≡ view_of board part side zone
+  view-told fits =
+      told.rows_are
+      ∙ certified_view board of_line.hand of_line.read.is_board part side zone (subst (λ (g : Graph). HasZone g zone) same_grid known) work.of_part of_line.rooms (flow_in certificate.flow) told.taken
+      (cut_in certificate.cuts)
+      (subst (λ (g : Graph). IsCertified g (room_of work.of_part) side zone (resting_line board part side) (flow_in certificate.flow) told.taken (cut_in certificate.cuts)) same_grid told.certified)
+      (of_line.read.few fits)
 
 -- ---- one zone after the other
 

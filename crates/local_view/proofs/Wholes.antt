@@ -1,6 +1,6 @@
 -- The law of the whole line: where all that its orders show can come to a zone together, the view of the
 -- zone takes all of each.
-use Rattle.std.proofs.Common.{◌≡◌, ◌∙◌, inl, inr, ℕ, ◌+◌, ◌-◌, ◌≤◌, true, List, [], ◌∷◌, filter, fold, get_or, map, min, sum_by, None, refl, sym, ap, subst, arith}
+use Rattle.std.proofs.Common.{◌≡◌, ◌∙◌, inl, inr, ℕ, ◌+◌, ◌-◌, ◌<◌, ◌≤◌, true, List, [], ◌∷◌, filter, fold, get_or, map, min, sum_by, None, refl, sym, ap, subst, arith}
 use Rattle.std.proofs.lemmas.List.Sums.{sum_by-cons}
 use Rattle.std.proofs.lemmas.Simd.{map-map}
 use Rattle.order_kinds.specs.declared.price.Price.{Price}
@@ -10,7 +10,7 @@ use Rattle.order_kinds.specs.Contract.{contract_at}
 use Rattle.order_kinds.specs.Period.{contract_quarters}
 use Rattle.order_kinds.specs.Side.{opposite}
 use Rattle.zone_graph.specs.declared.route.Arc.{Arc}
-use Rattle.zone_graph.specs.Graph.{Graph, HasArc, HasZone, IsGraph, border_count}
+use Rattle.zone_graph.specs.Graph.{Graph, HasArc, HasZone, IsGraph, border_count, zone_count}
 use Rattle.zone_graph.specs.Grid.{IsGrid}
 use Rattle.zone_graph.specs.Pour.{lots_if, opposite_arc}
 use Rattle.zone_graph.specs.Rooms.{room_of}
@@ -157,6 +157,10 @@ module _ (board : BoardState) (none : board.hand ≡ None) (part : ℕ) (side : 
 
   pub zones-resting : (order : Standing) → IsIn order (resting_line board part side) → HasZone board.grid order.order.zone
   zones-resting order i = line-zones board.grid board.hour board.events read.is_board.stands part side order (subst (IsIn order) rests i)
+
+  -- which have small numbers
+  pub small-resting : (graph : Graph) → graph ≡ board.grid → zone_count graph ≤ 64 → (order : Standing) → IsIn order (resting_line board part side) → order.order.zone < 64
+  small-resting graph same few order i = let there = subst (λ (g : Graph). HasZone g order.order.zone) (sym same) (zones-resting order i) in omega (arith, there, few)
 
   -- what is taken of them is the view
   pub taken-view : (zone : ℕ) (rooms : List (ℕ × ℕ)) → AreRoomsOf board part rooms

@@ -1,25 +1,51 @@
 //! What goes out of zones, and what comes in.
 
-ghost use Rattle.std.specs.Prelude.{◌≡◌, ℕ, ◌+◌, ◌<◌, ◌≤◌, ◌==◌, ◌^◌, IsTrue, length};
-ghost use Rattle.zone_graph.specs.Graph.{HasArc, border_count};
+ghost use Rattle.std.specs.Prelude.{◌≡◌, ◌≢◌, ℕ, ◌+◌, ◌<◌, ◌≤◌, ◌==◌, ◌^◌, IsTrue, slice_index_or};
+ghost use Rattle.zone_graph.specs.Graph.{HasArc, HasZone, border_count};
 ghost use Rattle.zone_graph.specs.Pour.{lots_if};
 ghost use Rattle.local_view.specs.Balances.{HasFew, HasPassed, into_of, out_of};
 ghost use Rattle.local_view.specs.Certified.{lots_from, lots_to};
-ghost use Rattle.local_view.specs.Cuts.{flow_beside};
+ghost use Rattle.local_view.specs.Drafts.{IsFlow};
+ghost use Rattle.local_view.specs.Moved.{flow_in};
+ghost use Rattle.local_view.specs.Ways.{PassesOn};
 
+use crate::draft::Flow;
 use market_model::Side;
-use zone_graph::{Arc, Grid, MOST_ZONES, Rooms};
+use zone_graph::{Arc, Grid, MOST_ZONES};
 
-/// The lots that go out of each zone over some borders, and those that come in.
+/// Whether each zone but one passes on what comes in and as many lots as it gives.
+pub(crate) fn is_balanced(
+    grid: &Grid,
+    flow: &Flow,
+    side: Side,
+    zone: u32,
+    given: &[u32; MOST_ZONES],
+) -> bool
+    requires flow { IsFlow (border_count grid.now) flow.now }
+    ensures { IsTrue result → (other : ℕ) → HasZone grid.now other → other ≢ zone → PassesOn grid.now side (flow_in flow.now) other (slice_index_or given.now other 0) }
+{
+    let mut balance = Balance::new();
+    for border in 0..grid.borders() {
+        balance.add(grid, flow, side, border);
+    }
+    for other in 0..grid.zones() {
+        if other != zone && !balance.gives(other, given[other as usize]) {
+            return false;
+        }
+    }
+    true
+}
+
+// The lots that go out of each zone over some borders, and those that come in.
 #[derive(Drop)]
-pub(crate) struct Balance {
+struct Balance {
     out: [u64; MOST_ZONES],
     into: [u64; MOST_ZONES],
 }
 
 impl Balance {
-    /// Over no border.
-    pub(crate) fn new() -> Balance
+    // Over no border.
+    fn new() -> Balance
         ensures out { (zone : ℕ) → zone < 64 → out_of result zone ≡ 0 }
         ensures into { (zone : ℕ) → zone < 64 → into_of result zone ≡ 0 }
     {
@@ -29,8 +55,8 @@ impl Balance {
         }
     }
 
-    /// Whether a zone sends on what comes in and gives so many lots more.
-    pub(crate) fn gives(&self, zone: u32, lots: u32) -> bool
+    // Whether a zone sends on what comes in and gives so many lots more.
+    fn gives(&self, zone: u32, lots: u32) -> bool
         requires zone { zone < 64 }
         requires few { HasFew self.now (2 ^ 40) }
         ensures { IsTrue result → out_of self.now zone ≡ into_of self.now zone + lots }
@@ -38,33 +64,31 @@ impl Balance {
         self.out[zone as usize] == self.into[zone as usize] + u64::from(lots)
     }
 
-    /// Adds what flows over a border, where rooms are left of others.
+    // Adds what flows over a border.
     #[inline(always)]
-    pub(crate) fn add(&mut self, grid: &Grid, rooms: &Rooms, left: &Rooms, side: Side, border: u32)
+    fn add(&mut self, grid: &Grid, flow: &Flow, side: Side, border: u32)
         requires border { border < border_count grid.now }
-        requires rooms { length rooms.now ≡ border_count grid.now }
-        requires size { length left.now ≡ border_count grid.now }
+        requires flow { IsFlow (border_count grid.now) flow.now }
         requires few { HasFew self.old (2 ^ 40) }
-        ensures passed { HasPassed grid.now side (flow_beside rooms.now left.now) border self.old self.new }
+        ensures passed { HasPassed grid.now side (flow_in flow.now) border self.old self.new }
         ensures few { (most : ℕ) → HasFew self.old most → HasFew self.new (most + 2 ^ 33) }
     {
         let arc = Arc::over(border, true);
-        self.pass_over(grid, rooms, left, side, arc);
-        self.pass_over(grid, rooms, left, side, arc.opposite());
+        self.pass_over(grid, flow, side, arc);
+        self.pass_over(grid, flow, side, arc.opposite());
     }
 
     // Adds what flows over an arc.
     #[inline(always)]
-    fn pass_over(&mut self, grid: &Grid, rooms: &Rooms, left: &Rooms, side: Side, arc: Arc)
+    fn pass_over(&mut self, grid: &Grid, flow: &Flow, side: Side, arc: Arc)
         requires arc { HasArc grid.now arc }
-        requires rooms { length rooms.now ≡ border_count grid.now }
-        requires size { length left.now ≡ border_count grid.now }
+        requires flow { IsFlow (border_count grid.now) flow.now }
         requires few { HasFew self.old (2 ^ 41) }
-        ensures out { (zone : ℕ) → zone < 64 → out_of self.new zone ≡ out_of self.old zone + lots_if (lots_from grid.now side arc == zone) (flow_beside rooms.now left.now arc) }
-        ensures into { (zone : ℕ) → zone < 64 → into_of self.new zone ≡ into_of self.old zone + lots_if (lots_to grid.now side arc == zone) (flow_beside rooms.now left.now arc) }
+        ensures out { (zone : ℕ) → zone < 64 → out_of self.new zone ≡ out_of self.old zone + lots_if (lots_from grid.now side arc == zone) (flow_in flow.now arc) }
+        ensures into { (zone : ℕ) → zone < 64 → into_of self.new zone ≡ into_of self.old zone + lots_if (lots_to grid.now side arc == zone) (flow_in flow.now arc) }
         ensures few { (most : ℕ) → HasFew self.old most → HasFew self.new (most + 2 ^ 32) }
     {
-        let lots = rooms.at(arc).saturating_sub(left.at(arc));
+        let lots = flow.at(arc);
         if lots == 0 {
             return;
         }

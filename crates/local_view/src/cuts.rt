@@ -7,15 +7,16 @@ ghost use Rattle.zone_graph.specs.Route.{IsIn};
 ghost use Rattle.cut_proof.specs.Carrying.{FitTogether};
 ghost use Rattle.market_model.specs.Orders.{Standing};
 ghost use Rattle.local_view.specs.Certified.{IsCertified, lots_from, lots_to, rows_in_turn};
-ghost use Rattle.local_view.specs.Cuts.{AreAlong, AreClosedOver, IsNoLater, cut_by, flow_beside, given_by};
-ghost use Rattle.local_view.specs.Drafts.{AreKept};
-ghost use Rattle.local_view.specs.Whole.{all_shown, in_line, rows_shown, shown_in};
+ghost use Rattle.local_view.specs.Cuts.{AreAlong, AreClosedOver, IsNoLater, cut_by, given_by};
+ghost use Rattle.local_view.specs.Drafts.{AreKept, IsFlow};
+ghost use Rattle.local_view.specs.Moved.{flow_in};
+ghost use Rattle.local_view.specs.Whole.{all_shown, in_line};
 
-use crate::balance::Balance;
-use crate::draft::Draft;
+use crate::balance::is_balanced;
+use crate::draft::{Draft, Flow};
 use crate::listing::add_row;
 use crate::still_standing::comes_no_later;
-use crate::whole::{LineOrder, WholeLine};
+use crate::whole::LineOrder;
 use market_model::{NoMemory, Side, ViewRow};
 use zone_graph::{Arc, Grid, MOST_ZONES, Rooms};
 
@@ -37,32 +38,6 @@ impl Cuts {
         }
     }
 
-    /// Has each order of a line give all that it shows, and writes their rows. No zone has a cut before the end of the line.
-    ///
-    /// # Errors
-    ///
-    /// [`NoMemory`], where there is no memory for a row.
-    pub(crate) fn give_all(
-        &mut self,
-        whole: &WholeLine,
-        rows: &mut Vec<ViewRow>,
-    ) -> Result<(), NoMemory>
-        ghost line: { List Standing }
-        requires orders { whole.now.orders.items ≡ map in_line line }
-        requires shown { (zone : ℕ) → zone < 64 → slice_index_or whole.now.shown zone 0 ≡ shown_in line zone }
-        requires rows { whole.now.rows.items ≡ rows_shown line }
-        requires zones { (order : Standing) → IsIn order line → order.order.zone < 64 }
-        ensures along { OnOk result (AreAlong line self.new) }
-        ensures rows { OnOk result (rows.new.items ≡ rows_in_turn (given_by self.new) line) }
-    {
-        self.given = whole.shown;
-        let orders = whole.orders.as_slice();
-        self.places = [orders.len(); MOST_ZONES];
-        rows.clear();
-        rows.extend_from_slice(whole.rows.as_slice())?;
-        Ok(())
-    }
-
     /// Goes along a line whose orders give one after the other what a draft has them obtain, and writes their rows. Each zone has
     /// its cut where one of its orders gives less than it shows, or from where nothing more comes from it.
     ///
@@ -73,7 +48,7 @@ impl Cuts {
         &mut self,
         grid: &Grid,
         draft: &mut Draft,
-        left: &mut Rooms,
+        flow: &mut Flow,
         orders: &[LineOrder],
         rows: &mut Vec<ViewRow>,
     ) -> Result<(), NoMemory>
@@ -81,19 +56,20 @@ impl Cuts {
         requires orders { orders.now ≡ map in_line line }
         requires zones { (order : Standing) → IsIn order line → order.order.zone < 64 }
         requires shown { all_shown line < 2 ^ 32 }
-        requires size { length left.old ≡ border_count grid.now }
-        requires fit { FitTogether grid.now (room_of left.old) }
+        requires size { length flow.old.left ≡ border_count grid.now }
+        requires fit { FitTogether grid.now (room_of flow.old.left) }
         ensures along { OnOk result (AreAlong line self.new) }
         ensures rows { OnOk result (rows.new.items ≡ rows_in_turn (given_by self.new) line) }
-        ensures size { length left.new ≡ border_count grid.now }
-        ensures kept { AreKept left.old left.new }
+        ensures of { flow.new.of ≡ flow.old.of }
+        ensures size { length flow.new.left ≡ border_count grid.now }
+        ensures kept { AreKept flow.old.left flow.new.left }
     {
         self.given = [0; MOST_ZONES];
         self.places = [orders.len(); MOST_ZONES];
         rows.clear();
         for (place, order) in orders.iter().enumerate() {
             if place < self.places[order.zone as usize] {
-                let (lots, closed) = draft.obtain(grid, left, order.zone, order.lots);
+                let (lots, closed) = draft.obtain(grid, flow, order.zone, order.lots);
                 self.take(order, place, lots, closed);
                 add_row(rows, order.price, lots)?;
             }
@@ -121,14 +97,12 @@ impl Cuts {
         }
     }
 
-    /// Whether the flow that leaves some of the rooms certifies them: what each zone gives goes out of it, but for the zone that
-    /// lots come to, which has no cut; and where an arc has room to spare the zone that it leads to has its cut no later than
-    /// the one that it leads from.
+    /// Whether a flow certifies them: what each zone gives goes out of it, but for the zone that lots come to, which has no cut;
+    /// and where an arc has room to spare the zone that it leads to has its cut no later than the one that it leads from.
     pub(crate) fn are_certified(
         &self,
         grid: &Grid,
-        rooms: &Rooms,
-        left: &Rooms,
+        flow: &Flow,
         side: Side,
         zone: u32,
         end: usize,
@@ -137,24 +111,32 @@ impl Cuts {
         requires along { AreAlong line self.now }
         requires end { end ≡ length line }
         requires zone { HasZone grid.now zone }
-        requires rooms { length rooms.now ≡ border_count grid.now }
-        requires size { length left.now ≡ border_count grid.now }
-        requires kept { AreKept rooms.now left.now }
-        ensures { IsTrue result → IsCertified grid.now (room_of rooms.now) side zone line (flow_beside rooms.now left.now) (given_by self.now) (cut_by self.now) }
+        requires flow { IsFlow (border_count grid.now) flow.now }
+        requires kept { AreKept flow.now.of flow.now.left }
+        ensures { IsTrue result → IsCertified grid.now (room_of flow.now.of) side zone line (flow_in flow.now) (given_by self.now) (cut_by self.now) }
     {
-        let mut balance = Balance::new();
+        // It shows that the grid has no more than 64 zones.
+        let _ = grid.zones();
+        if !self.are_closed(grid, &flow.left, side) {
+            return false;
+        }
+        if !is_balanced(grid, flow, side, zone, &self.given) {
+            return false;
+        }
+        self.places[zone as usize] == end
+    }
+
+    // Whether over no arc room is left for lots to come to a zone with a later cut.
+    fn are_closed(&self, grid: &Grid, left: &Rooms, side: Side) -> bool
+        requires size { length left.now ≡ border_count grid.now }
+        ensures { IsTrue result → (border : ℕ) → border < border_count grid.now → AreClosedOver grid.now (room_of left.now) side (cut_by self.now) border }
+    {
         for border in 0..grid.borders() {
             if !self.close_over(grid, left, side, border) {
                 return false;
             }
-            balance.add(grid, rooms, left, side, border);
         }
-        for other in 0..grid.zones() {
-            if other != zone && !balance.gives(other, self.given[other as usize]) {
-                return false;
-            }
-        }
-        self.places[zone as usize] == end
+        true
     }
 
     // Whether over neither arc of a border room is left for lots to come to a zone with a later cut.

@@ -21,17 +21,18 @@ const MOST_WAYS: usize = 64;
 // More lots than these are taken for less than none.
 const MOST_LOTS: u32 = u32::MAX / 2;
 
-/// What flows to a zone: the rooms that it flows over and what it leaves of them, and what the draft of it knew. What flows over
-/// an arc is its room less what is left of that.
+/// What flows to a zone from the orders of a side: the rooms that it flows over and what it leaves of them. What flows over an
+/// arc is its room less what is left of that. Lots that sells give go along arcs, those that buys give come against them. Of a
+/// set of zones bit z stands for zone z.
 #[derive(Drop)]
 pub(crate) struct Flow {
-    // The rooms.
-    of: Rooms,
-    // What is left of them.
-    left: Rooms,
+    /// The rooms.
+    pub(crate) of: Rooms,
+    /// What is left of them.
+    pub(crate) left: Rooms,
     // For each zone those that it can pass more lots on to.
     leads: [u64; MOST_ZONES],
-    // What each zone gives.
+    // What comes from each zone, as far as no order gave it.
     given: [u32; MOST_ZONES],
 }
 
@@ -57,111 +58,39 @@ impl Flow {
         self.of.at(arc).saturating_sub(self.left.at(arc))
     }
 
-    /// Notes what a draft leaves of the rooms of a part, and what each zone gives.
-    pub(crate) fn note(
-        &mut self,
-        of_part: &Rooms,
-        left: &Rooms,
-        draft: &Draft,
-        given: &[u32; MOST_ZONES],
-    )
-        requires of { length self.old.of ≡ length of_part.now }
-        requires left { length self.old.left ≡ length left.now }
-        ensures of { self.new.of ≡ of_part.now }
-        ensures left { self.new.left ≡ left.now }
+    /// Notes what comes from each zone.
+    pub(crate) fn note_given(&mut self, given: &[u32; MOST_ZONES])
+        ensures of { self.new.of ≡ self.old.of }
+        ensures left { self.new.left ≡ self.old.left }
     {
-        self.of.copy_from(of_part);
-        self.left.copy_from(left);
-        self.leads = draft.leads;
         self.given = *given;
     }
-}
 
-/// A draft of what comes to a zone from the orders of a side. The rooms that its flow leaves stand beside it. Lots that sells
-/// give go along arcs, those that buys give come against them. Of a set of zones bit z stands for zone z.
-#[derive(Drop)]
-pub(crate) struct Draft {
-    side: Side,
-    // The zone that lots come to.
-    zone: u32,
-    // For each zone those that it can pass more lots on to.
-    leads: [u64; MOST_ZONES],
-    // What comes from each zone, as far as no order gave it.
-    given: [u32; MOST_ZONES],
-    // The zones from which something does, and the one that lots come to.
-    giving: u64,
-    // From which zone the last search came to each.
-    before: [u32; MOST_ZONES],
-}
-
-impl Draft {
-    /// A draft that has not begun.
-    pub(crate) fn new() -> Draft {
-        Draft {
-            side: Side::Buy,
-            zone: 0,
-            leads: [0; MOST_ZONES],
-            given: [0; MOST_ZONES],
-            giving: 0,
-            before: [0; MOST_ZONES],
-        }
-    }
-
-    /// Begins with a flow to a zone, as far as the rooms of a part are wide enough for it, and tells what is left of them. Then
-    /// each zone gives what its orders show and no more, as far as it comes. Answers whether all of that comes.
-    pub(crate) fn begin(
-        &mut self,
-        grid: &Grid,
-        of_part: &Rooms,
-        left: &mut Rooms,
-        side: Side,
-        zone: u32,
-        flow: &Flow,
-        shown: &[u32; MOST_ZONES],
-    ) -> bool
-        requires size { length of_part.now ≡ border_count grid.now }
-        requires fit { FitTogether grid.now (room_of of_part.now) }
-        requires left { length left.old ≡ border_count grid.now }
-        requires flow { IsFlow (border_count grid.now) flow.now }
-        ensures left { length left.new ≡ border_count grid.now }
-        ensures kept { AreKept of_part.now left.new }
+    // Lays the flow over other rooms, as far as these are wide enough for it. Over borders that have the same rooms it stays.
+    fn lay(&mut self, grid: &Grid, side: Side, rooms: &Rooms)
+        requires size { length rooms.now ≡ border_count grid.now }
+        requires fit { FitTogether grid.now (room_of rooms.now) }
+        requires flow { IsFlow (border_count grid.now) self.old }
+        ensures of { self.new.of ≡ rooms.now }
+        ensures left { length self.new.left ≡ border_count grid.now }
+        ensures kept { AreKept rooms.now self.new.left }
     {
-        self.side = side;
-        self.zone = zone;
-        self.lay(grid, of_part, left, flow);
-        self.pass_on(grid, left);
-        self.bring(grid, left, shown)
-    }
-
-    // Tells the rooms that a flow leaves of others, as far as these are wide enough for it, what goes out of each zone beyond
-    // what comes in, and to which zones more could go: as the flow has it, but for the borders whose rooms are others.
-    fn lay(&mut self, grid: &Grid, of_part: &Rooms, left: &mut Rooms, flow: &Flow)
-        requires size { length of_part.now ≡ border_count grid.now }
-        requires fit { FitTogether grid.now (room_of of_part.now) }
-        requires left { length left.old ≡ border_count grid.now }
-        requires flow { IsFlow (border_count grid.now) flow.now }
-        ensures left { length left.new ≡ border_count grid.now }
-        ensures kept { AreKept of_part.now left.new }
-    {
-        left.copy_from(&flow.left);
-        self.leads = flow.leads;
-        self.given = flow.given;
         for border in 0..grid.borders() {
-            self.lay_over(grid, of_part, left, flow, border);
+            self.lay_over(grid, side, rooms, border);
         }
+        self.of.copy_from(rooms);
     }
 
-    // Tells the rooms that a flow leaves over a border, where it is not over these or does not leave as much of them together.
-    fn lay_over(&mut self, grid: &Grid, of_part: &Rooms, left: &mut Rooms, flow: &Flow, border: u32)
+    // Lays it over the rooms of a border, where it is not over these or does not leave as much of them together.
+    fn lay_over(&mut self, grid: &Grid, side: Side, rooms: &Rooms, border: u32)
         requires border { border < border_count grid.now }
-        requires size { length of_part.now ≡ border_count grid.now }
-        requires fit { FitTogether grid.now (room_of of_part.now) }
-        requires left { length left.old ≡ border_count grid.now }
-        requires flow { IsFlow (border_count grid.now) flow.now }
-        ensures left { length left.new ≡ border_count grid.now }
-        ensures kept { (arc : AnArc) → (arc.border ≢ border → IsKept of_part.now left.old arc) → IsKept of_part.now left.new arc }
+        requires size { length rooms.now ≡ border_count grid.now }
+        requires fit { FitTogether grid.now (room_of rooms.now) }
+        requires flow { IsFlow (border_count grid.now) self.old }
+        ensures flow { IsFlow (border_count grid.now) self.new }
+        ensures kept { (arc : AnArc) → (arc.border ≢ border → IsKept rooms.now self.old.left arc) → IsKept rooms.now self.new.left arc }
     {
-        if is_laid(of_part, &flow.of, left, border) {
+        if is_laid(rooms, &self.of, &self.left, border) {
             return;
         }
         let arc = Arc {
@@ -169,25 +98,35 @@ impl Draft {
             forward: true,
         };
         let opposite = arc.opposite();
-        let (old_out, old_back) = (flow.at(arc), flow.at(opposite));
-        let (forward, backward) = (of_part.at(arc), of_part.at(opposite));
+        let (old_out, old_back) = (self.at(arc), self.at(opposite));
+        let (forward, backward) = (rooms.at(arc), rooms.at(opposite));
         let (out, back) = (old_out.min(forward), old_back.min(backward));
         let (forward, backward) = (forward - out + back, backward - back + out);
-        left.set(arc, forward);
-        left.set(opposite, backward);
+        self.left.set(arc, forward);
+        self.left.set(opposite, backward);
         let more = out
             .wrapping_sub(back)
             .wrapping_sub(old_out.wrapping_sub(old_back));
-        self.flow_over(grid, arc, more, forward > 0, backward > 0);
+        self.flow_over(grid, side, arc, more, forward > 0, backward > 0);
     }
 
     // Notes that more flows over a border, and in which directions more could.
-    fn flow_over(&mut self, grid: &Grid, arc: Arc, lots: u32, forward: bool, backward: bool)
+    fn flow_over(
+        &mut self,
+        grid: &Grid,
+        side: Side,
+        arc: Arc,
+        lots: u32,
+        forward: bool,
+        backward: bool,
+    )
         requires { HasArc grid.now arc }
+        ensures of { self.new.of ≡ self.old.of }
+        ensures left { self.new.left ≡ self.old.left }
     {
         let zones = grid.zones();
         let (start, end) = grid.ends(arc);
-        let (from, to) = match self.side {
+        let (from, to) = match side {
             Side::Sell => (start, end),
             Side::Buy => (end, start),
         };
@@ -201,6 +140,7 @@ impl Draft {
     // Notes whether a zone can pass more lots on to another one.
     fn lead(&mut self, from: u32, to: u32, can: bool)
         requires { from < 64 }
+        ensures { self.new ≡ record self.old { leads = self.new.leads } }
     {
         if can {
             self.leads[from as usize] |= bit(to);
@@ -209,18 +149,107 @@ impl Draft {
         }
     }
 
+    // The zones from which more can come to a zone, of so many.
+    fn can_reach(&self, zone: u32, zones: u32) -> u64
+        requires { zones ≤ 64 }
+    {
+        let mut reaching = bit(zone);
+        for _ in 0..zones {
+            let known = reaching;
+            for from in 0..zones {
+                if self.leads[from as usize] & reaching != 0 {
+                    reaching |= bit(from);
+                }
+            }
+            if reaching == known {
+                break;
+            }
+        }
+        reaching
+    }
+
+    // Passes lots on over an arc from a zone to a neighbour, as many as it has room for.
+    fn pass(&mut self, arc: Arc, from: u32, to: u32, lots: u32)
+        requires border { arc.border < length self.old.left }
+        requires fit { room_of self.old.left arc + room_of self.old.left (opposite_arc arc) < 2 ^ 32 }
+        requires from { from < 64 }
+        requires to { to < 64 }
+        ensures of { self.new.of ≡ self.old.of }
+        ensures size { length self.new.left ≡ length self.old.left }
+        ensures kept { AreKept self.old.left self.new.left }
+        ensures given { self.new.given ≡ self.old.given }
+    {
+        let spare = self.left.at(arc);
+        let lots = lots.min(spare);
+        let back = self.left.at(arc.opposite()) + lots;
+        self.left.set(arc, spare - lots);
+        self.left.set(arc.opposite(), back);
+        self.lead(from, to, spare > lots);
+        self.lead(to, from, back > 0);
+    }
+}
+
+/// What a draft works with: the side and the zone that lots come to, and what it knows of a flow to that.
+#[derive(Drop)]
+pub(crate) struct Draft {
+    side: Side,
+    // The zone that lots come to.
+    zone: u32,
+    // The zones from which something comes, and the one that lots come to.
+    giving: u64,
+    // From which zone the last search came to each.
+    before: [u32; MOST_ZONES],
+}
+
+impl Draft {
+    /// A draft that has not begun.
+    pub(crate) fn new() -> Draft {
+        Draft {
+            side: Side::Buy,
+            zone: 0,
+            giving: 0,
+            before: [0; MOST_ZONES],
+        }
+    }
+
+    /// Begins with a flow to a zone, as far as the rooms of a part are wide enough for it. Then each zone gives what its orders
+    /// show and no more, as far as it comes. Answers whether all of that comes.
+    pub(crate) fn begin(
+        &mut self,
+        grid: &Grid,
+        rooms: &Rooms,
+        flow: &mut Flow,
+        side: Side,
+        zone: u32,
+        shown: &[u32; MOST_ZONES],
+    ) -> bool
+        requires size { length rooms.now ≡ border_count grid.now }
+        requires fit { FitTogether grid.now (room_of rooms.now) }
+        requires flow { IsFlow (border_count grid.now) flow.old }
+        ensures of { flow.new.of ≡ rooms.now }
+        ensures left { length flow.new.left ≡ border_count grid.now }
+        ensures kept { AreKept rooms.now flow.new.left }
+    {
+        self.side = side;
+        self.zone = zone;
+        flow.lay(grid, side, rooms);
+        self.pass_on(grid, flow);
+        self.bring(grid, flow, shown)
+    }
+
     // What comes to a zone and stays there is sent on to those that give.
-    fn pass_on(&mut self, grid: &Grid, left: &mut Rooms)
-        requires size { length left.old ≡ border_count grid.now }
-        requires fit { FitTogether grid.now (room_of left.old) }
-        ensures size { length left.new ≡ border_count grid.now }
-        ensures kept { AreKept left.old left.new }
+    fn pass_on(&mut self, grid: &Grid, flow: &mut Flow)
+        requires size { length flow.old.left ≡ border_count grid.now }
+        requires fit { FitTogether grid.now (room_of flow.old.left) }
+        ensures of { flow.new.of ≡ flow.old.of }
+        ensures size { length flow.new.left ≡ border_count grid.now }
+        ensures kept { AreKept flow.old.left flow.new.left }
     {
         self.giving = bit(self.zone);
         let zones = grid.zones();
         let mut staying: u64 = 0;
         for zone in 0..zones {
-            let lots = self.given[zone as usize];
+            let lots = flow.given[zone as usize];
             if lots > MOST_LOTS {
                 staying |= bit(zone);
             } else if lots > 0 {
@@ -231,81 +260,64 @@ impl Draft {
         if staying != 0 {
             for zone in 0..zones {
                 if is_set(staying, zone as usize) {
-                    let lots = self.given[zone as usize].wrapping_neg();
-                    self.given[zone as usize] = 0;
-                    self.send(grid, left, zone, self.giving, lots);
+                    let lots = flow.given[zone as usize].wrapping_neg();
+                    flow.given[zone as usize] = 0;
+                    self.send(grid, flow, zone, self.giving, lots);
                 }
             }
         }
     }
 
     // Has each zone give what its orders show and no more, as far as it comes. Answers whether all of that comes.
-    fn bring(&mut self, grid: &Grid, left: &mut Rooms, shown: &[u32; MOST_ZONES]) -> bool
-        requires size { length left.old ≡ border_count grid.now }
-        requires fit { FitTogether grid.now (room_of left.old) }
-        ensures size { length left.new ≡ border_count grid.now }
-        ensures kept { AreKept left.old left.new }
+    fn bring(&mut self, grid: &Grid, flow: &mut Flow, shown: &[u32; MOST_ZONES]) -> bool
+        requires size { length flow.old.left ≡ border_count grid.now }
+        requires fit { FitTogether grid.now (room_of flow.old.left) }
+        ensures of { flow.new.of ≡ flow.old.of }
+        ensures size { length flow.new.left ≡ border_count grid.now }
+        ensures kept { AreKept flow.old.left flow.new.left }
     {
         let mut short: u64 = 0;
         for zone in 0..grid.zones() {
-            let (given, most) = (self.given[zone as usize], shown[zone as usize]);
+            let (given, most) = (flow.given[zone as usize], shown[zone as usize]);
             if zone == self.zone {
-                self.given[zone as usize] = most;
+                flow.given[zone as usize] = most;
             } else if given > most {
-                self.send(grid, left, self.zone, bit(zone), given - most);
+                self.send(grid, flow, self.zone, bit(zone), given - most);
             } else if given < most {
                 short |= bit(zone);
             }
         }
-        short == 0 || self.bring_more(grid, left, shown, short)
+        short == 0 || self.bring_more(grid, flow, shown, short)
     }
 
     // Has the zones of a set give more, up to what their orders show. Answers whether all of that comes.
     fn bring_more(
         &mut self,
         grid: &Grid,
-        left: &mut Rooms,
+        flow: &mut Flow,
         shown: &[u32; MOST_ZONES],
         short: u64,
     ) -> bool
-        requires size { length left.old ≡ border_count grid.now }
-        requires fit { FitTogether grid.now (room_of left.old) }
-        ensures size { length left.new ≡ border_count grid.now }
-        ensures kept { AreKept left.old left.new }
+        requires size { length flow.old.left ≡ border_count grid.now }
+        requires fit { FitTogether grid.now (room_of flow.old.left) }
+        ensures of { flow.new.of ≡ flow.old.of }
+        ensures size { length flow.new.left ≡ border_count grid.now }
+        ensures kept { AreKept flow.old.left flow.new.left }
     {
         let zones = grid.zones();
-        let can = short & self.can_reach(zones);
+        let can = short & flow.can_reach(self.zone, zones);
         let mut is_all = can == short;
         for zone in 0..zones {
             if is_set(can, zone as usize) {
-                let given = self.given[zone as usize];
+                let given = flow.given[zone as usize];
                 let lacks = shown[zone as usize].saturating_sub(given);
-                let (sent, _) = self.send(grid, left, zone, bit(self.zone), lacks);
-                self.given[zone as usize] = given.saturating_add(sent);
-                self.mark(zone);
+                let (sent, _) = self.send(grid, flow, zone, bit(self.zone), lacks);
+                flow.given[zone as usize] = given.saturating_add(sent);
+                self.mark(flow, zone);
                 is_all = is_all && sent == lacks;
             }
         }
         is_all
-    }
-
-    // The zones from which more can come, of so many.
-    fn can_reach(&self, zones: u32) -> u64
-        requires { zones ≤ 64 }
-    {
-        let mut reaching = bit(self.zone);
-        for _ in 0..zones {
-            let known = reaching;
-            for zone in 0..zones {
-                if self.leads[zone as usize] & reaching != 0 {
-                    reaching |= bit(zone);
-                }
-            }
-            if reaching == known {
-                break;
-            }
-        }
-        reaching
     }
 
     /// Has the next order of a zone give its lots. What it lacks is taken from orders that have not given yet. Answers how many
@@ -313,36 +325,37 @@ impl Draft {
     pub(crate) fn obtain(
         &mut self,
         grid: &Grid,
-        left: &mut Rooms,
+        flow: &mut Flow,
         zone: u32,
         lots: u32,
     ) -> (u32, u64)
         requires zone { zone < 64 }
-        requires size { length left.old ≡ border_count grid.now }
-        requires fit { FitTogether grid.now (room_of left.old) }
-        ensures size { length left.new ≡ border_count grid.now }
-        ensures kept { AreKept left.old left.new }
+        requires size { length flow.old.left ≡ border_count grid.now }
+        requires fit { FitTogether grid.now (room_of flow.old.left) }
+        ensures of { flow.new.of ≡ flow.old.of }
+        ensures size { length flow.new.left ≡ border_count grid.now }
+        ensures kept { AreKept flow.old.left flow.new.left }
         ensures most { result.0 ≤ lots }
     {
-        let rest = self.given[zone as usize];
+        let rest = flow.given[zone as usize];
         if lots < rest {
-            self.given[zone as usize] = rest - lots;
+            flow.given[zone as usize] = rest - lots;
             return (lots, 0);
         }
-        self.given[zone as usize] = 0;
-        self.mark(zone);
+        flow.given[zone as usize] = 0;
+        self.mark(flow, zone);
         if rest == lots {
             return (lots, 0);
         }
-        let (sent, closed) = self.send(grid, left, zone, self.giving, lots - rest);
+        let (sent, closed) = self.send(grid, flow, zone, self.giving, lots - rest);
         (rest + sent, closed)
     }
 
     // Notes whether something comes from a zone.
-    fn mark(&mut self, zone: u32)
+    fn mark(&mut self, flow: &Flow, zone: u32)
         requires { zone < 64 }
     {
-        if self.given[zone as usize] > 0 || zone == self.zone {
+        if flow.given[zone as usize] > 0 || zone == self.zone {
             self.giving |= bit(zone);
         } else {
             self.giving &= !bit(zone);
@@ -351,11 +364,12 @@ impl Draft {
 
     // Sends lots from a zone to some of others that still give, over one way after the other. Answers how many lots that is,
     // and, where it is not all of them, the zones that can be reached.
-    fn send(&mut self, grid: &Grid, left: &mut Rooms, from: u32, to: u64, lots: u32) -> (u32, u64)
-        requires size { length left.old ≡ border_count grid.now }
-        requires fit { FitTogether grid.now (room_of left.old) }
-        ensures size { length left.new ≡ border_count grid.now }
-        ensures kept { AreKept left.old left.new }
+    fn send(&mut self, grid: &Grid, flow: &mut Flow, from: u32, to: u64, lots: u32) -> (u32, u64)
+        requires size { length flow.old.left ≡ border_count grid.now }
+        requires fit { FitTogether grid.now (room_of flow.old.left) }
+        ensures of { flow.new.of ≡ flow.old.of }
+        ensures size { length flow.new.left ≡ border_count grid.now }
+        ensures kept { AreKept flow.old.left flow.new.left }
         ensures most { result.0 ≤ lots }
     {
         let mut more = lots;
@@ -363,7 +377,7 @@ impl Draft {
             if more == 0 {
                 break;
             }
-            let (reached, target) = self.search(from, to & self.giving);
+            let (reached, target) = self.search(flow, from, to & self.giving);
             let Some(target) = target else {
                 return (lots - more, reached);
             };
@@ -371,20 +385,20 @@ impl Draft {
             let most = if is_end {
                 more
             } else {
-                more.min(self.given[target as usize])
+                more.min(flow.given[target as usize])
             };
-            let sent = self.carry(grid, left, from, target, most);
+            let sent = self.carry(grid, flow, from, target, most);
             more -= sent;
             if !is_end {
-                self.given[target as usize] -= sent;
-                self.mark(target);
+                flow.given[target as usize] -= sent;
+                self.mark(flow, target);
             }
         }
         (lots - more, 0)
     }
 
     // Searches a way from a zone to one of others: the zones that it came to, and the one where it ended.
-    fn search(&mut self, from: u32, to: u64) -> (u64, Option<u32>)
+    fn search(&mut self, flow: &Flow, from: u32, to: u64) -> (u64, Option<u32>)
         ensures { IfSome result.1 (λ target. target < 64) }
     {
         let mut reached = bit(from);
@@ -394,7 +408,7 @@ impl Draft {
                 break;
             }
             let zone = new.trailing_zeros();
-            let more = self.leads[zone as usize] & !reached;
+            let more = flow.leads[zone as usize] & !reached;
             new = (new & (new - 1)) | more;
             reached |= more;
             let mut steps = more;
@@ -413,13 +427,14 @@ impl Draft {
     }
 
     // Carries lots over the way that was found, as many as it has room for. Answers how many.
-    fn carry(&mut self, grid: &Grid, left: &mut Rooms, from: u32, to: u32, most: u32) -> u32
-        requires size { length left.old ≡ border_count grid.now }
-        requires fit { FitTogether grid.now (room_of left.old) }
-        ensures size { length left.new ≡ border_count grid.now }
-        ensures kept { AreKept left.old left.new }
+    fn carry(&mut self, grid: &Grid, flow: &mut Flow, from: u32, to: u32, most: u32) -> u32
+        requires size { length flow.old.left ≡ border_count grid.now }
+        requires fit { FitTogether grid.now (room_of flow.old.left) }
+        ensures of { flow.new.of ≡ flow.old.of }
+        ensures size { length flow.new.left ≡ border_count grid.now }
+        ensures kept { AreKept flow.old.left flow.new.left }
         ensures most { result ≤ most }
-        ensures given { self.new.given ≡ self.old.given }
+        ensures given { flow.new.given ≡ flow.old.given }
     {
         let mut lots = most;
         let mut zone = to;
@@ -429,7 +444,7 @@ impl Draft {
             }
             let before = self.came_from(zone);
             lots = match self.arc(grid, before, zone) {
-                Some(arc) => lots.min(left.at(arc)),
+                Some(arc) => lots.min(flow.left.at(arc)),
                 None => 0,
             };
             zone = before;
@@ -441,7 +456,7 @@ impl Draft {
             }
             let before = self.came_from(zone);
             if let Some(arc) = self.arc(grid, before, zone) {
-                self.pass(left, arc, before, zone, lots);
+                flow.pass(arc, before, zone, lots);
             }
             zone = before;
         }
@@ -460,29 +475,6 @@ impl Draft {
         match self.side {
             Side::Sell => grid.arc(from, to),
             Side::Buy => grid.arc(to, from),
-        }
-    }
-
-    // Passes lots on over an arc from a zone to a neighbour, as many as it has room for.
-    fn pass(&mut self, left: &mut Rooms, arc: Arc, from: u32, to: u32, lots: u32)
-        requires border { arc.border < length left.old }
-        requires fit { room_of left.old arc + room_of left.old (opposite_arc arc) < 2 ^ 32 }
-        requires from { from < 64 }
-        requires to { to < 64 }
-        ensures size { length left.new ≡ length left.old }
-        ensures kept { AreKept left.old left.new }
-        ensures given { self.new.given ≡ self.old.given }
-    {
-        let spare = left.at(arc);
-        let lots = lots.min(spare);
-        let back = left.at(arc.opposite()) + lots;
-        left.set(arc, spare - lots);
-        left.set(arc.opposite(), back);
-        if spare == lots {
-            self.leads[from as usize] &= !bit(to);
-        }
-        if back > 0 {
-            self.leads[to as usize] |= bit(from);
         }
     }
 }

@@ -1,25 +1,24 @@
 //! The lists of rows of one part and side, for each zone.
 
-ghost use Rattle.std.specs.Prelude.{◌≡◌, ◌⊎◌, ◌&&◌, not, ◌<◌, ℕ, [], IfOk, IfSome, IsTrue, List, None, OnErr, OnOk, get_or, length, false, true};
+ghost use Rattle.std.specs.Prelude.{◌≡◌, ◌⊎◌, ◌&&◌, not, ◌<◌, ℕ, [], IfOk, IfSome, IsTrue, List, None, OnErr, OnOk, get_or, length, false, replicate, true};
 ghost use Rattle.cut_proof.specs.ZoneSet.{holds};
 ghost use Rattle.market_model.specs.declared.reply.ViewRow.{ViewRow as AViewRow};
-ghost use Rattle.market_model.specs.Board.{BoardState, resting_line};
+ghost use Rattle.market_model.specs.Board.{BoardState};
 ghost use Rattle.zone_graph.specs.Graph.{HasZone, border_count, zone_count};
-ghost use Rattle.local_view.specs.Certified.{rows_in_turn};
-ghost use Rattle.local_view.specs.Cuts.{AreAlong, given_by};
 ghost use Rattle.local_view.specs.Footing.{AreFilled, AreListed, AreMadeOver, IsFootingAfter, IsFoundedAt, IsOver, IsSized, RestOnWork, certificate_at};
 ghost use Rattle.local_view.specs.Boards.{view_of};
 ghost use Rattle.local_view.specs.Drafts.{AreKept, IsFlow};
 ghost use Rattle.local_view.specs.Works.{AreComputed, BoardLine, IsLineWork, IsSound, IsWork};
 
-use crate::draft::Flow;
+use crate::balance::is_balanced;
 use crate::footing::{Certificate, Footing, make_footing};
 use crate::listing::{Line, list_rows};
+use crate::whole::WholeLine;
 use crate::work::{Work, make_work};
 use market_model::{Board, NoMemory, Rows, ViewRow};
 use std::alloc::Global;
 use std::mem;
-use zone_graph::Grid;
+use zone_graph::{Grid, MOST_ZONES};
 
 /// Makes the lists of rows of those zones of a set whose kept rows do not rest on the footing once it is moved to the line, and
 /// answers for which zones it made them.
@@ -309,7 +308,7 @@ pub(crate) fn is_set(bits: u64, place: usize) -> bool
 }
 
 // Makes the rows of a zone, in place of those that were there: those of a draft, where they are certified, and else those that
-// a walk along the line finds. The draft begins with the flow that is noted, and its own is noted where they are certified.
+// a walk along the line finds.
 fn fill_list(
     alloc: Global,
     grid: &Grid,
@@ -348,7 +347,8 @@ fn fill_list(
     Ok(false)
 }
 
-// Writes the rows of a zone that a draft tells, and answers whether they are certified.
+// Writes the rows of a zone that a draft tells, and answers whether they are certified. The draft begins with the flow of the
+// certificate.
 fn list_certified(
     grid: &Grid,
     work: &mut Work,
@@ -372,60 +372,68 @@ fn list_certified(
     if !work.whole.fits {
         return Ok(false);
     }
-    draft_rows(grid, work, line, zone, &certificate.flow, rows)?;
-    let (rooms, left, end) = (&work.of_part, &work.walk.rooms, work.whole.orders.len());
-    if !work
-        .cuts
-        .are_certified(grid, rooms, left, line.side, zone, end)
+    // It shows that the grid has no more than 64 zones.
+    let _ = grid.zones();
+    let (draft, flow) = (&mut *work.draft, &mut certificate.flow);
+    let (rooms, shown) = (&work.of_part, &work.whole.shown);
+    if draft.begin(grid, rooms, flow, line.side, zone, shown)
+        && is_balanced(grid, flow, line.side, zone, shown)
     {
-        return Ok(false);
+        list_whole(&work.whole, certificate, rows)?;
+        return Ok(true);
     }
-    note_draft(work, certificate);
-    Ok(true)
+    list_along(grid, work, line, zone, certificate, rows)
 }
 
-// Notes the flow and the cuts of a draft.
-fn note_draft(work: &Work, certificate: &mut Certificate)
-    requires of { length certificate.old.flow.of ≡ length work.now.of_part }
-    requires left { length certificate.old.flow.left ≡ length work.now.walk.rooms }
-    ensures of { certificate.new.flow.of ≡ work.now.of_part }
-    ensures left { certificate.new.flow.left ≡ work.now.walk.rooms }
-    ensures cuts { certificate.new.cuts ≡ work.now.cuts.value.places }
+// Writes the rows of a whole line, in place of others. No zone has a cut before its end.
+fn list_whole(
+    whole: &WholeLine,
+    certificate: &mut Certificate,
+    rows: &mut Vec<ViewRow>,
+) -> Result<(), NoMemory>
+    ensures flow { certificate.new.flow ≡ certificate.old.flow }
+    ensures cuts { certificate.new.cuts ≡ replicate 64 (length whole.now.orders.items) }
+    ensures rows { OnOk result (rows.new.items ≡ whole.now.rows.items) }
 {
-    let (rooms, left) = (&work.of_part, &work.walk.rooms);
-    certificate
-        .flow
-        .note(rooms, left, &work.draft, &work.cuts.given);
-    certificate.cuts = work.cuts.places;
+    certificate.cuts = [whole.orders.len(); MOST_ZONES];
+    rows.clear();
+    rows.extend_from_slice(whole.rows.as_slice())?;
+    Ok(())
 }
 
-// Writes the rows of a zone that a draft tells, in place of others. The draft begins with a flow.
-fn draft_rows(
+// Writes the rows of a zone whose orders give what a draft has them obtain, and answers whether they are certified.
+fn list_along(
     grid: &Grid,
     work: &mut Work,
     line: Line,
     zone: u32,
-    flow: &Flow,
+    certificate: &mut Certificate,
     rows: &mut Vec<ViewRow>,
-) -> Result<(), NoMemory>
+) -> Result<bool, NoMemory>
     ghost of: { BoardLine }
     requires grid { grid.now ≡ of.board.grid }
+    requires zone { HasZone grid.now zone }
+    requires side { line.side ≡ of.side }
     requires fits { work.old.whole.fits ≡ true }
     requires work { IsLineWork of.board of.part of.side work.old }
-    requires flow { IsFlow (border_count grid.now) flow.now }
-    ensures along { OnOk result (AreAlong (resting_line of.board of.part of.side) work.new.cuts.value) }
-    ensures rows { OnOk result (rows.new.items ≡ rows_in_turn (given_by work.new.cuts.value) (resting_line of.board of.part of.side)) }
-    ensures kept { AreKept work.new.of_part work.new.walk.rooms }
+    requires rooms { certificate.old.flow.of ≡ work.old.of_part }
+    requires left { length certificate.old.flow.left ≡ border_count grid.now }
+    requires kept { AreKept work.old.of_part certificate.old.flow.left }
+    ensures rows { IfOk result (λ is. IsTrue is → rows.new.items ≡ view_of of.board of.part of.side zone) }
     ensures work { IsLineWork of.board of.part of.side work.new }
     ensures same { (work.new.of_part ≡ work.old.of_part) × (work.new.whole ≡ work.old.whole) }
+    ensures flow { IsFlow (border_count grid.now) certificate.new.flow }
+    ensures rest { IfOk result (λ is. IsTrue is → RestOnWork grid.now work.new line.side zone certificate.new rows.new.items) }
 {
     // It shows that the grid has no more than 64 zones.
     let _ = grid.zones();
-    let (rooms, left) = (&work.of_part, &mut work.walk.rooms);
-    let (draft, whole) = (&mut *work.draft, &work.whole);
-    if draft.begin(grid, rooms, left, line.side, zone, flow, &whole.shown) {
-        return work.cuts.give_all(whole, rows);
+    let orders = work.whole.orders.as_slice();
+    let (cuts, flow) = (&mut *work.cuts, &mut certificate.flow);
+    cuts.along(grid, &mut work.draft, flow, orders, rows)?;
+    if !cuts.are_certified(grid, flow, line.side, zone, orders.len()) {
+        return Ok(false);
     }
-    let orders = whole.orders.as_slice();
-    work.cuts.along(grid, draft, left, orders, rows)
+    flow.note_given(&cuts.given);
+    certificate.cuts = cuts.places;
+    Ok(true)
 }

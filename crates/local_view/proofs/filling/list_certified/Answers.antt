@@ -1,53 +1,64 @@
-use Rattle.std.proofs.Common.{◌∙◌, ap, length, subst, sym}
+use Rattle.std.proofs.Common.{◌∙◌, ◌≢◌, ℕ, [], ap, arith, get_or, length, refl, replicate, subst, sym}
+use Rattle.std.proofs.lemmas.List.{length-map}
 use Rattle.order_kinds.specs.declared.side.Side.{Side}
 use Rattle.zone_graph.specs.Graph.{Graph, HasZone, border_count}
 use Rattle.zone_graph.specs.Rooms.{room_of}
+use Rattle.cut_proof.specs.Carrying.{FitTogether}
 use Rattle.market_model.specs.Board.{resting_line}
-use Rattle.local_view.specs.declared.cuts.Cuts.{Cuts}
-use Rattle.local_view.specs.declared.whole.WholeLine.{WholeLine}
+use Rattle.local_view.specs.declared.draft.Flow.{Flow}
 use Rattle.local_view.specs.Certified.{IsCertified}
-use Rattle.local_view.specs.Cuts.{cut_by, flow_beside, given_by}
+use Rattle.local_view.specs.Drafts.{AreKept, IsFlow}
 use Rattle.local_view.specs.Footing.{RestOnWork}
-use Rattle.local_view.proofs.Certificates.{certified_view}
-use Rattle.local_view.proofs.Resting.{rest-drafted}
+use Rattle.local_view.specs.Moved.{cut_in, flow_in}
+use Rattle.local_view.specs.Ways.{PassesOn}
+use Rattle.local_view.specs.Whole.{in_line}
+use Rattle.local_view.proofs.Cutting.{all_shown_rows}
+use Rattle.local_view.proofs.Listed.{rooms-fit}
+use Rattle.local_view.proofs.Resting.{AreTold, rest-told, view-told}
+use Rattle.local_view.proofs.Standing.{whole_certified}
+use Rattle.local_view.proofs.Wholes.{small-resting}
 use Rattle.local_view.proofs.filling.list_certified.Goals as goal
 
-pub note_draft-requires : goal.note_draft-requires
-note_draft-requires g c =
-    let sized = c.in_ok-draft_rows.ensures.work.sized in
-    let flow = c.requires.1.1.1.1 in
-    record {
-      of = flow.0 ∙ ap border_count c.requires.0 ∙ sym (sized.sound.of_part ∙ sized.borders);
-      left = flow.1 ∙ ap border_count c.requires.0 ∙ sym (sized.sound.walk.rooms ∙ sized.borders);
-    }
+pub begin-requires-clause-fit : goal.begin-requires-clause-fit
+begin-requires-clause-fit g c =
+    subst (λ (graph : Graph). FitTogether graph (room_of c.args.work.now.of_part)) (sym c.requires.0) (rooms-fit g.of.board g.of.part c.args.work.now.of_part c.requires.1.1.1.0.rooms)
 
-pub returns : goal.returns
-returns g c =
+pub returns-then-is_balanced : goal.returns-then-is_balanced
+returns-then-is_balanced g c =
     let of = g.of in
+    let grid = c.args.grid.now in
     let zone = c.args.zone in
-    let work = c.draft_rows.new.work in
-    let drafted = c.in_ok-draft_rows.ensures in
+    let work = c.requires.1.1.1.0 in
+    let whole = c.args.work.now.whole in
     let line = resting_line of.board of.part of.side in
-    let flow = flow_beside work.of_part work.walk.rooms in
-    let certified : IsCertified c.args.grid.now (room_of work.of_part) of.side zone line flow (given_by work.cuts.value) (cut_by work.cuts.value) =
-    subst (λ (side : Side). IsCertified c.args.grid.now (room_of work.of_part) side zone line flow (given_by work.cuts.value) (cut_by work.cuts.value)) c.requires.1.1.0
-    (subst (λ (cuts : Cuts). IsCertified c.args.grid.now (room_of work.of_part) c.args.line.side zone line flow (given_by cuts) (cut_by cuts)) c.deref.ensures
-    (c.are_certified.ensures c.if-not-are_certified.false)) in
+    let flow = c.begin.new.flow in
+    let few = c.zones.ensures.grid in
+    let listed = c.in_ok-list_whole.ensures in
+    let small = small-resting of.board work.hand of.part of.side whole work.read grid c.requires.0 few.few_zones in
+    let told : AreTold grid of.board of.part of.side zone c.args.work.now.of_part c.list_whole.new.certificate c.list_whole.new.rows.items = record {
+      taken = λ other. get_or whole.shown other 0;
+      certified =
+          subst (λ (f : Flow). IsCertified grid (room_of c.args.work.now.of_part) of.side zone line (flow_in f) (λ other. get_or whole.shown other 0) (cut_in c.list_whole.new.certificate.cuts)) (sym c.list_whole.ensures.flow)
+          (subst (λ rooms. IsCertified grid (room_of rooms) of.side zone line (flow_in flow) (λ other. get_or whole.shown other 0) (cut_in c.list_whole.new.certificate.cuts)) c.begin.ensures.of
+          (whole_certified grid flow.of flow.left (subst (λ rooms. AreKept rooms flow.left) (sym c.begin.ensures.of) c.begin.ensures.kept) few of.side zone (omega (arith, c.requires.1.0, few.few_zones)) line
+          whole.shown c.list_whole.new.certificate.cuts (work.read.zones c.if-not-work.false)
+          (subst (λ (side : Side). (other : ℕ) → HasZone grid other → other ≢ zone → PassesOn grid side (flow_in flow) other (get_or whole.shown other 0)) c.requires.1.1.0
+          (c.is_balanced.ensures c.if-is_balanced.true))
+          (c.list_whole.ensures.cuts ∙ ap (replicate 64) (ap length work.read.orders ∙ length-map line in_line))));
+      rows_are = listed.rows ∙ work.read.rows ∙ all_shown_rows line (record { given = whole.shown; places = [] }) (work.read.zones c.if-not-work.false) small;
+    } in
     record {
-      rows = λ is.
-          drafted.rows
-          ∙ certified_view of.board drafted.work.hand drafted.work.read.is_board of.part of.side zone (subst (λ (graph : Graph). HasZone graph zone) c.requires.0 c.requires.1.0) work.of_part
-          drafted.work.rooms flow (given_by work.cuts.value) (cut_by work.cuts.value)
-          (subst (λ (graph : Graph). IsCertified graph (room_of work.of_part) of.side zone line flow (given_by work.cuts.value) (cut_by work.cuts.value)) c.requires.0 certified)
-          (drafted.work.read.few (ap (λ (whole : WholeLine). whole.fits) drafted.same.1 ∙ c.if-not-work.false));
-      work = drafted.work;
-      same = drafted.same;
-      flow = (
-        ap length c.note_draft.ensures.of ∙ drafted.work.sized.sound.of_part ∙ drafted.work.sized.borders ∙ ap border_count (sym c.requires.0),
-        ap length c.note_draft.ensures.left ∙ drafted.work.sized.sound.walk.rooms ∙ drafted.work.sized.borders ∙ ap border_count (sym c.requires.0),
-      );
+      rows = λ is. view-told grid of.board of.part of.side c.requires.0 zone c.requires.1.0 c.args.work.now work c.list_whole.new.certificate c.list_whole.new.rows.items told c.if-not-work.false;
+      work = record {
+        hand = work.hand;
+        sized = record { borders = work.sized.borders; sound = record { of_part = work.sized.sound.of_part; walk = work.sized.sound.walk } };
+        rooms = work.rooms;
+        read = work.read;
+      };
+      same = (refl, refl);
+      flow = subst (IsFlow (border_count grid)) (sym c.list_whole.ensures.flow)
+          (ap length c.begin.ensures.of ∙ work.sized.sound.of_part ∙ work.sized.borders ∙ ap border_count (sym c.requires.0), c.begin.ensures.left);
       rest = λ is.
-          subst (λ (side : Side). RestOnWork c.args.grid.now work side zone c.note_draft.new.certificate c.draft_rows.new.rows.items) (sym c.requires.1.1.0)
-          (rest-drafted c.args.grid.now of.board of.part of.side c.requires.0 zone c.requires.1.0 work drafted.work c.draft_rows.new.rows.items c.note_draft.new.certificate certified drafted.rows
-          c.note_draft.ensures.of c.note_draft.ensures.left c.note_draft.ensures.cuts);
+          subst (λ (side : Side). RestOnWork grid c.args.work.now side zone c.list_whole.new.certificate c.list_whole.new.rows.items) (sym c.requires.1.1.0)
+          (rest-told grid of.board of.part of.side c.requires.0 zone c.requires.1.0 c.args.work.now work c.list_whole.new.certificate c.list_whole.new.rows.items told);
     }

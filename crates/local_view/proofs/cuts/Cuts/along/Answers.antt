@@ -2,6 +2,7 @@ use Rattle.std.proofs.Common.{◌≡◌, ◌∙◌, ◌+◌, ◌++◌, Global, V
 use Rattle.std.proofs.lemmas.List.{length-map}
 use Rattle.market_model.specs.declared.reply.ViewRow.{ViewRow}
 use Rattle.local_view.specs.declared.cuts.Cuts.{Cuts}
+use Rattle.local_view.specs.declared.draft.Flow.{Flow}
 use Rattle.local_view.specs.Drafts.{AreKept}
 use Rattle.local_view.specs.Poured.{row_if}
 use Rattle.local_view.specs.Moved.{no_order}
@@ -14,6 +15,7 @@ use Rattle.local_view.proofs.cuts.Cuts.along.Goals.{then-place-self+in_ok-add_ro
 pub loop-place-init : goal.loop-place-init
 loop-place-init g c = record {
   cutting = subst (AreCutting g.line 0 _) (sym c.clear.ensures.items) (none_cut g.line _ refl refl);
+  of = refl;
   size = c.requires.1.1.1.0;
   kept = λ arc. refl;
 }
@@ -25,7 +27,7 @@ pub obtain-lots-requires : goal.obtain-lots-requires
 obtain-lots-requires g c = record {
   zone = seen_small g.line c.args.orders.now c.loop-place.place no_order c.requires.0 c.loop-place-test.true c.requires.1.0;
   size = c.loop-place.invariant.size;
-  fit = fit-kept c.args.grid.now c.args.left.now c.loop-place.left c.requires.1.1.1.1 c.loop-place.invariant.kept;
+  fit = fit-kept c.args.grid.now c.args.flow.now.left c.loop-place.flow.left c.requires.1.1.1.1 c.loop-place.invariant.kept;
 }
 
 pub take-requires : goal.take-requires
@@ -51,10 +53,11 @@ loop-place-preserved g c = elim c.if-place-self.branch [
             (next_taken g.line c.args.orders.now c.requires.0 c.requires.1.0 c.loop-place.place no_order c.loop-place-test.true c.loop-place.self c.loop-place.rows.items c.loop-place.invariant.cutting
             w.take.new.self w.obtain-lots.result.0
             (record { most = w.obtain-lots.ensures.most; early = w.if-place-self.true; given = taken.given; size = taken.size; cuts = taken.cuts; part = taken.part; all = taken.all })));
-        size = ap length w.left-is ∙ w.obtain-lots.ensures.size;
+        of = ap (λ (flow : Flow). flow.of) w.flow-is ∙ w.obtain-lots.ensures.of ∙ c.loop-place.invariant.of;
+        size = ap (λ (flow : Flow). length flow.left) w.flow-is ∙ w.obtain-lots.ensures.size;
         kept =
-            subst (AreKept c.args.left.now) (sym w.left-is)
-            (kept-on c.args.left.now c.loop-place.left w.obtain-lots.new.left c.loop-place.invariant.kept w.obtain-lots.ensures.kept);
+            subst (λ (flow : Flow). AreKept c.args.flow.now.left flow.left) (sym w.flow-is)
+            (kept-on c.args.flow.now.left c.loop-place.flow.left w.obtain-lots.new.flow.left c.loop-place.invariant.kept w.obtain-lots.ensures.kept);
       }
   | else-place-self w ↦ record {
     cutting =
@@ -62,8 +65,9 @@ loop-place-preserved g c = elim c.if-place-self.branch [
         (subst (λ (cuts : Cuts). AreCutting g.line (c.loop-place.place + 1) cuts c.loop-place.rows.items) (sym w.self-is)
         (next_passed g.line c.args.orders.now c.requires.0 c.requires.1.0 c.loop-place.place no_order c.loop-place-test.true c.loop-place.self c.loop-place.rows.items c.loop-place.invariant.cutting
         w.if-place-self.false));
-    size = ap length w.left-is ∙ c.loop-place.invariant.size;
-    kept = subst (AreKept c.args.left.now) (sym w.left-is) c.loop-place.invariant.kept;
+    of = ap (λ (flow : Flow). flow.of) w.flow-is ∙ c.loop-place.invariant.of;
+    size = ap (λ (flow : Flow). length flow.left) w.flow-is ∙ c.loop-place.invariant.size;
+    kept = subst (λ (flow : Flow). AreKept c.args.flow.now.left flow.left) (sym w.flow-is) c.loop-place.invariant.kept;
   }
 ]
 
@@ -75,6 +79,7 @@ returns g c = record {
   rows =
       all_rows g.line c.loop-place.self c.loop-place.rows.items c.loop-place.place (omega (arith, c.loop-place-test.false, ap length c.requires.0 ∙ length-map g.line in_line))
       c.loop-place.invariant.cutting;
+  of = c.loop-place.invariant.of;
   size = c.loop-place.invariant.size;
   kept = c.loop-place.invariant.kept;
 }

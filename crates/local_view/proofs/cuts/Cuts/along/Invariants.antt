@@ -8,6 +8,7 @@ use Rattle.local_view.proofs.cuts.Cuts.along.Given as goal
 abbrev pub invariant-loop-place : goal.invariant-loop-place
 invariant-loop-place g l = record {
   cutting : AreCutting g.line l.place l.self l.rows.items;
-  size : length l.left ≡ border_count l.grid;
-  kept : AreKept l.fn.left l.left;
+  of : l.flow.of ≡ l.fn.flow.of;
+  size : length l.flow.left ≡ border_count l.grid;
+  kept : AreKept l.fn.flow.left l.flow.left;
 }

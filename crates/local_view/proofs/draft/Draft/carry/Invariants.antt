@@ -8,7 +8,8 @@ invariant-loop l = l.lots ≤ l.most
 
 abbrev pub invariant-loop-2 : goal.invariant-loop-2
 invariant-loop-2 l = record {
-  size : length l.left ≡ border_count l.grid;
-  kept : AreKept l.fn.left l.left;
-  rest : l.self.given ≡ l.fn.self.given;
+  of : l.flow.of ≡ l.fn.flow.of;
+  size : length l.flow.left ≡ border_count l.grid;
+  kept : AreKept l.fn.flow.left l.flow.left;
+  rest : l.flow.given ≡ l.fn.flow.given;
 }

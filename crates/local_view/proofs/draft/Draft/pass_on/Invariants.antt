@@ -5,4 +5,8 @@ use Rattle.local_view.proofs.draft.Draft.pass_on.Given as goal
 
 -- what is left so far keeps the sums
 abbrev pub invariant-loop-zone-then-staying-ne0 : goal.invariant-loop-zone-then-staying-ne0
-invariant-loop-zone-then-staying-ne0 l = record { size : length l.left ≡ border_count l.grid; kept : AreKept l.fn.left l.left }
+invariant-loop-zone-then-staying-ne0 l = record {
+  of : l.flow.of ≡ l.fn.flow.of;
+  size : length l.flow.left ≡ border_count l.grid;
+  kept : AreKept l.fn.flow.left l.flow.left;
+}

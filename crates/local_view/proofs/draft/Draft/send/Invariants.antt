@@ -5,7 +5,8 @@ use Rattle.local_view.proofs.draft.Draft.send.Given as goal
 
 abbrev pub invariant-loop : goal.invariant-loop
 invariant-loop l = record {
-  size : length l.left ≡ border_count l.grid;
-  kept : AreKept l.fn.left l.left;
+  of : l.flow.of ≡ l.fn.flow.of;
+  size : length l.flow.left ≡ border_count l.grid;
+  kept : AreKept l.fn.flow.left l.flow.left;
   more : l.more ≤ l.lots;
 }
