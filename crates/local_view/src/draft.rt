@@ -12,6 +12,7 @@ ghost use Rattle.local_view.specs.Moved.{flow_in};
 
 use crate::filling::is_set;
 use crate::still_standing::are_same;
+use crate::ways::NO_ARC;
 use market_model::Side;
 use zone_graph::{Arc, Grid, MOST_ZONES, NoMemory, Rooms};
 
@@ -199,6 +200,8 @@ pub(crate) struct Draft {
     giving: u64,
     // From which zone the last search came to each.
     before: [u32; MOST_ZONES],
+    // The arcs of the way that lots are carried over, the last first.
+    way: [Arc; MOST_ZONES],
 }
 
 impl Draft {
@@ -209,6 +212,7 @@ impl Draft {
             zone: 0,
             giving: 0,
             before: [0; MOST_ZONES],
+            way: [NO_ARC; MOST_ZONES],
         }
     }
 
@@ -305,7 +309,11 @@ impl Draft {
         ensures kept { AreKept flow.old.left flow.new.left }
     {
         let zones = grid.zones();
-        let can = short & flow.can_reach(self.zone, zones);
+        let can = if short.count_ones() < 2 {
+            short
+        } else {
+            short & flow.can_reach(self.zone, zones)
+        };
         let mut is_all = can == short;
         for zone in 0..zones {
             if is_set(can, zone as usize) {
@@ -438,24 +446,28 @@ impl Draft {
     {
         let mut lots = most;
         let mut zone = to;
-        for _ in 0..MOST_ZONES {
+        for step in 0..MOST_ZONES {
             if zone == from {
                 break;
             }
             let before = self.came_from(zone);
             lots = match self.arc(grid, before, zone) {
-                Some(arc) => lots.min(flow.left.at(arc)),
+                Some(arc) => {
+                    self.way[step] = arc;
+                    lots.min(flow.left.at(arc))
+                }
                 None => 0,
             };
             zone = before;
         }
         zone = to;
-        for _ in 0..MOST_ZONES {
+        for step in 0..MOST_ZONES {
             if zone == from {
                 break;
             }
             let before = self.came_from(zone);
-            if let Some(arc) = self.arc(grid, before, zone) {
+            let arc = self.way[step];
+            if arc.border < grid.borders() && before < 64 && zone < 64 {
                 flow.pass(arc, before, zone, lots);
             }
             zone = before;
