@@ -8,5 +8,6 @@ pub mod Near
 pub mod Stable
 pub mod Taken
 pub mod Tells
+pub mod Kept
 pub mod Growing
 pub mod Placing

@@ -3,10 +3,12 @@
 //! book in priority.
 //!
 //! No order book is kept. The sums of all orders and blocks of an hour are taken in one pass over
-//! the events; sums that a caller holds take in the events that have come since. All quantities are
-//! lots, tenths of a MW; all prices are cents per MWh.
+//! the events; sums that a caller holds take in the events that have come since, and those of each hour
+//! can be kept from one command to the next. All quantities are lots, tenths of a MW; all prices are cents
+//! per MWh.
 #![tactic(auto)]
 
+mod day_sums;
 mod hour;
 mod lines;
 mod naming;
@@ -16,6 +18,7 @@ mod standing;
 mod sums;
 mod tally;
 
+pub use day_sums::DaySums;
 pub use hour::{blocks_of, open_names, open_orders, open_orders_over, withdrawals};
 pub use lines::{
     best_price, best_prices, block_line, block_lines_are_of_blocks, line, lines_are_of_orders,
