@@ -13,6 +13,7 @@ use event_history::History;
 use market_model::{Command, Commands, Duplicate, Entries, Entry, Setup};
 use market_text::Session;
 use plain_market::reply_and_append;
+use plain_orders::DaySums;
 use session_journal::grid_of;
 use std::alloc::Global;
 use trade_journal::Counts;
@@ -62,11 +63,13 @@ fn play(
     prove!(zones <= 64);
     let mut given = Counts::new(alloc, commands.len())?;
     let mut history = History::new(alloc)?;
+    let mut sums = DaySums::new(alloc)?;
     let mut entries = Entries::new(alloc);
     for turn in turns {
         let place = given.count(*turn as usize);
         let command = command_at(commands, *turn as usize, place);
-        let reply = reply_and_append(alloc, grid, setup, &mut history, *turn, command)?;
+        let events = &mut history;
+        let reply = reply_and_append(alloc, grid, setup, events, &mut sums, *turn, command)?;
         entries.push(Entry {
             caller: *turn,
             nth: place + 1,

@@ -28,6 +28,8 @@ use Rattle.market_text.specs.declared.session.Session.{Session}
 use Rattle.laws_of_market.proofs.ReplyEntries.{reply-enters-few}
 use Rattle.laws_of_market.proofs.ReplyNames.{reply-names}
 use Rattle.session_journal.proofs.Once.{as-many}
+use Rattle.plain_orders.specs.DaySums.{AreDaySums, nothing_summed}
+use Rattle.plain_orders.proofs.Kept.{day_sums-none}
 use Rattle.trade_journal.specs.Journals.{all_rooms, room_of_caller}
 use Rattle.trade_journal.proofs.Rooms.{entries-fit}
 use Rattle.journal_audit.specs.Course.{IsCourse, IsNextLine, callers_of, entries_of, next_entry}
@@ -92,7 +94,7 @@ zeros (suc n) zero = refl
 zeros (suc n) (suc caller) = zeros n caller
 
 -- before any command
-pub course-new : (session : Session) (count : ℕ) → count ≡ length session.commands → IsCourse session (record { given = replicate count 0; history = []; entries = [] })
+pub course-new : (session : Session) (count : ℕ) → count ≡ length session.commands → IsCourse session (record { given = replicate count 0; history = []; entries = []; sums = nothing_summed })
 unfolding run_after
 course-new session count is = record {
   journal = refl;
@@ -102,6 +104,7 @@ course-new session count is = record {
   given = λ caller. omega arith;
   few = omega arith;
   named = All-nil (IsEntryIn session.setup);
+  summed = day_sums-none [];
 }
 
 -- ---- the next entry
@@ -160,8 +163,9 @@ module _ (session : Session) (course : Course) (is : IsCourse session course) wh
         → after.given ≡ slice_set course.given caller (slice_index course.given caller + 1)
         → after.history ≡ course.history ++ events_of (reply_to session.setup course.history caller command)
         → after.entries ≡ course.entries ++ made session.setup course caller command ∷ []
+        → AreDaySums after.history after.sums
         → IsCourse session after
-    course-more after is_setup known there gave happened grew = record {
+    course-more after is_setup known there gave happened grew summed = record {
       journal = grew ∙ journal-more session course.entries caller entry is.journal made-next
           ∙ ap (λ callers. run_of session.setup (in_turn session.commands callers)) (sym (ap callers_of grew ∙ map-append (λ (e : Entry). e.caller) course.entries (entry ∷ [])));
       happened = happened ∙ ap (λ es. es ++ events_of entry.reply) is.happened ∙ sym (ap journal_events grew ∙ journal_events-more course.entries entry);
@@ -172,6 +176,7 @@ module _ (session : Session) (course : Course) (is : IsCourse session course) wh
           (subst (λ es. entered_count (course.history ++ events_of entry.reply) ≤ 8 * length es) (sym grew)
           (omega (arith, sum_by-append (λ event. cond (enters event) 1 0) course.history (events_of entry.reply), length-append course.entries (entry ∷ []), is.few, few)));
       named = subst (All (IsEntryIn session.setup)) (sym grew) (All-push (IsEntryIn session.setup) course.entries entry is.named (made-named is_setup caller command known));
+      summed = summed;
     }
       where
         entry : Entry

@@ -9,6 +9,7 @@ use Rattle.market_model.specs.Naming.{IsEntryIn}
 use Rattle.market_model.specs.Sweep.{all_parts}
 use Rattle.market_text.specs.declared.session.Session.{Session}
 use Rattle.market_text.specs.Commands.{commands_of}
+use Rattle.plain_orders.specs.DaySums.{AreDaySums}
 use Rattle.journal_audit.specs.declared.course.Course.{Course}
 use Rattle.journal_audit.specs.Lines.{caller_named}
 
@@ -21,7 +22,8 @@ abbrev pub entries_of : List Entry → (caller : ℕ) → ℕ
 entries_of entries caller = count_by (λ entry. entry.caller == caller) entries
 
 -- the entries are those of their callers, each with its next command; the events are theirs, at most 8 of an entry that
--- enter an order or a block; and each caller's count is how many entries it has, no more than it has commands
+-- enter an order or a block; each caller's count is how many entries it has, no more than it has commands; and what is
+-- kept of the sums of each hour is of the events
 pub record IsCourse (session : Session) (course : Course) : Type 0 where
   pub journal : course.entries ≡ run_of session.setup (in_turn session.commands (callers_of course.entries))
   pub happened : course.history ≡ journal_events course.entries
@@ -30,6 +32,7 @@ pub record IsCourse (session : Session) (course : Course) : Type 0 where
   pub given : (caller : ℕ) → entries_of course.entries caller ≤ length (commands_of session.commands caller)
   pub few : entered_count course.history ≤ 8 * length course.entries
   pub named : All (IsEntryIn session.setup) course.entries
+  pub summed : AreDaySums course.history course.sums
 
 -- the entry of a caller's next command after entries
 abbrev pub next_entry : Session → List Entry → (caller : ℕ) → Option Entry

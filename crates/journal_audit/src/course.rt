@@ -1,5 +1,5 @@
-//! What an audit keeps of the lines that were right: their entries, the events of these, and how many commands each
-//! caller has given.
+//! What an audit keeps of the lines that were right: their entries, the events of these, the sums of the orders of
+//! each hour, and how many commands each caller has given.
 
 ghost use Rattle.std.specs.Prelude.{◌≡◌, ◌+◌, ◌*◌, ◌-◌, ◌^◌, ◌<◌, ◌≤◌, ◌++◌, ◌∷◌, [], ℕ, ◌≢◌, IfOk, OnOk, Ok, length, replicate, slice_get, slice_index, slice_set, true, false};
 ghost use Rattle.std.specs.Option.{option_copied};
@@ -10,6 +10,7 @@ ghost use Rattle.market_model.specs.WellFormed.{IsHistory, IsMarketSetup};
 ghost use Rattle.market_model.specs.declared.entry.Entry.{Entry as EntryValue};
 ghost use Rattle.market_text.specs.Commands.{commands_of};
 ghost use Rattle.market_text.specs.Session.{IsSession};
+ghost use Rattle.plain_orders.specs.DaySums.{AreDaySums, nothing_summed};
 ghost use Rattle.journal_audit.specs.Course.{IsCourse, IsNextLine};
 
 use crate::lines::caller_named;
@@ -18,27 +19,31 @@ use journal_print::print_entry;
 use market_model::{Command, Commands, Duplicate, Entries, Entry, Setup};
 use market_text::Session;
 use plain_market::reply_and_append;
+use plain_orders::DaySums;
 use std::alloc::Global;
 use trade_journal::Counts;
 use zone_graph::{Grid, NoMemory};
 
-/// The entries of the lines so far, their events, and how many commands each caller has given.
+/// The entries of the lines so far, their events, how many commands each caller has given, and what is kept of the
+/// sums of the orders of each hour.
 #[derive(Drop)]
 pub(crate) struct Course {
     given: Counts,
     history: History,
     entries: Entries,
+    sums: DaySums,
 }
 
 impl Course {
     /// Before the first line, for so many callers.
     pub(crate) fn new(alloc: Global, callers: usize) -> Result<Course, NoMemory>
-        ensures { IfOk result (λ course. course ≡ record { given = replicate callers 0; history = []; entries = [] }) }
+        ensures { IfOk result (λ course. course ≡ record { given = replicate callers 0; history = []; entries = []; sums = nothing_summed }) }
     {
         Ok(Course {
             given: Counts::new(alloc, callers)?,
             history: History::new(alloc)?,
             entries: Entries::new(alloc),
+            sums: DaySums::new(alloc)?,
         })
     }
 
@@ -105,12 +110,16 @@ impl Course {
         requires grid { grid.now ≡ graph_of setup.now }
         requires history { IsHistory setup.now self.old.history }
         requires few { entered_count self.old.history < 2 ^ 32 - 1 }
+        requires summed { AreDaySums self.old.history self.old.sums }
         ensures entry { IfOk result (λ entry. entry ≡ record { caller = caller; nth = slice_index self.old.given caller + 1; command = command.now; reply = reply_to setup.now self.old.history caller command.now }) }
         ensures given { OnOk result (self.new.given ≡ slice_set self.old.given caller (slice_index self.old.given caller + 1)) }
         ensures history { OnOk result (self.new.history ≡ self.old.history ++ events_of (reply_to setup.now self.old.history caller command.now)) }
         ensures entries { self.new.entries ≡ self.old.entries }
+        ensures summed { AreDaySums self.new.history self.new.sums }
     {
-        let reply = reply_and_append(alloc, grid, setup, &mut self.history, caller, command)?;
+        let events = &mut self.history;
+        let sums = &mut self.sums;
+        let reply = reply_and_append(alloc, grid, setup, events, sums, caller, command)?;
         let nth = self.given.count(caller as usize) + 1;
         let command = command.copy()?;
         Ok(Entry {

@@ -8,6 +8,7 @@ pub mod Growing
 pub mod Happenings
 pub mod Hours
 pub mod Judged
+pub mod Kept
 pub mod Made
 pub mod Parts
 pub mod Reach

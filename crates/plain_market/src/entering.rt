@@ -12,6 +12,7 @@ ghost use Rattle.market_model.specs.StateRules.{filling_rules};
 ghost use Rattle.plain_market.specs.Entering.{CanEnter, StaysWhereRefused};
 ghost use Rattle.plain_matching.specs.Grown.{Grew};
 ghost use Rattle.plain_matching.specs.Summed.{AreHourSums};
+ghost use Rattle.plain_orders.specs.DaySums.{AreDaySums};
 ghost use Rattle.plain_orders.specs.Histories.{IsSomeHistory};
 ghost use Rattle.plain_orders.specs.Tallies.{AreSums};
 
@@ -19,14 +20,15 @@ use crate::judging::refusal_after;
 use event_history::History;
 use market_model::{Event, Kind, NoMemory, Order, OrderName, Refusal};
 use plain_matching::{HourSums, cut_back, sweep, take};
-use plain_orders::{OrderSums, left_over, next_name_over};
+use plain_orders::{DaySums, OrderSums, left_over, next_name_over};
 use std::alloc::Global;
 use zone_graph::Grid;
 
 /// Enters an order, unless it is to be filled wholly and cannot be, or what would rest of it has no
 /// room on the desk: its entry, the legs that it takes, the withdrawal of an immediate-or-cancel
 /// order's rest and the sweep of its hour go to the end of the events. Answers why it is refused; the
-/// events are then as before.
+/// events are then as before. The sums that are kept of its hour take in the events that have come since,
+/// and are kept again if the order is not refused; those of a refused order are of events that are gone.
 ///
 /// # Errors
 ///
@@ -36,18 +38,25 @@ pub(crate) fn enter(
     alloc: Global,
     grid: &Grid,
     events: &mut History,
+    kept: &mut DaySums,
     caller: u32,
     order: &Order,
 ) -> Result<Option<Refusal>, NoMemory>
     requires can { CanEnter grid.now events.old caller (order.now ∷ []) }
     requires few { entered_count events.old < 2 ^ 32 - 1 }
+    requires summed { AreDaySums events.old kept.old }
     ensures refusal { IfOk result (λ refusal. refusal ≡ first_broken (filling_rules grid.now events.old caller (command.Enter order.now))) }
     ensures entered { result ≡ Ok None → events.new ≡ events.old ++ market.enter sweeping.all_parts grid.now caller order.now events.old }
     ensures kept { StaysWhereRefused result events.old events.new }
     ensures err { OnErr result (Grew events.old events.new) }
+    ensures summed { AreDaySums events.new kept.new }
 {
     let before = events.as_slice().len();
-    let mut sums = HourSums::none();
+    let hour = order.contract.hour;
+    let mut sums = HourSums {
+        orders: kept.take(hour),
+        capacity: None,
+    };
     let name = enter_and_take(alloc, grid, events, &mut sums, caller, order)?;
     match refusal_after(alloc, grid, events, &mut sums, before + 1, name, order)? {
         Some(refusal) => {
@@ -56,6 +65,7 @@ pub(crate) fn enter(
         }
         None => {
             finish(alloc, grid, events, &mut sums, name, order)?;
+            kept.put(hour, sums.orders.take());
             Ok(None)
         }
     }
@@ -134,6 +144,7 @@ fn finish(
     ensures ok { let rested = events.old ++ market.rest_withdrawn order.now.kind name (orders.left events.old name) in
         OnOk result (events.new ≡ rested ++ sweeping.sweep sweeping.all_parts grid.now order.now.contract.hour rested) }
     ensures err { OnErr result (Grew events.old events.new) }
+    ensures summed { OnOk result (AreHourSums grid.now events.new order.now.contract.hour sums.new) }
 {
     let zones = grid.zones();
     prove!(zones <= 64);

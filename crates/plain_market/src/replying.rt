@@ -11,6 +11,7 @@ ghost use Rattle.market_model.specs.WellFormed.{IsHistory};
 ghost use Rattle.market_model.specs.StateRules.{filling_rules};
 ghost use Rattle.market_model.specs.LetIn.{IsLetIn};
 ghost use Rattle.plain_matching.specs.Grown.{Grew};
+ghost use Rattle.plain_orders.specs.DaySums.{AreDaySums};
 
 use crate::basket::enter_basket;
 use crate::blocks::enter_block;
@@ -21,6 +22,7 @@ use event_history::History;
 use market_model::{
     Command, Duplicate, Event, Events, NoMemory, Refusal, Reply, Setup, refuse_early,
 };
+use plain_orders::DaySums;
 use plain_refusals::refuse_by_state;
 use std::alloc::Global;
 use zone_graph::Grid;
@@ -48,11 +50,13 @@ pub fn reply(
     ensures reply { IfOk result (λ reply. reply ≡ market.reply_to setup.now events.now caller command.now) }
 {
     let mut history = History::of(alloc, events.as_slice())?;
-    reply_and_append(alloc, grid, setup, &mut history, caller, command)
+    let mut sums = DaySums::new(alloc)?;
+    reply_and_append(alloc, grid, setup, &mut history, &mut sums, caller, command)
 }
 
 /// The same, and what the command brings about goes to the end of the events: so the next command can
-/// be answered. A refused command and a view leave the events as they were.
+/// be answered. A refused command and a view leave the events as they were. The sums of the orders of
+/// each hour are kept for the next command, where they are at hand.
 ///
 /// # Errors
 ///
@@ -63,6 +67,7 @@ pub fn reply_and_append(
     grid: &Grid,
     setup: &Setup,
     events: &mut History,
+    sums: &mut DaySums,
     caller: u32,
     command: &Command,
 ) -> Result<Reply, NoMemory>
@@ -70,9 +75,11 @@ pub fn reply_and_append(
     requires grid { grid.now ≡ graph_of setup.now }
     requires history { IsHistory setup.now events.old }
     requires few { entered_count events.old < 2 ^ 32 - 1 }
+    requires summed { AreDaySums events.old sums.old }
     ensures reply { IfOk result (λ reply. reply ≡ market.reply_to setup.now events.old caller command.now) }
     ensures events { OnOk result (events.new ≡ events.old ++ events_of (market.reply_to setup.now events.old caller command.now)) }
     ensures err { OnErr result (Grew events.old events.new) }
+    ensures summed { AreDaySums events.new sums.new }
 {
     let early = refuse_early(grid, setup, caller, command);
     if let Some(refusal) = early {
@@ -82,7 +89,7 @@ pub fn reply_and_append(
     if let Some(refusal) = broken {
         return Ok(Reply::Refused(refusal));
     }
-    reply_to_let_in(alloc, grid, setup, events, caller, command)
+    reply_to_let_in(alloc, grid, setup, events, sums, caller, command)
 }
 
 // The reply to a command that breaks no rule by itself and none on the state before it.
@@ -91,16 +98,19 @@ fn reply_to_let_in(
     grid: &Grid,
     setup: &Setup,
     events: &mut History,
+    sums: &mut DaySums,
     caller: u32,
     command: &Command,
 ) -> Result<Reply, NoMemory>
     requires grid { grid.now ≡ graph_of setup.now }
     requires history { IsHistory setup.now events.old }
     requires few { entered_count events.old < 2 ^ 32 - 1 }
+    requires summed { AreDaySums events.old sums.old }
     requires let_in { IsLetIn setup.now events.old caller command.now }
     ensures reply { IfOk result (λ reply. reply ≡ market.reply_to setup.now events.old caller command.now) }
     ensures events { OnOk result (events.new ≡ events.old ++ events_of (market.reply_to setup.now events.old caller command.now)) }
     ensures err { OnErr result (Grew events.old events.new) }
+    ensures summed { AreDaySums events.new sums.new }
 {
     if let Command::View {
         contract,
@@ -112,7 +122,7 @@ fn reply_to_let_in(
         return Ok(Reply::Seen(rows));
     }
     let before = events.len();
-    match carry_out(alloc, grid, setup, events, caller, command)? {
+    match carry_out(alloc, grid, setup, events, sums, caller, command)? {
         Some(refusal) => Ok(Reply::Refused(refusal)),
         None => Ok(Reply::Done(events_from(alloc, events.as_slice(), before)?)),
     }
@@ -124,22 +134,25 @@ fn carry_out(
     grid: &Grid,
     setup: &Setup,
     events: &mut History,
+    sums: &mut DaySums,
     caller: u32,
     command: &Command,
 ) -> Result<Option<Refusal>, NoMemory>
     requires grid { grid.now ≡ graph_of setup.now }
     requires history { IsHistory setup.now events.old }
     requires few { entered_count events.old < 2 ^ 32 - 1 }
+    requires summed { AreDaySums events.old sums.old }
     requires let_in { IsLetIn setup.now events.old caller command.now }
     ensures refusal { IfOk result (λ refusal. refusal ≡ first_broken (filling_rules grid.now events.old caller command.now)) }
     ensures done { result ≡ Ok None → events.new ≡ events.old ++ market.events_done all_parts setup.now events.old caller command.now }
     ensures kept { (refusal : TheRefusal) → result ≡ Ok (Some refusal) → events.new ≡ events.old }
     ensures err { OnErr result (Grew events.old events.new) }
+    ensures summed { AreDaySums events.new sums.new }
 {
     let zones = grid.zones();
     prove!(zones <= 64);
     match command {
-        Command::Enter { order } => enter(alloc, grid, events, caller, order),
+        Command::Enter { order } => enter(alloc, grid, events, sums, caller, order),
         Command::EnterBasket { orders } => {
             enter_basket(alloc, grid, events, caller, orders.as_slice())
         }

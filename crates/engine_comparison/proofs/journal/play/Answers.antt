@@ -8,6 +8,8 @@ use Rattle.market_model.specs.declared.event.Event.{Event}
 use Rattle.market_model.specs.History.{enters, entered_count, events_of}
 use Rattle.market_model.specs.Market.{reply_to}
 use Rattle.market_model.specs.Naming.{IsEntryIn, IsReplyIn}
+use Rattle.plain_orders.specs.DaySums.{AreDaySums}
+use Rattle.plain_orders.proofs.Kept.{day_sums-none}
 use Rattle.session_journal.proofs.Journals.{IsNextEntry, IsPlayed, nothing-played, played-history, played-more}
 use Rattle.laws_of_market.proofs.ReplyEntries.{reply-enters-few}
 use Rattle.laws_of_market.proofs.ReplyNames.{reply-names}
@@ -26,6 +28,7 @@ loop-turn-init c =
           (subst (λ history. IsPlayed setup commands turns 0 [] history) (sym c.in_ok-history.ensures) (nothing-played setup commands turns));
       few = subst (λ history. entered_count history ≤ 0) (sym c.in_ok-history.ensures) (omega arith);
       named = subst (λ entries. All (IsEntryIn setup) entries) (sym c.new-entries.ensures) (λ k d h. absurd (omega (arith, h)));
+      summed = subst (AreDaySums c.in_ok-history.history) (sym c.in_ok-sums.ensures) (day_sums-none c.in_ok-history.history);
     }
 
 -- whose turn it is has a command left
@@ -85,4 +88,5 @@ loop-turn-preserved c =
                 (subst IsGraph c.requires.grid c.zones-zones.ensures.grid.is_graph)
                 (played-history setup (subst IsGraph c.requires.grid c.zones-zones.ensures.grid.is_graph) c.args.commands.now turns i c.loop-turn.entries c.loop-turn.history before.played));
           }));
+      summed = c.reply_and_append.ensures.summed;
     }

@@ -1,8 +1,11 @@
-use Rattle.std.proofs.Common.{rules, ◌∙◌, ◌+◌, Ok, length, refl, sym, ap}
+use Rattle.std.proofs.Common.{rules, ◌∙◌, ◌+◌, Ok, IfSome, length, refl, sym, ap, subst}
 use Rattle.market_model.specs.Sweep.{all_parts}
 use Rattle.plain_matching.specs.Grown.{Grew}
 use Rattle.plain_market.proofs.Fitting.{can-part, can-zone, taken-legal}
+use Rattle.plain_market.proofs.Growing.{goes-back}
 use Rattle.plain_market.proofs.Judged.{order-found}
+use Rattle.plain_market.proofs.Kept.{kept-back, kept-without}
+use Rattle.plain_orders.specs.Tallies.{AreSums}
 use Rattle.plain_market.proofs.Parts.{entered-is, few-in, taken, taken-back, taken-few, taken-grew}
 use Rattle.plain_market.proofs.entering.enter.Goals as goal
 
@@ -60,4 +63,39 @@ returns-clause-entered c =
     (c.in_ok-refusal.ensures.kept (ap Ok c.in-None.is) ∙ c.in_ok-name.ensures.ok) c.in_ok-name.ensures.name c.in_ok-finish-in-None.ensures.ok
 
 pub enter_and_take-requires-clause-summed : goal.enter_and_take-requires-clause-summed
-enter_and_take-requires-clause-summed c = c.none-sums.ensures c.args.grid.now c.args.events.now c.args.order.now.contract.hour
+enter_and_take-requires-clause-summed c = record {
+  orders_are = subst (λ o. IfSome o (AreSums c.args.events.now c.args.order.now.contract.hour)) (sym c.take.ensures.taken)
+      (c.requires.summed.each c.args.order.now.contract.hour);
+  capacity_is = tt;
+}
+
+pub returns-in_err-name-clause-summed : goal.returns-in_err-name-clause-summed
+returns-in_err-name-clause-summed c =
+    kept-without c.args.events.now c.enter_and_take.new.events c.args.kept.now c.take.new.self c.args.order.now.contract.hour c.take.ensures.left
+    c.in_err-name.ensures.err c.requires.summed
+
+pub returns-in_err-refusal-clause-summed : goal.returns-in_err-refusal-clause-summed
+returns-in_err-refusal-clause-summed c =
+    let grown : Grew c.args.events.now c.refusal_after.new.events =
+    taken-grew c.args.grid.now c.args.events.now c.args.caller c.args.order.now _ c.enter_and_take.new.events c.refusal_after.new.events c.in_ok-name.name
+    (length c.as_slice-before.result.now + 1) refl (taken c.args.grid.now c.args.events.now c.args.caller c.args.order.now c.enter_and_take.new.events c.in_ok-name.name (length c.as_slice-before.result.now)
+    (ap length c.as_slice-before.ensures) c.in_ok-name.ensures.name c.in_ok-name.ensures.ok) c.refusal_after.ensures.cut in
+    kept-without c.args.events.now c.refusal_after.new.events c.args.kept.now c.take.new.self c.args.order.now.contract.hour c.take.ensures.left grown c.requires.summed
+
+pub returns-in-Some-clause-summed : goal.returns-in-Some-clause-summed
+returns-in-Some-clause-summed c =
+    kept-without c.args.events.now c.cut_back.new.events c.args.kept.now c.take.new.self c.args.order.now.contract.hour c.take.ensures.left
+    (goes-back c.args.events.now c.cut_back.new.events
+    (c.cut_back.ensures
+    ∙ taken-back c.args.grid.now c.args.events.now c.args.caller c.args.order.now c.enter_and_take.new.events c.refusal_after.new.events c.in_ok-name.name
+    (length c.as_slice-before.result.now) (ap length c.as_slice-before.ensures) (taken c.args.grid.now c.args.events.now c.args.caller c.args.order.now c.enter_and_take.new.events c.in_ok-name.name (length c.as_slice-before.result.now)
+    (ap length c.as_slice-before.ensures) c.in_ok-name.ensures.name c.in_ok-name.ensures.ok) c.refusal_after.ensures.cut)) c.requires.summed
+
+pub returns-clause-summed : goal.returns-clause-summed
+returns-clause-summed c =
+    kept-back c.args.events.now c.finish.new.events _ c.args.kept.now c.take.new.self c.put.new.self c.args.order.now.contract.hour _ c.take.ensures.left
+    (entered-is all_parts c.args.grid.now c.args.events.now c.refusal_after.new.events c.finish.new.events c.args.caller c.args.order.now c.in_ok-name.name
+    (c.in_ok-refusal.ensures.kept (ap Ok c.in-None.is) ∙ c.in_ok-name.ensures.ok) c.in_ok-name.ensures.name c.in_ok-finish-in-None.ensures.ok)
+    c.requires.summed
+    (subst (λ o. IfSome o (AreSums c.finish.new.events c.args.order.now.contract.hour)) (sym c.take-in-None.ensures.value)
+    c.in_ok-finish-in-None.ensures.summed.orders_are) c.put.ensures

@@ -35,7 +35,7 @@ returns-in-Some c =
     let made = refused_late c.args.grid.now c.args.setup.now c.args.events.now c.carry_out.new.events c.args.caller c.args.command.now c.in-Some.refusal
     c.requires.grid c.requires.let_in
     (sym c.in-Some.is ∙ c.in_ok-refusal.ensures.refusal) (c.in_ok-refusal.ensures.kept c.in-Some.refusal (ap Ok c.in-Some.is)) in
-    record { reply = made.reply; events = made.history; err = tt }
+    record { reply = made.reply; events = made.history; err = tt; summed = c.carry_out.ensures.summed }
 
 pub returns-in_ok-events_from-in-None : goal.returns-in_ok-events_from-in-None
 returns-in_ok-events_from-in-None c =
@@ -43,4 +43,4 @@ returns-in_ok-events_from-in-None c =
     c.len-before.result c.requires.grid c.in_default.not-View c.requires.let_in
     (sym c.in-None.is ∙ c.in_ok-refusal.ensures.refusal) (c.in_ok-refusal.ensures.done (ap Ok c.in-None.is)) c.len-before.ensures
     (c.in_ok-events_from-in-None.ensures ∙ ap (drop c.len-before.result) c.as_slice.ensures) in
-    record { reply = made.reply; events = made.history; err = tt }
+    record { reply = made.reply; events = made.history; err = tt; summed = c.carry_out.ensures.summed }

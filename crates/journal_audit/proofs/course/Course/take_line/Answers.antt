@@ -73,7 +73,8 @@ returns-clause-course c = λ _.
     let matched = c.requires.course.matched in
     let callers = c.requires.session.matched in
     course-more session course c.requires.course caller command given
-    (record { given = c.play.new.self.given; history = c.play.new.self.history; entries = c.push.new.self })
+    (record { given = c.play.new.self.given; history = c.play.new.self.history; entries = c.push.new.self; sums = c.play.new.self.sums })
     c.requires.setup known (omega (arith, known, matched, callers))
     c.in_ok-entry.ensures.given c.in_ok-entry.ensures.history
     (c.in_ok-push.ensures.ok ∙ ap (λ es. es ++ c.in_ok-entry.entry ∷ []) c.play.ensures.entries ∙ ap (λ e. course.entries ++ e ∷ []) c.in_ok-entry.ensures.entry)
+    c.play.ensures.summed
