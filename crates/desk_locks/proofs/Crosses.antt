@@ -1,7 +1,7 @@
 -- A row of desks may be shared by threads, and a desk may go from one to another.
 use denote.Param.Send.{IsSend, IsSync, sendable}
 use Rattle.std.proofs.Crossing.{crosses}
-use Rattle.basket_match.proofs.Crosses.{desk_send}
+use Rattle.joint_plan.proofs.Crosses.{desk_send}
 use Rattle.journal_front.proofs.seats.DeskSeat.TheSendSync as seat
 use Rattle.kept_lock.proofs.lock.KeptLock.TheSendSync as lock
 use Rattle.desk_locks.specs.contracts.home.Home as home

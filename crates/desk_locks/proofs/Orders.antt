@@ -1,7 +1,7 @@
 -- Desks that are held, place by place.
 use Rattle.std.proofs.Common.{◌≡◌, ◌∙◌, ◌<◌, List, [], ◌∷◌, ◌++◌, map, length, refl, sym, ap, subst, arith, append_assoc}
 use Rattle.std.proofs.lemmas.List.{length-append, map-append}
-use Rattle.basket_match.specs.Desk.{DeskState}
+use Rattle.joint_plan.specs.Desk.{DeskState}
 use Rattle.journal_front.specs.Fronts.{DeskSeatState}
 use Rattle.desk_locks.specs.Held.{AllInPlace}
 use Rattle.desk_locks.specs.declared.home.Taken.{Taken}

@@ -2,7 +2,7 @@
 use Rattle.std.specs.Prelude.{◌≡◌, ℕ, List, [], ◌∷◌, filter, slice_set}
 use Rattle.market_model.specs.declared.hours.Hours.{Hours}
 use Rattle.market_model.specs.HourSet.{has_hour}
-use Rattle.basket_match.specs.Desk.{DeskState}
+use Rattle.joint_plan.specs.Desk.{DeskState}
 use Rattle.journal_front.specs.Fronts.{DeskSeatState}
 use Rattle.desk_locks.specs.Places.{AreInPlace, Place}
 

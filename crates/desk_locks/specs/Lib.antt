@@ -3,5 +3,5 @@ pub mod Places
 pub mod Held
 pub mod Homes
 -- What stands below and is passed on to the crates above.
-pub use Rattle.basket_match.specs.Desk
-pub use Rattle.basket_match.specs.Rows
+pub use Rattle.joint_plan.specs.Desk
+pub use Rattle.joint_plan.specs.Rows

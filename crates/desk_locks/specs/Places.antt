@@ -4,7 +4,7 @@ use Rattle.order_kinds.specs.Period.{hours_from}
 use Rattle.zone_graph.specs.Graph.{Graph}
 use Rattle.market_model.specs.Concerned.{left_for}
 use Rattle.market_model.specs.Grid.{graph_of}
-use Rattle.basket_match.specs.Desk.{DeskState}
+use Rattle.joint_plan.specs.Desk.{DeskState}
 use Rattle.trade_journal.specs.Journals.{IsJournal}
 use Rattle.journal_front.specs.Fronts.{DeskSeatState, FrontState, IsDeskOf, desk_of}
 

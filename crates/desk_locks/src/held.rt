@@ -3,7 +3,7 @@
 ghost use Rattle.desk_locks.specs.Held as held;
 
 use crate::home::{Seated, Taken};
-use basket_match::{Desks, HourDesk};
+use joint_plan::{Desks, HourDesk};
 use journal_front::{DeskSeat, HourSeats};
 use std::marker::Model;
 

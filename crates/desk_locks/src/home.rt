@@ -5,7 +5,7 @@ ghost use Rattle.std.specs.Arc.{arc_value};
 ghost use Rattle.journal_front.specs.Fronts.{FrontState, desk_of};
 ghost use Rattle.desk_locks.specs.Places.{AreInPlace, IsGridOf, place_of_seat};
 
-use basket_match::HourDesk;
+use joint_plan::HourDesk;
 use journal_front::DeskSeat;
 use kept_lock::{Duty, Kept, KeptLock};
 use std::alloc::Global;

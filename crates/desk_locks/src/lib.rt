@@ -9,7 +9,7 @@ mod held;
 mod home;
 mod row;
 
-pub use basket_match::{Desks, HourDesk, carry_all, plan_basket, plan_joint, refuse, undo_all};
 pub use held::Held;
+pub use joint_plan::{Desks, HourDesk, carry_all, plan_joint, refuse, undo_all};
 pub use row::DeskRow;
 pub use zone_graph::NoMemory;

@@ -9,7 +9,8 @@ ghost use Rattle.venue_core.specs.Shared.{AreOfOneJournal};
 ghost use Rattle.journal_front.specs.Fronts.{FrontState};
 ghost use Rattle.market_model.specs.Grid.{graph_of};
 
-use desk_locks::{Held, plan_basket, plan_joint};
+use basket_match::plan_basket;
+use desk_locks::{Held, plan_joint};
 use market_model::{Command, Reply, Setup};
 use std::alloc::Global;
 use zone_graph::{Grid, NoMemory};

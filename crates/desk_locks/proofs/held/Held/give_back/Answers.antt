@@ -1,6 +1,6 @@
 use Rattle.std.proofs.Common.{◌∙◌, ◌++◌, Option, ap, arith, map, subst, sym}
 use Rattle.std.specs.Option.{option_to_list}
-use Rattle.basket_match.specs.Desk.{DeskState}
+use Rattle.joint_plan.specs.Desk.{DeskState}
 use Rattle.journal_front.specs.Fronts.{DeskSeatState}
 use Rattle.desk_locks.specs.Held.{AllInPlace}
 use Rattle.desk_locks.specs.Homes.{place_of_taken}
