@@ -30,6 +30,7 @@ pub mod Told
 pub mod Trades
 pub mod Unique
 pub mod Uses
+pub mod MostRoom
 pub mod Wholes
 pub mod LocalAnswers
 pub mod LocalBlocks

@@ -8,6 +8,7 @@ pub mod InJournals
 pub mod OpenOrders
 pub mod RowSums
 pub mod TakerBound
+pub mod LineMakers
 pub mod Viewed
 pub mod Filtered
 pub mod NamedElsewhere

@@ -28,7 +28,7 @@ use Rattle.laws_of_market.proofs.OfHours.{one-agrees}
 use Rattle.laws_of_rows.specs.Depth.{maker_of}
 use Rattle.laws_of_rows.specs.Filled.{rows_with}
 use Rattle.laws_of_rows.proofs.Views.{view-is}
-use Rattle.local_view.proofs.LineMakers.{makers-cross, makers-once}
+use Rattle.laws_of_views.proofs.LineMakers.{makers-cross, makers-once}
 use Rattle.laws_of_views.proofs.FirstMakers.{AllCross, AreOnce}
 use Rattle.local_view.specs.Poured.{rows_taken}
 use Rattle.local_view.proofs.Walking.{walked, walked-trades}

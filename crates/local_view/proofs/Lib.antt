@@ -11,7 +11,6 @@ mod Keeping
 mod Leading
 mod Spreading
 mod Joining
-mod LineMakers
 mod Lines
 mod Listed
 mod Made

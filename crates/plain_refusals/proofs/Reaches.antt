@@ -1,6 +1,5 @@
 -- The zones in reach and the room across borders, where the rooms of the graph's arcs are the same.
-use Rattle.std.proofs.Common.{◌≡◌, ℕ, suc, zero, ◌+◌, ◌*◌, ◌≤◌, ◌&&◌, Bool, true, false, not, List, [], ◌∷◌, filter, flat_map, fold, length, map, min, sum_by, pos, ◌≤ℤ◌, ℤ, negsuc, refl, arith, if◌then◌else◌}
-use Rattle.std.proofs.lemmas.Int.{ints}
+use Rattle.std.proofs.Common.{◌≡◌, ℕ, suc, zero, ◌+◌, ◌*◌, ◌≤◌, Bool, List, [], ◌∷◌, filter, flat_map, length, sum_by, refl, arith}
 use Rattle.std.proofs.lemmas.List.Sums.{count_by-le-length, length-filter, sum_by-cons}
 use Rattle.std.specs.List.{range_with_len}
 use Rattle.order_kinds.specs.declared.contract.Quarter.{Quarter}
@@ -10,11 +9,11 @@ use Rattle.zone_graph.specs.declared.route.Arc.{Arc}
 use Rattle.zone_graph.specs.Graph.{Graph, arcs_of, arcs_over, border_count}
 use Rattle.zone_graph.specs.Reach.{enters, leaves}
 use Rattle.market_model.specs.declared.event.Event.{Event}
-use Rattle.market_model.specs.Capacity.{remaining}
 use Rattle.market_model.specs.Certificate.{room_across}
-use Rattle.market_model.specs.Room.{is_halted, is_open_phase, lots_of, phase_of, quarter_room, room}
+use Rattle.market_model.specs.Room.{room}
 use Rattle.market_model.specs.WellFormed.{IsLegalOver}
-use Rattle.laws_of_market.proofs.Uses.{IsWithinOffers, remaining-within, within_offers}
+use Rattle.laws_of_market.proofs.MostRoom.{room-most}
+use Rattle.laws_of_market.proofs.Uses.{within_offers}
 
 -- ---- how much room there can be
 
@@ -26,31 +25,6 @@ sum-most f most (x ∷ xs) each =
     let sum = sum_by-cons f x xs in
     let product : suc (length xs) * most ≡ most + length xs * most = grind arith in
     omega arith
-
-lots_of-most : (z : ℤ) → z ≤ℤ pos 2000000 → lots_of z ≤ 2000000
-lots_of-most (pos n) h = omega (arith, ints)
-lots_of-most (negsuc n) h = omega arith
-
-chosen-most : (b : Bool) (lots : ℕ) → lots ≤ 2000000 → (if b then lots else 0) ≤ 2000000
-chosen-most true lots h = h
-chosen-most false lots h = omega arith
-
-fold-min-le : (n : ℕ) (ns : List ℕ) → fold min n ns ≤ n
-fold-min-le n [] = omega arith
-fold-min-le n (m ∷ ns) = let rest = fold-min-le (min n m) ns in omega arith
-
-module _ (events : List Event) (within : IsWithinOffers events) where
-  quarter-most : (arc : Arc) (quarter : Quarter) → quarter_room events arc quarter ≤ 2000000
-  quarter-most arc quarter =
-      chosen-most (is_open_phase (phase_of events quarter.hour) && not (is_halted events arc.border quarter.hour)) (lots_of (remaining events quarter arc))
-      (lots_of-most (remaining events quarter arc) (remaining-within events within quarter arc).1)
-
-  room-most : (quarters : List Quarter) (arc : Arc) → room events quarters arc ≤ 2000000
-  room-most [] arc = omega arith
-  room-most (quarter ∷ quarters) arc =
-      let one = quarter-most arc quarter in
-      let rest = fold-min-le (quarter_room events arc quarter) (map (quarter_room events arc) quarters) in
-      omega arith
 
 -- two arcs for each border
 arcs-length : (borders : List ℕ) → length (flat_map arcs_over borders) ≡ length borders * 2
