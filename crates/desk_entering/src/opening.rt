@@ -1,11 +1,9 @@
 //! The sweep of an hour, where legs that are planned may have opened an arc to other parts.
 
 ghost use Rattle.std.specs.Prelude.{◌≡◌, ◌<◌, ◌≤◌, ℕ, [], false, None, OnOk, length};
-ghost use Rattle.zone_graph.specs.declared.route.Arc.{Arc as RouteArc};
 ghost use Rattle.zone_graph.specs.Graph.{border_count};
 ghost use Rattle.zone_graph.specs.Rooms.{room_of};
-ghost use Rattle.zone_graph.specs.Route.{IsIn};
-ghost use Rattle.sweep_core.specs.Sweeping.{hour_sweep, swept, may_open};
+ghost use Rattle.sweep_core.specs.Sweeping.{hour_sweep, swept};
 ghost use Rattle.kept_hour.specs.State.{with_board};
 ghost use Rattle.desk_entering.specs.Entries.{IsSettledAs};
 ghost use Rattle.desk_entering.specs.Opening as opening;
@@ -13,8 +11,8 @@ ghost use Rattle.desk_entering.specs.Opening as opening;
 use kept_hour::KeptHour;
 use market_model::{Event, NoMemory};
 use std::alloc::Global;
-use sweep_core::sweep;
-use zone_graph::{Arc, Grid, Rooms};
+use sweep_core::{may_open, sweep};
+use zone_graph::{Grid, Rooms};
 
 /// Sweeps an hour where one of its planned legs goes over an arc whose opposite arc had no room, by the
 /// rooms as they were settled. Where none does nothing is to be swept, and no memory is taken.
@@ -65,17 +63,4 @@ fn opens(rooms: &Rooms, event: &Event) -> bool
         Event::Leg { leg, .. } => may_open(rooms, leg.route.as_slice()),
         _ => false,
     }
-}
-
-// Whether the opposite of an arc of a route has no room.
-fn may_open(rooms: &Rooms, route: &[Arc]) -> bool
-    requires { (arc : RouteArc) → IsIn arc route.now → arc.border < length rooms.now }
-    ensures { result ≡ may_open (room_of rooms.now) route.now }
-{
-    for arc in route {
-        if rooms.at(arc.opposite()) == 0 {
-            return true;
-        }
-    }
-    false
 }

@@ -2,7 +2,8 @@
 use Rattle.std.proofs.Common.{◌≡◌, ℕ, zero, suc, inl, inr, true, List, [], ◌∷◌, subst, sym, pos, ◌≤ℤ◌, arith}
 use Rattle.zone_graph.specs.declared.route.Arc.{Arc}
 use Rattle.flow_netting.specs.declared.quarter_set.QuarterSet.{QuarterSet}
-use Rattle.flow_netting.specs.Border.{Border, EachQuarter}
+use Rattle.order_kinds.specs.Period.{EachQuarter}
+use Rattle.flow_netting.specs.Border.{Border}
 use Rattle.flow_netting.specs.Flows.{HasLotsLeft, remaining_at}
 use Rattle.flow_netting.specs.QuarterSet.{has}
 

@@ -1,6 +1,6 @@
 -- One border in one hour: its capacity in each quarter, and whether it is halted. The quarters of an
 -- hour are numbered from 1 to 4.
-use Rattle.std.specs.Prelude.{ℕ, ◌-◌, ◌≤◌, Bool, false, ◌&&◌, not, List, map, replicate, slice_index_or, if◌then◌else◌}
+use Rattle.std.specs.Prelude.{ℕ, ◌-◌, Bool, false, ◌&&◌, not, List, map, replicate, slice_index_or, if◌then◌else◌}
 use Rattle.quarter_capacity.specs.Row.{Row, nothing_offered, remaining}
 use Rattle.market_model.specs.Room.{least, lots_of}
 use Rattle.flow_netting.specs.declared.quarter_set.QuarterSet.{QuarterSet}
@@ -28,7 +28,3 @@ quarter_room is_open border forward number =
 -- the room in a direction over the quarters of a set: the least of theirs
 abbrev pub set_room : (is_open : Bool) → Border → (forward : Bool) → QuarterSet → ℕ
 set_room is_open border forward set = least (map (quarter_room is_open border forward) (quarters_in set))
-
--- something is true of each quarter
-abbrev pub EachQuarter : ((number : ℕ) → Type 0) → Type 0
-EachQuarter P = (number : ℕ) → 1 ≤ number → number ≤ 4 → P number

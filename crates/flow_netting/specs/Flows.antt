@@ -8,7 +8,8 @@ use Rattle.zone_graph.specs.Pour.{lots_if, opposite_arc}
 use Rattle.zone_graph.specs.Route.{AreDifferent, IsIn}
 use Rattle.market_model.specs.Room.{is_open_phase}
 use Rattle.flow_netting.specs.declared.quarter_set.QuarterSet.{QuarterSet}
-use Rattle.flow_netting.specs.Border.{Border, EachQuarter, idle_border, row_in, set_room}
+use Rattle.order_kinds.specs.Period.{EachQuarter}
+use Rattle.flow_netting.specs.Border.{Border, idle_border, row_in, set_room}
 use Rattle.flow_netting.specs.QuarterSet.{has}
 
 -- each border, by its number, and the phase

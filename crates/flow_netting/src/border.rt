@@ -3,7 +3,8 @@
 ghost use Rattle.std.specs.Prelude.{◌≡◌, ◌≤◌, ◌<◌, ◌↔◌, ◌==◌, ◌&&◌, not, true, Some, pos, ◌≤ℤ◌, ◌<ℤ◌, IsErr, IfErr, OnOk, OnErr, IfOk, min, map, replicate, unwrap_or, if◌then◌else◌};
 ghost use Rattle.std.specs.Option.{option_map_or};
 ghost use Rattle.quarter_capacity.specs.Row as rows;
-ghost use Rattle.flow_netting.specs.Border.{EachQuarter, idle_border, row_in, set_room};
+ghost use Rattle.order_kinds.specs.Period.{EachQuarter};
+ghost use Rattle.flow_netting.specs.Border.{idle_border, row_in, set_room};
 ghost use Rattle.market_model.specs.Room.{least, lots_of};
 ghost use Rattle.flow_netting.specs.QuarterSet.{has, quarters_in};
 ghost use Rattle.quarter_capacity.specs.Capacity.{most_offered, most_remaining};

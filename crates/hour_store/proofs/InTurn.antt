@@ -5,7 +5,7 @@ use Rattle.zone_graph.specs.declared.route.Arc.{Arc}
 use Rattle.zone_graph.specs.Pour.{same_arc, uses}
 use Rattle.zone_graph.specs.Route.{AreDifferent}
 use Rattle.flow_netting.specs.declared.quarter_set.QuarterSet.{QuarterSet}
-use Rattle.flow_netting.specs.Border.{EachQuarter}
+use Rattle.order_kinds.specs.Period.{EachQuarter}
 use Rattle.flow_netting.specs.Flows.{Flows, flow_of, offered_of, remaining_of}
 use Rattle.flow_netting.specs.QuarterSet.{has}
 use Rattle.flow_netting.proofs.RouteLemmas.{flow_more, left_on_next}

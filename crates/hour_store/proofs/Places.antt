@@ -14,6 +14,7 @@ use Rattle.contract_book.specs.declared.resting.Resting.{Resting}
 use Rattle.contract_book.specs.Book.{IsBook, changed, changed_line, filled, has_number, line_number, line_of, line_without, order_of, reduced, with_order, without}
 use Rattle.contract_book.specs.Resting.{order_after, order_less, resting_cmp}
 use Rattle.contract_book.proofs.Told.{filled-emptied, filled-rest, reduced-is}
+use Rattle.contract_book.proofs.BookShapes.{after-number}
 use Rattle.laws_of_books.proofs.Updates.{from_after, from_less, from_stands, is-stands}
 use Rattle.hour_store.specs.Contents.{IsOfPart}
 use Rattle.hour_store.specs.TakenBack.{HasItsPlace}
@@ -63,13 +64,6 @@ module _ (book : List (List Resting)) (part : ℕ) (order : Resting) (none : (k 
 
 -- ---- an order that was changed
 
-pub number-after : (order : Resting) (lots moment : ℕ) → (order_after order lots moment).number ≡ order.number
-number-after order lots moment = go order.ice refl
-  where
-    go : (ice : Option Ice) → order.ice ≡ ice → (order_after order lots moment).number ≡ order.number
-    go None e = rw e refl
-    go (Some ice) e = rw e refl
-
 zone-after : (order : Resting) (lots moment : ℕ) → (order_after order lots moment).zone ≡ order.zone
 zone-after order lots moment = go order.ice refl
   where
@@ -103,7 +97,7 @@ module _ (book : List (List Resting)) (is_book : IsBook book) (part : ℕ) (orde
           subst (λ b. HasItsPlace b part order) (ap (without book) own_number ∙ sym (filled-emptied book number order found lots moment all)) (without-placed book part order)
       | inr some ↦
           subst (λ b. HasItsPlace b part order) (sym (filled-rest book number order found lots moment some))
-          (changed-placed (order_after order lots moment) (number-after order lots moment) (zone-after order lots moment))
+          (changed-placed (order_after order lots moment) (after-number order lots moment) (zone-after order lots moment))
     ]
 
     pub reduced-placed : (by : ℕ) → HasItsPlace (reduced book number by) part order

@@ -5,7 +5,7 @@ use Rattle.quarter_capacity.specs.Capacity.{most_offered, remaining_of}
 use Rattle.zone_graph.specs.declared.route.Arc.{Arc}
 use Rattle.zone_graph.specs.Pour.{lots_if, opposite_arc, same_arc}
 use Rattle.zone_graph.proofs.Arcs.{same_arc-is}
-use Rattle.flow_netting.specs.Border.{EachQuarter}
+use Rattle.order_kinds.specs.Period.{EachQuarter}
 use Rattle.flow_netting.specs.Flows.{Flows, flow_of, offered_of}
 use Rattle.flow_netting.specs.Flows as kept
 use Rattle.laws_of_hours.specs.Standing.{IsCarried, IsOffered}

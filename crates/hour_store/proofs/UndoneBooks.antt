@@ -16,14 +16,14 @@ use Rattle.contract_book.specs.declared.resting.Resting.{Resting}
 use Rattle.contract_book.specs.Book.{IsBook, changed, changed_line, filled, has_number, line_number, line_of, line_without, order_count, order_of, parts_of, reduced, with_order, without}
 use Rattle.contract_book.specs.Priority.{resting_total}
 use Rattle.contract_book.specs.Resting.{order_after, order_less, resting_cmp}
-use Rattle.contract_book.proofs.BookShapes.{IsAlone, any-no, any-some, changed-again, changed-at, has-number, has_not-number, line_without-other, without-at, without-none}
+use Rattle.contract_book.proofs.BookShapes.{IsAlone, after-number, any-no, any-some, changed-again, changed-at, has-number, has_not-number, line_without-other, without-at, without-none}
 use Rattle.contract_book.proofs.Told.{filled-emptied, filled-rest, reduced-is}
 use Rattle.hour_store.specs.declared.change.Change.TheVariants as change
 use Rattle.hour_store.specs.Contents.{Contents, IsOfPart}
 use Rattle.hour_store.proofs.Alike.{alike-equal, alike-through}
 use Rattle.hour_store.proofs.Leads.{IsUndoneBy}
 use Rattle.hour_store.specs.TakenBack.{HasItsPlace}
-use Rattle.hour_store.proofs.Places.{number-after, rested-placed}
+use Rattle.hour_store.proofs.Places.{rested-placed}
 use Rattle.hour_store.proofs.PutBack.{filter-put, filter-twice, length-put, map-hides, put-restores}
 
 -- ---- what is left without a number
@@ -52,7 +52,7 @@ without-filled book number order lots moment found is = elim (cases_eq order.lef
   | inl all ↦ ap (λ b. without b number) (filled-emptied book number order found lots moment all) ∙ without-twice book number
   | inr some ↦
       ap (λ b. without b number) (filled-rest book number order found lots moment some)
-      ∙ without-changed book (order_after order lots moment) number (number-after order lots moment ∙ is)
+      ∙ without-changed book (order_after order lots moment) number (after-number order lots moment ∙ is)
 ]
 
 pub without-reduced : (book : List (List Resting)) (number : ℕ) (order : Resting) (by : ℕ) → order_of book number ≡ Some order → order.number ≡ number

@@ -6,7 +6,7 @@ use Rattle.contract_book.specs.declared.resting.Resting.{Resting}
 use Rattle.contract_book.specs.Book.{line_of}
 use Rattle.block_book.specs.declared.block.RestingBlock.{RestingBlock}
 use Rattle.quarter_capacity.specs.Capacity.{most_offered}
-use Rattle.flow_netting.specs.Border.{EachQuarter}
+use Rattle.order_kinds.specs.Period.{EachQuarter}
 use Rattle.flow_netting.specs.Flows.{Flows, InEachQuarter, SameFlows, SameHalts, SameOffers, border_count, flow_of, is_halted, offered_of, remaining_of}
 
 -- the orders that rest, of each part first its buys, then its sells; the blocks that rest; the flows

@@ -13,7 +13,7 @@ use Rattle.block_book.specs.Book.{block_of, with_block}
 use Rattle.block_book.specs.Book as blocks
 use Rattle.quarter_capacity.specs.Capacity.{most_offered}
 use Rattle.flow_netting.specs.declared.quarter_set.QuarterSet.{QuarterSet}
-use Rattle.flow_netting.specs.Border.{EachQuarter}
+use Rattle.order_kinds.specs.Period.{EachQuarter}
 use Rattle.flow_netting.specs.Flows.{Flows, border_count, flow_of, remaining_of}
 use Rattle.flow_netting.specs.QuarterSet.{has}
 use Rattle.laws_of_hours.specs.Standing.{IsCarried, IsHaltSet, IsOffered}

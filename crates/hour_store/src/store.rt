@@ -6,7 +6,7 @@ ghost use Rattle.std.specs.Option.{IsSomeAnd, option_to_list};
 ghost use Rattle.zone_graph.specs.Pour.{same_arc, uses};
 ghost use Rattle.contract_book.specs.Resting.{IsSound};
 ghost use Rattle.quarter_capacity.specs.Capacity.{most_offered};
-ghost use Rattle.flow_netting.specs.Border.{EachQuarter};
+ghost use Rattle.order_kinds.specs.Period.{EachQuarter};
 ghost use Rattle.flow_netting.specs.Flows as flow;
 ghost use Rattle.flow_netting.specs.QuarterSet.{has};
 ghost use Rattle.laws_of_hours.specs.Standing.{IsCarried, IsHaltSet, IsIdle, IsOffered};

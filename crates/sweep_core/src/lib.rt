@@ -11,4 +11,5 @@ mod sells;
 mod sweeping;
 
 pub use part_set::PartSet;
+pub use parts::may_open;
 pub use sweeping::{sweep, sweep_opened};

@@ -157,8 +157,9 @@ fn with_opening(part: u32, rooms: &Rooms, leg: Option<Leg>) -> Option<PartLeg>
     Some(PartLeg { part, leg, opens })
 }
 
-// Whether the opposite of an arc of a route has no room.
-fn may_open(rooms: &Rooms, route: &[Arc]) -> bool
+/// Whether a leg over a route may give an arc its first room: the opposite of one of its arcs has none. The arcs are those of
+/// the rooms.
+pub fn may_open(rooms: &Rooms, route: &[Arc]) -> bool
     requires { (arc : RouteArc) → IsIn arc route.now → arc.border < length rooms.now }
     ensures { result ≡ sweeping.may_open (room_of rooms.now) route.now }
 {

@@ -1,5 +1,5 @@
 use Rattle.std.proofs.Common.{◌≡◌, ◌∷◌, ◌++◌, ◌<◌, ◌≤ℤ◌, [], true, pos, ap, refl, sym, subst}
-use Rattle.flow_netting.specs.Border.{EachQuarter}
+use Rattle.order_kinds.specs.Period.{EachQuarter}
 use Rattle.flow_netting.specs.Flows.{border_count, remaining_of}
 use Rattle.flow_netting.specs.QuarterSet.{has}
 use Rattle.hour_store.specs.declared.change.Change.{Change}
