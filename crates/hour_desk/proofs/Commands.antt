@@ -1,10 +1,8 @@
 -- What a command does in an hour that it touches alone can follow there, and is what the calls that change an
 -- hour plan.
 use Rattle.std.proofs.Common.{◌≡◌, ◌∙◌, inl, ℕ, ◌+◌, ◌-◌, ◌<◌, ◌≤◌, not, true, List, [], ◌∷◌, ◌++◌, length, Option, Some, None, is_none, refl, sym, ap, subst, arith}
-use Rattle.std.proofs.lemmas.List.{append-nil}
 use Rattle.std.proofs.lemmas.List.FromFn.{length-range_with_len}
 use Rattle.order_kinds.specs.declared.contract.Contract.{Contract}
-use Rattle.order_kinds.specs.declared.contract.Quarter.{Quarter}
 use Rattle.order_kinds.specs.declared.order.Order.{Order}
 use Rattle.order_kinds.specs.declared.order.OrderName.{OrderName}
 use Rattle.order_kinds.specs.declared.phase.Phase.{Phase}
@@ -24,11 +22,11 @@ use Rattle.market_model.specs.Board.{IsHourOf}
 use Rattle.market_model.specs.Entering.{enter, name_of_next}
 use Rattle.market_model.specs.Grid.{graph_of}
 use Rattle.market_model.specs.History.{and_then}
-use Rattle.market_model.specs.Market.{events_done, gate, on_arc, then_sweeps, withdrawals}
+use Rattle.market_model.specs.Market.{events_done, gate, on_arc, withdrawals}
 use Rattle.market_model.specs.Orders.{left, next_name}
 use Rattle.market_model.specs.Refusals.{has_own, own_limit}
-use Rattle.market_model.specs.Rules.{border_is_known, first_broken, hours_concerned}
-use Rattle.market_model.specs.Sweep.{all_parts, sweep, sweeps}
+use Rattle.market_model.specs.Rules.{first_broken, hours_concerned}
+use Rattle.market_model.specs.Sweep.{all_parts, sweeps}
 use Rattle.market_model.specs.WellFormed.{Fits}
 use Rattle.market_model.specs.LetIn.{IsNoEntry}
 use Rattle.market_model.specs.StateRules.{filling_rules}
@@ -41,7 +39,6 @@ use Rattle.desk_blocks.specs.State.{CanBeNext, HourState, after_event, entry_of,
 use Rattle.laws_of_boards.specs.Hours.{IsOfHour}
 use Rattle.laws_of_boards.specs.Settled.{IsSettled}
 use Rattle.laws_of_boards.proofs.Admitting as entering
-use Rattle.desk_blocks.specs.Changes.{then_sweep}
 use Rattle.desk_refusals.specs.declared.owning.Own.{Own}
 use Rattle.desk_refusals.specs.Owned.{left_of, own_of}
 use Rattle.desk_refusals.proofs.Named.{told-number}
@@ -144,7 +141,7 @@ module _ (setup : Setup) (hour : HourState) (caller : ℕ) (given : Command) (ca
       refusal-none setup hour.settled caller given
       (let_in-refusal setup hour.settled caller given (let-in setup hour caller given can) ∙ no_entry-rules (graph_of setup) hour.settled caller given none)
 
-  first-stands : IsNoEntry given → (e : Event) (rest : List Event) → events_done all_parts setup hour.settled caller given ≡ e ∷ rest → CanBeNext hour e
+  pub first-stands : IsNoEntry given → (e : Event) (rest : List Event) → events_done all_parts setup hour.settled caller given ≡ e ∷ rest → CanBeNext hour e
   first-stands none e rest is =
       let first = is-first setup hour.board.hour hour.settled caller given none (no-matching setup hour caller given can.placed can.early) one-hour (admitted none) e rest is in
       next e first.own first.fits
@@ -273,51 +270,3 @@ pub view-planned : (setup : Setup) (hour : HourState) (caller : ℕ) (contract :
     → events_done all_parts setup hour.settled caller (command.View contract side zone) ≡ []
 unfolding events_done
 view-planned setup hour caller contract side zone = refl
-
--- ---- what happens over a range of hours, of which the hour is the only one
-
-module _ (setup : Setup) (hour : HourState) (caller : ℕ) (given : Command) (can : CanChange setup hour caller given) (none : IsNoEntry given) (e : Event)
-    (done : events_done all_parts setup hour.settled caller given ≡ then_sweeps all_parts (graph_of setup) (hours_concerned given) hour.settled e) where
-  pub range-next : CanBeNext hour e
-  range-next = first-stands setup hour caller given can none e (sweeps all_parts (graph_of setup) (hours_concerned given) (hour.settled ++ e ∷ [])) done
-
-  pub range-planned : (graph : Graph) (new : HourState) → graph ≡ hour.board.grid → new ≡ with_planned hour (then_sweep graph hour e)
-      → new ≡ with_planned hour (events_done all_parts setup hour.settled caller given)
-  range-planned graph new over is =
-      is ∙ ap (λ g. with_planned hour (then_sweep g hour e)) (over ∙ sym can.placed.over)
-      ∙ ap (λ legs. with_planned hour (e ∷ legs)) (sym (append-nil (sweep all_parts (graph_of setup) hour.board.hour (hour.settled ++ e ∷ []))))
-      ∙ ap (λ hours. with_planned hour (then_sweeps all_parts (graph_of setup) hours hour.settled e)) (sym (one-hour setup hour caller given can))
-      ∙ ap (with_planned hour) (sym done)
-
-module _ (setup : Setup) (events : List Event) (caller from to : ℕ) (arc : Arc) (found : arc_between (graph_of setup) from to ≡ Some arc) where
-  pub offer-done : (first last : Quarter) (lots : ℕ) → events_done all_parts setup events caller (command.Offer from to first last lots)
-      ≡ then_sweeps all_parts (graph_of setup) (hours_from first.hour last.hour) events (event.Offered arc first last lots)
-  unfolding events_done
-  offer-done first last lots =
-      ap (λ o. on_arc o (λ over. then_sweeps all_parts (graph_of setup) (hours_from first.hour last.hour) events (event.Offered over first last lots))) found
-
-  pub grant-done : (first last : Quarter) (lots : ℕ) → events_done all_parts setup events caller (command.Request from to first last lots)
-      ≡ then_sweeps all_parts (graph_of setup) (hours_from first.hour last.hour) events (event.Granted arc first last lots)
-  unfolding events_done
-  grant-done first last lots =
-      ap (λ o. on_arc o (λ over. then_sweeps all_parts (graph_of setup) (hours_from first.hour last.hour) events (event.Granted over first last lots))) found
-
-  pub halt-done : (first last : ℕ) → events_done all_parts setup events caller (command.Halt from to first last)
-      ≡ then_sweeps all_parts (graph_of setup) (hours_from first last) events (event.Halted arc.border first last)
-  unfolding events_done
-  halt-done first last =
-      ap (λ o. on_arc o (λ over. then_sweeps all_parts (graph_of setup) (hours_from first last) events (event.Halted over.border first last))) found
-
-  pub resumption-done : (first last : ℕ) → events_done all_parts setup events caller (command.Resume from to first last)
-      ≡ then_sweeps all_parts (graph_of setup) (hours_from first last) events (event.Resumed arc.border first last)
-  unfolding events_done
-  resumption-done first last =
-      ap (λ o. on_arc o (λ over. then_sweeps all_parts (graph_of setup) (hours_from first last) events (event.Resumed over.border first last))) found
-
--- the grid is the setup's
-pub over : (setup : Setup) (hour : HourState) (caller : ℕ) (given : Command) (graph : Graph) → graph ≡ hour.board.grid → CanChange setup hour caller given → graph ≡ graph_of setup
-over setup hour caller given graph same can = same ∙ sym can.placed.over
-
--- the border that a command names is there
-pub border-known : (setup : Setup) (hour : HourState) (caller : ℕ) (given : Command) → CanChange setup hour caller given → border_is_known (graph_of setup) given ≡ true
-border-known setup hour caller given can = (naming-none setup caller given (early-none setup caller given can.early).naming).border

@@ -3,6 +3,7 @@ pub mod Touching
 pub mod Owned
 pub mod Planned
 pub mod Commands
+pub mod RangeParts
 pub mod Views
 pub mod Desks
 pub mod Seen

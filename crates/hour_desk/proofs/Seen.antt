@@ -1,11 +1,9 @@
 -- The rows that are kept of a part are the market's of its contract.
-use Rattle.std.proofs.Common.{◌≡◌, ◌∙◌, ℕ, zero, suc, ◌<◌, ◌≤◌, ◌&&◌, true, List, [], ◌∷◌, nat_le, refl, sym, ap, subst, arith}
-use Rattle.std.proofs.lemmas.Bool.{and_parts, leb-true}
+use Rattle.std.proofs.Common.{◌≡◌, ◌∙◌, ℕ, ◌<◌, true, List, sym, ap, subst}
 use Rattle.order_kinds.specs.declared.contract.Contract.{Contract}
 use Rattle.order_kinds.specs.declared.contract.Part.{Part}
-use Rattle.order_kinds.specs.declared.contract.Part.TheVariants as part
 use Rattle.order_kinds.specs.declared.side.Side.{Side}
-use Rattle.order_kinds.specs.Contract.{contract_at, is_known, part_at, part_number}
+use Rattle.order_kinds.specs.Contract.{contract_at, is_known, part_number}
 use Rattle.zone_graph.specs.Graph.{HasZone}
 use Rattle.market_model.specs.declared.command.Command.TheVariants as command
 use Rattle.market_model.specs.declared.reply.ViewRow.{ViewRow}

@@ -1,12 +1,9 @@
 -- What a desk keeps for its views, once it is adopted or what is next is dropped.
-use Rattle.std.proofs.Common.{◌≡◌, ◌∙◌, ℕ, zero, suc, ◌+◌, ◌<◌, ◌≤◌, ◌^◌, List, [], ◌∷◌, get_or, length, map, None, refl, sym, ap, subst, arith}
+use Rattle.std.proofs.Common.{◌≡◌, ◌∙◌, ℕ, zero, suc, ◌<◌, List, [], ◌∷◌, get_or, length, map, None, refl, sym, ap, subst, arith}
 use Rattle.std.proofs.lemmas.List.{length-map}
 use Rattle.order_kinds.specs.declared.side.Side.{Side}
 use Rattle.order_kinds.specs.declared.side.Side.TheVariants.{Buy, Sell}
-use Rattle.zone_graph.specs.declared.route.Arc.{Arc}
-use Rattle.zone_graph.specs.Graph.{HasArc, border_count}
 use Rattle.zone_graph.specs.Pour.{opposite_arc}
-use Rattle.zone_graph.specs.Rooms.{room_of}
 use Rattle.market_model.specs.Board.{BoardState}
 use Rattle.match_core.specs.Walks as walks
 use Rattle.local_view.specs.Boards as boards

@@ -2,7 +2,7 @@
 pub mod Desk
 pub mod Insides
 pub mod Placed
-pub mod Kinds
+pub mod Ranges
 pub mod Shared
 -- What stands below and is passed on to the crates above.
 pub use Rattle.desk_blocks.specs.Periods

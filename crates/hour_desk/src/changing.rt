@@ -1,8 +1,7 @@
 //! What a command does in an hour that it touches alone.
 
-ghost use Rattle.std.specs.Prelude.{◌≡◌, ◌≢◌, ◌<◌, ◌-◌, ◌^◌, Ok, None, Some, IfOk, IsSome, OnErr, OnOk};
+ghost use Rattle.std.specs.Prelude.{◌≡◌, ◌≢◌, ◌<◌, ◌-◌, ◌^◌, Ok, None, Some, IfOk, OnErr, OnOk};
 ghost use Rattle.order_kinds.specs.declared.order.Order.{Order as AnOrder};
-ghost use Rattle.zone_graph.specs.Grid.{arc_between};
 ghost use Rattle.market_model.specs.declared.command.Command.TheVariants as commands;
 ghost use Rattle.market_model.specs.declared.refusal.Refusal.{Refusal as Reason};
 ghost use Rattle.market_model.specs.Market.{events_done};
@@ -13,16 +12,17 @@ ghost use Rattle.desk_blocks.specs.Kept.{names_given};
 ghost use Rattle.desk_blocks.specs.Planned.{with_planned};
 ghost use Rattle.desk_blocks.specs.State.{settled_board};
 ghost use Rattle.desk_views.specs.Standing.{StandAt};
-ghost use Rattle.hour_desk.specs.Kinds as kinds;
 ghost use Rattle.hour_desk.specs.Placed.{CanChange};
 
-use desk_blocks::{KeptHour, gate, grant, halt, number_of, offer, resume};
+use crate::part::share;
+use crate::ranges::range_work;
+use desk_blocks::{KeptHour, gate, number_of};
 use desk_entering::enter_order;
 use desk_refusals::own_of;
 use desk_views::DeskViews;
 use market_model::{Command, OrderName, Refusal, Setup};
 use std::alloc::Global;
-use zone_graph::{Arc, Grid, NoMemory};
+use zone_graph::{Grid, NoMemory};
 
 /// Plans what a command does in an hour that it touches alone, where no rule refuses it by itself and none
 /// on the state of the hour. Answers why it is refused by a rule on filling; nothing is planned then.
@@ -71,114 +71,20 @@ fn change_others(
 ) -> Result<(), NoMemory>
     requires grid { grid.now ≡ hour.old.board.grid }
     requires can { CanChange setup.now hour.old caller command.now }
+    requires few { names_given hour.old.board < 2 ^ 32 - 1 }
     requires no_order { (order : AnOrder) → command.now ≢ commands.Enter order }
     ensures done { OnOk result (hour.new ≡ with_planned hour.old (events_done all_parts setup.now hour.old.settled caller command.now)) }
     ensures unchanged { OnErr result (hour.new ≡ hour.old) }
 {
+    if let Some(work) = range_work(grid, command) {
+        return share(alloc, hour, grid, &work);
+    }
     match command {
         Command::Cancel { name } => cancel(hour, setup, caller, *name),
         Command::Reduce { name, to } => reduce(hour, setup, caller, *name, *to),
         Command::Gate { phase, .. } => gate(alloc, hour, *phase),
         Command::View { .. } => Ok(()),
-        Command::Offer { .. } | Command::Request { .. } => {
-            change_capacity(alloc, hour, grid, setup, caller, command)
-        }
-        Command::Halt { .. } | Command::Resume { .. } => {
-            change_border(alloc, hour, grid, setup, caller, command)
-        }
-        Command::Enter { .. }
-        | Command::EnterBlock { .. }
-        | Command::EnterBasket { .. }
-        | Command::Blocks { .. } => unreachable!(),
-    }
-}
-
-// The same, for an offer or a request.
-fn change_capacity(
-    alloc: Global,
-    hour: &mut KeptHour,
-    grid: &Grid,
-    setup: &Setup,
-    caller: u32,
-    command: &Command,
-) -> Result<(), NoMemory>
-    requires grid { grid.now ≡ hour.old.board.grid }
-    requires can { CanChange setup.now hour.old caller command.now }
-    requires kind { kinds.IsOfCapacity command.now }
-    ensures done { OnOk result (hour.new ≡ with_planned hour.old (events_done all_parts setup.now hour.old.settled caller command.now)) }
-    ensures unchanged { OnErr result (hour.new ≡ hour.old) }
-{
-    match command {
-        Command::Offer {
-            from,
-            to,
-            first,
-            last,
-            lots,
-        } => {
-            let arc = arc_of(grid, *from, *to);
-            offer(alloc, hour, grid, arc, *first, *last, *lots)
-        }
-        Command::Request {
-            from,
-            to,
-            first,
-            last,
-            lots,
-        } => {
-            let asked = arc_of(grid, *from, *to);
-            grant(alloc, hour, grid, asked, *first, *last, *lots)
-        }
         _ => unreachable!(),
-    }
-}
-
-// The same, for a halt or a resumption.
-fn change_border(
-    alloc: Global,
-    hour: &mut KeptHour,
-    grid: &Grid,
-    setup: &Setup,
-    caller: u32,
-    command: &Command,
-) -> Result<(), NoMemory>
-    requires grid { grid.now ≡ hour.old.board.grid }
-    requires can { CanChange setup.now hour.old caller command.now }
-    requires kind { kinds.IsOfBorder command.now }
-    ensures done { OnOk result (hour.new ≡ with_planned hour.old (events_done all_parts setup.now hour.old.settled caller command.now)) }
-    ensures unchanged { OnErr result (hour.new ≡ hour.old) }
-{
-    match command {
-        Command::Halt {
-            from,
-            to,
-            first,
-            last,
-        } => {
-            let halted = arc_of(grid, *from, *to);
-            halt(hour, halted.border, *first, *last)
-        }
-        Command::Resume {
-            from,
-            to,
-            first,
-            last,
-        } => {
-            let resumed = arc_of(grid, *from, *to);
-            resume(alloc, hour, grid, resumed.border, *first, *last)
-        }
-        _ => unreachable!(),
-    }
-}
-
-// The arc from a zone to another one, where a border joins them.
-fn arc_of(grid: &Grid, from: u32, to: u32) -> Arc
-    requires { IsSome (arc_between grid.now from to) }
-    ensures { arc_between grid.now from to ≡ Some result }
-{
-    match grid.arc(from, to) {
-        Some(arc) => arc,
-        None => unreachable!(),
     }
 }
 

@@ -15,7 +15,9 @@ ghost use Rattle.market_model.specs.Asked.{first_in_hour};
 ghost use Rattle.local_view.specs.Boards.{AreRoomsOf};
 ghost use Rattle.local_view.specs.Kept.{kept_of, views_forgotten};
 ghost use Rattle.hour_desk.specs.Desk as states;
+ghost use Rattle.hour_desk.specs.Ranges as ranges;
 
+use crate::part_work::PartWork;
 use block_book::BlockBook;
 use desk_blocks::KeptHour;
 use desk_refusals::{refuse_offer, refuse_request};
@@ -197,6 +199,30 @@ impl HourDesk {
             (record { arc = arc; first = first; last = last; lots = lots }) self.now.hour }
     {
         refuse_request(&self.kept, arc, first, last, lots)
+    }
+
+    /// The refusal of the hour's part of an offer or a request: that of the offer, or of the request. Nothing is
+    /// planned.
+    pub fn refuse_part(&self, work: &PartWork) -> Option<Refusal>
+        requires unplanned { self.now.planned ≡ None }
+        requires arc { ranges.IsOnArc self.now.grid work.now }
+        ensures { result ≡ ranges.part_refusal work.now self.now }
+    {
+        match work {
+            PartWork::Offer {
+                arc,
+                first,
+                last,
+                lots,
+            } => self.refuse_offer(*arc, *first, *last, *lots),
+            PartWork::Grant {
+                arc,
+                first,
+                last,
+                lots,
+            } => self.refuse_request(*arc, *first, *last, *lots),
+            _ => None,
+        }
     }
 
     /// The local views of the hour. Nothing is planned, and so nothing is next.

@@ -14,6 +14,7 @@ mod desk;
 mod part;
 mod part_work;
 mod planning;
+mod ranges;
 mod replying;
 mod sharing;
 
@@ -21,4 +22,5 @@ pub use copying::events_from;
 pub use desk::HourDesk;
 pub use desk_blocks::entered_block;
 pub use part_work::{BlockDeals, BlockEntry, PartWork};
+pub use ranges::range_work;
 pub use zone_graph::NoMemory;

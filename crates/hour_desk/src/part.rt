@@ -94,11 +94,17 @@ pub(crate) fn match_and_refresh(
     Ok(BlockDeals::from(deals))
 }
 
-// Plans an hour's part of a command that touches several hours: the events that it shares with them, and then
-// its sweep.
-//
-// Where memory runs out nothing is planned.
-fn share(alloc: Global, hour: &mut KeptHour, grid: &Grid, work: &PartWork) -> Result<(), NoMemory>
+/// Plans an hour's part of a command over some hours: the events that it shares with them, and then its sweep.
+///
+/// # Errors
+///
+/// [`NoMemory`] where memory runs out; nothing is planned then.
+pub(crate) fn share(
+    alloc: Global,
+    hour: &mut KeptHour,
+    grid: &Grid,
+    work: &PartWork,
+) -> Result<(), NoMemory>
     requires grid { grid.now ≡ hour.old.board.grid }
     requires seven { hour.old.board.parts ≡ 7 }
     requires unplanned { IsUnplanned hour.old }

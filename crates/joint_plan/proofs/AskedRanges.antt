@@ -1,42 +1,26 @@
 -- Desks that are asked for a command over a range of hours.
-use Rattle.std.proofs.Common.{◌≡◌, ◌∙◌, ℕ, ◌<◌, List, map, length, Option, None, Some, true, is_some, sym, ap}
-use Rattle.std.specs.Option.{option_map}
+use Rattle.std.proofs.Common.{◌≡◌, ◌∙◌, ℕ, ◌<◌, List, map, length, None, Some, sym, ap}
 use Rattle.zone_graph.specs.Graph.{Graph}
 use Rattle.zone_graph.specs.Route.{IsIn}
-use Rattle.zone_graph.specs.declared.route.Arc.{Arc}
-use Rattle.zone_graph.specs.Grid.{arc_between}
 use Rattle.market_model.specs.declared.command.Command.{Command}
-use Rattle.market_model.specs.declared.command.Command.TheVariants as command
 use Rattle.market_model.specs.declared.event.Event.{Event}
 use Rattle.market_model.specs.declared.reply.Reply.TheVariants as reply
 use Rattle.market_model.specs.declared.setup.Setup.{Setup}
 use Rattle.market_model.specs.Grid.{graph_of}
 use Rattle.market_model.specs.History.{events_of, of_hour}
 use Rattle.market_model.specs.Market.{reply_to}
-use Rattle.market_model.specs.Rules.{border_is_known}
 use Rattle.laws_of_market.proofs.Admitted.{naming-none}
 use Rattle.laws_of_market.proofs.Restrict.{map-same}
 use Rattle.hour_desk.specs.declared.part_work.PartWork.{PartWork}
 use Rattle.hour_desk.specs.Desk.{DeskState, planning}
-use Rattle.joint_plan.specs.Kinds.{IsOverRange}
+use Rattle.hour_desk.specs.Ranges.{IsOverRange, range_work}
+use Rattle.hour_desk.proofs.RangeParts.{known-work}
 use Rattle.joint_plan.specs.Refusing as refusing
 use Rattle.joint_plan.specs.Rows.{AreAsked, IsHistoryOf, planning_all}
-use Rattle.joint_plan.specs.Works.{CanPlanPart, events_over, range_work, with_part}
+use Rattle.joint_plan.specs.Works.{CanPlanPart, events_over, with_part}
 use Rattle.joint_plan.proofs.Asked.{asked-hours, asked-state, ready-history, ready-is, ready-over, ready-part}
 use Rattle.joint_plan.proofs.Histories.{early-naming}
 use Rattle.joint_plan.proofs.OverRanges.{range-can, range-part, range-reply}
-
-joined-work : (o : Option Arc) (f : Arc → PartWork) → is_some o ≡ true → option_map f o ≡ None → ⊥
-joined-work None f known none = cc
-joined-work (Some arc) f known none = cc
-
--- a command over a range that breaks no rule by itself has an arc
-known-work : (graph : Graph) (given : Command) → IsOverRange given → border_is_known graph given ≡ true → range_work graph given ≡ None → ⊥
-known-work graph (command.Offer from to first last lots) range known none = joined-work (arc_between graph from to) _ known none
-known-work graph (command.Request from to first last lots) range known none = joined-work (arc_between graph from to) _ known none
-known-work graph (command.Halt from to first last) range known none = joined-work (arc_between graph from to) _ known none
-known-work graph (command.Resume from to first last) range known none = joined-work (arc_between graph from to) _ known none
-known-work graph _ range known none = range
 
 module _ (setup : Setup) (graph : Graph) (caller : ℕ) (given : Command) (desks : List DeskState) (asked : AreAsked setup graph caller given desks) (range : IsOverRange given) where
   pub range-known : None ≡ range_work graph given → ⊥

@@ -1,16 +1,12 @@
 -- Commands over a range of hours, desk by desk.
 use Rattle.std.proofs.lemmas.List.{append-nil}
-use Rattle.std.proofs.Common.{◌≡◌, ◌∙◌, ℕ, ◌<◌, true, List, [], ◌∷◌, ◌++◌, flat_map, length, Option, None, Some, refl, sym, ap, arith, if◌then◌else◌, subst}
-use Rattle.std.specs.Option.{option_map}
-use Rattle.zone_graph.specs.declared.route.Arc.{Arc}
+use Rattle.std.proofs.Common.{◌≡◌, ◌∙◌, ℕ, ◌<◌, true, List, [], ◌∷◌, ◌++◌, flat_map, length, Option, None, Some, sym, ap, arith, if◌then◌else◌, subst}
 use Rattle.zone_graph.specs.Graph.{Graph}
-use Rattle.zone_graph.specs.Grid.{arc_between}
 use Rattle.zone_graph.specs.Route.{IsIn, has}
 use Rattle.zone_graph.proofs.Membership.{IsIn-map, has-IsIn}
 use Rattle.market_model.specs.declared.command.Command.{Command}
 use Rattle.market_model.specs.declared.command.Command.TheVariants as command
 use Rattle.market_model.specs.declared.event.Event.{Event}
-use Rattle.market_model.specs.declared.event.Event.TheVariants as event
 use Rattle.market_model.specs.declared.refusal.Refusal.{Refusal}
 use Rattle.market_model.specs.declared.reply.Reply.TheVariants as reply
 use Rattle.market_model.specs.declared.setup.Setup.{Setup}
@@ -21,64 +17,23 @@ use Rattle.market_model.specs.Refusals.{refusal_of_command}
 use Rattle.market_model.specs.Rules.{early_refusal, first_broken, hours_concerned}
 use Rattle.market_model.specs.Sweep.{all_parts, or_else, sweep}
 use Rattle.market_model.specs.StateRules.{filling_rules}
-use Rattle.laws_of_market.proofs.Repeats.{map-some}
+use Rattle.laws_of_market.proofs.Admitting.{no_entry-rules}
 use Rattle.laws_of_joint_commands.specs.ByHour.{hour_events}
-use Rattle.laws_of_joint_commands.specs.Ranges.{shared_event, swept_after}
+use Rattle.laws_of_joint_commands.specs.Ranges.{swept_after}
 use Rattle.laws_of_joint_commands.proofs.SharedEvents.{done_ranges, of_hour_ranges}
 use Rattle.laws_of_joint_commands.proofs.SweptHours.{flat_map-same}
 use Rattle.hour_desk.specs.declared.part_work.PartWork.{PartWork}
-use Rattle.hour_desk.specs.declared.part_work.PartWork.TheVariants as work
 use Rattle.hour_desk.specs.Desk.{DeskState}
-use Rattle.hour_desk.specs.Shared.{BlocksFit, CanShare, part_events, shared_events}
-use Rattle.joint_plan.specs.Kinds.{IsJoint, IsOverRange}
+use Rattle.hour_desk.specs.Shared.{CanShare, part_events, shared_events}
+use Rattle.hour_desk.specs.Ranges.{IsOverRange, range_work}
+use Rattle.hour_desk.proofs.RangeParts.{IsRangeWork, range-work}
+use Rattle.joint_plan.specs.Kinds.{IsJoint}
 use Rattle.joint_plan.specs.Refusing as refusing
 use Rattle.joint_plan.specs.Rows.{AreOver, IsHistoryOf, hours_of}
-use Rattle.joint_plan.specs.Works.{events_over, range_work, swept}
+use Rattle.joint_plan.specs.Works.{events_over, swept}
 use Rattle.joint_plan.proofs.Histories.{follows, refused, split}
 use Rattle.joint_plan.proofs.Over.{flat_map-over}
 use Rattle.joint_plan.proofs.States.{state-by-desks}
-
--- the work is one event, that of the command
-pub record IsRangeWork (graph : Graph) (given : Command) (w : PartWork) : Type 0 where
-  pub shared : Event
-  pub is_event : shared_event graph given ≡ Some shared
-  pub same : (events : List Event) → shared_events events w ≡ shared ∷ []
-  pub fits : (desk : DeskState) → BlocksFit desk w
-
-pub range-work : (graph : Graph) (given : Command) (w : PartWork) → range_work graph given ≡ Some w → IsRangeWork graph given w
-range-work graph (command.Offer from to first last lots) w is =
-    let found = map-some (λ (arc : Arc). work.Offer arc first last lots) (arc_between graph from to) w is in
-    subst (IsRangeWork graph (command.Offer from to first last lots)) found.2 (record {
-      shared = event.Offered found.0 first last lots;
-      is_event = ap (option_map (λ (arc : Arc). event.Offered arc first last lots)) found.1;
-      same = λ _. refl;
-      fits = λ _. tt;
-    })
-range-work graph (command.Request from to first last lots) w is =
-    let found = map-some (λ (arc : Arc). work.Grant arc first last lots) (arc_between graph from to) w is in
-    subst (IsRangeWork graph (command.Request from to first last lots)) found.2 (record {
-      shared = event.Granted found.0 first last lots;
-      is_event = ap (option_map (λ (arc : Arc). event.Granted arc first last lots)) found.1;
-      same = λ _. refl;
-      fits = λ _. tt;
-    })
-range-work graph (command.Halt from to first last) w is =
-    let found = map-some (λ (arc : Arc). work.Halt arc.border first last) (arc_between graph from to) w is in
-    subst (IsRangeWork graph (command.Halt from to first last)) found.2 (record {
-      shared = event.Halted found.0.border first last;
-      is_event = ap (option_map (λ (arc : Arc). event.Halted arc.border first last)) found.1;
-      same = λ _. refl;
-      fits = λ _. tt;
-    })
-range-work graph (command.Resume from to first last) w is =
-    let found = map-some (λ (arc : Arc). work.Resume arc.border first last) (arc_between graph from to) w is in
-    subst (IsRangeWork graph (command.Resume from to first last)) found.2 (record {
-      shared = event.Resumed found.0.border first last;
-      is_event = ap (option_map (λ (arc : Arc). event.Resumed arc.border first last)) found.1;
-      same = λ _. refl;
-      fits = λ _. tt;
-    })
-range-work graph _ w is = absurd (cc)
 
 pub range-joint : (given : Command) → IsOverRange given → IsJoint given
 range-joint (command.Offer from to first last lots) range = tt
@@ -86,14 +41,6 @@ range-joint (command.Request from to first last lots) range = tt
 range-joint (command.Halt from to first last) range = tt
 range-joint (command.Resume from to first last) range = tt
 range-joint _ range = absurd range
-
--- no rule on filling refuses such a command
-range-filled : (graph : Graph) (history : List Event) (caller : ℕ) (given : Command) → IsOverRange given → first_broken (filling_rules graph history caller given) ≡ None
-range-filled graph history caller (command.Offer from to first last lots) range = refl
-range-filled graph history caller (command.Request from to first last lots) range = refl
-range-filled graph history caller (command.Halt from to first last) range = refl
-range-filled graph history caller (command.Resume from to first last) range = refl
-range-filled graph history caller _ range = absurd range
 
 module _ (setup : Setup) (history : List Event) (desks : List DeskState) (caller : ℕ) (given : Command) (is : IsHistoryOf setup desks history)
     (early : early_refusal setup caller given ≡ None) (hours : hours_of desks ≡ hours_concerned given) where
@@ -115,11 +62,11 @@ module _ (setup : Setup) (history : List Event) (desks : List DeskState) (caller
 
   module _ (over : AreOver (graph_of setup) desks) (range : IsOverRange given) (free : refusing.state_refusal (graph_of setup) given desks ≡ None)
       (w : PartWork) (works : range_work (graph_of setup) given ≡ Some w) where
-    found : IsRangeWork (graph_of setup) given w
-    found = range-work (graph_of setup) given w works
+    found : IsRangeWork setup given w
+    found = range-work setup given w works
 
     unrefused : refusal_of_command setup history caller given ≡ None
-    unrefused = joint-let_in (range-joint given range) free ∙ range-filled (graph_of setup) history caller given range
+    unrefused = joint-let_in (range-joint given range) free ∙ no_entry-rules (graph_of setup) history caller given found.no_entry
 
     shared : Event
     unfolding found

@@ -1,5 +1,5 @@
 -- The rules on the state, told desk by desk.
-use Rattle.std.proofs.Common.{◌≡◌, ◌∙◌, ℕ, find, List, [], Option, None, Some, refl, ap, subst}
+use Rattle.std.proofs.Common.{◌≡◌, ◌∙◌, ℕ, find, List, [], ◌∷◌, Option, None, Some, refl, sym, ap, subst}
 use Rattle.std.specs.Option.{option_and_then, option_map}
 use Rattle.order_kinds.specs.declared.contract.Quarter.{Quarter}
 use Rattle.order_kinds.specs.Period.{hours_from}
@@ -23,7 +23,10 @@ use Rattle.market_model.specs.StateRules as state
 use Rattle.laws_of_joint_commands.specs.ByHour.{hour_events}
 use Rattle.laws_of_joint_commands.specs.StateRefusals.{first_over_hours, offer_refused, request_refused, state_refusal_by}
 use Rattle.laws_of_joint_commands.proofs.RefusedByHours.{state_alone}
+use Rattle.hour_desk.specs.declared.part_work.PartWork.{PartWork}
+use Rattle.hour_desk.specs.declared.part_work.PartWork.TheVariants as work
 use Rattle.hour_desk.specs.Desk.{DeskState}
+use Rattle.hour_desk.specs.Ranges.{part_refusal}
 use Rattle.joint_plan.specs.Refusing as refusing
 use Rattle.joint_plan.specs.Kinds.{IsJoint}
 use Rattle.joint_plan.specs.Rows.{hours_of}
@@ -39,37 +42,38 @@ module _ (own : ℕ → List Event) (desks : List DeskState) (are : Are own desk
       again None = refl
       again (Some desk) = refl
 
-  offer-over : (graph : Graph) (from to : ℕ) (first last : Quarter) (lots : ℕ) → hours_of desks ≡ hours_from first.hour last.hour
-      → offer_refused graph own (command.Offer from to first last lots) ≡ refusing.capacity_refusal graph (command.Offer from to first last lots) desks
+  module _ (graph : Graph) (from to : ℕ) (part : Arc → PartWork) where
+    -- what the desks refuse over the arc of a command
+    abbrev by_parts : Option Arc → Option Refusal
+    by_parts o = option_and_then (λ w. first_answer (part_refusal w) desks) (option_map part o)
+
+    over-arc : (says : Arc → Option Refusal) → ((arc : Arc) → says arc ≡ first_answer (part_refusal (part arc)) desks) → option_and_then says (arc_between graph from to) ≡ by_parts (arc_between graph from to)
+    over-arc says same = go (arc_between graph from to)
+      where
+        go : (o : Option Arc) → option_and_then says o ≡ by_parts o
+        go None = refl
+        go (Some arc) = same arc
+
+    no-capacity : ((arc : Arc) (desk : DeskState) → part_refusal (part arc) desk ≡ None) → None ≡ by_parts (arc_between graph from to)
+    no-capacity none = go (arc_between graph from to)
+      where
+        silent : (arc : Arc) (ds : List DeskState) → None ≡ first_answer (part_refusal (part arc)) ds
+        silent arc [] = refl
+        silent arc (desk ∷ ds) = silent arc ds ∙ ap (λ (o : Option Refusal). or_else o (λ _. first_answer (part_refusal (part arc)) ds)) (sym (none arc desk))
+
+        go : (o : Option Arc) → None ≡ by_parts o
+        go None = refl
+        go (Some arc) = silent arc desks
+
+  -- what is asked in each quarter of a range
+  over-range : (says : List Event → Quarter → Option Refusal) (arc : Arc) (first last : Quarter) (lots : ℕ) → hours_of desks ≡ hours_from first.hour last.hour
+      → first_over_hours own says first last
+      ≡ first_answer (λ desk. first_in_hour (says desk.settled) (record { arc = arc; first = first; last = last; lots = lots }) desk.hour) desks
   unfolding first_in_hour
-  offer-over graph from to first last lots hours = go (arc_between graph from to)
-    where
-      over : (arc : Arc) → first_over_hours own (λ events. refusals.below_flow events arc lots) first last ≡ refusing.offer_refusal arc first last lots desks
-      over arc =
-          subst (λ (hs : List ℕ). first_answer (λ hour. first_in_hour (refusals.below_flow (own hour) arc lots) (record { arc = arc; first = first; last = last; lots = lots }) hour) hs
-          ≡ refusing.offer_refusal arc first last lots desks) hours
-          (answer-over own (λ events hour. first_in_hour (refusals.below_flow events arc lots) (record { arc = arc; first = first; last = last; lots = lots }) hour) desks are)
-
-      go : (o : Option Arc) → option_and_then (λ arc. first_over_hours own (λ events. refusals.below_flow events arc lots) first last) o
-          ≡ option_and_then (λ arc. refusing.offer_refusal arc first last lots desks) o
-      go None = refl
-      go (Some arc) = over arc
-
-  request-over : (graph : Graph) (from to : ℕ) (first last : Quarter) (lots : ℕ) → hours_of desks ≡ hours_from first.hour last.hour
-      → request_refused graph own (command.Request from to first last lots) ≡ refusing.capacity_refusal graph (command.Request from to first last lots) desks
-  unfolding first_in_hour
-  request-over graph from to first last lots hours = go (arc_between graph from to)
-    where
-      over : (arc : Arc) → first_over_hours own (λ events. refusals.no_room events arc lots) first last ≡ refusing.request_refusal arc first last lots desks
-      over arc =
-          subst (λ (hs : List ℕ). first_answer (λ hour. first_in_hour (refusals.no_room (own hour) arc lots) (record { arc = arc; first = first; last = last; lots = lots }) hour) hs
-          ≡ refusing.request_refusal arc first last lots desks) hours
-          (answer-over own (λ events hour. first_in_hour (refusals.no_room events arc lots) (record { arc = arc; first = first; last = last; lots = lots }) hour) desks are)
-
-      go : (o : Option Arc) → option_and_then (λ arc. first_over_hours own (λ events. refusals.no_room events arc lots) first last) o
-          ≡ option_and_then (λ arc. refusing.request_refusal arc first last lots desks) o
-      go None = refl
-      go (Some arc) = over arc
+  over-range says arc first last lots hours =
+      subst (λ (hs : List ℕ). first_answer (λ hour. first_in_hour (says (own hour)) (record { arc = arc; first = first; last = last; lots = lots }) hour) hs
+      ≡ first_answer (λ desk. first_in_hour (says desk.settled) (record { arc = arc; first = first; last = last; lots = lots }) desk.hour) desks) hours
+      (answer-over own (λ events hour. first_in_hour (says events) (record { arc = arc; first = first; last = last; lots = lots }) hour) desks are)
 
   -- the first closed hour of some that are those of the desks
   pub closed-at : (hours : List ℕ) → hours_of desks ≡ hours
@@ -91,11 +95,15 @@ module _ (own : ℕ → List Event) (desks : List DeskState) (are : Are own desk
       → state_refusal_by graph own caller given ≡ refusing.state_refusal graph given desks
   unfolding state_refusal_by
   state-over graph caller (command.Offer from to first last lots) joint hours =
-      joined _ _ (offer_refused graph own (command.Offer from to first last lots)) _ (closed-at (hours_from first.hour last.hour) hours) (offer-over graph from to first last lots hours)
+      joined _ _ (offer_refused graph own (command.Offer from to first last lots)) _ (closed-at (hours_from first.hour last.hour) hours)
+      (over-arc graph from to (λ arc. work.Offer arc first last lots) _ (λ arc. over-range (λ events. refusals.below_flow events arc lots) arc first last lots hours))
   state-over graph caller (command.Request from to first last lots) joint hours =
-      joined _ _ (request_refused graph own (command.Request from to first last lots)) _ (closed-at (hours_from first.hour last.hour) hours) (request-over graph from to first last lots hours)
-  state-over graph caller (command.Halt from to first last) joint hours = joined _ _ None None (closed-at (hours_from first last) hours) refl
-  state-over graph caller (command.Resume from to first last) joint hours = joined _ _ None None (closed-at (hours_from first last) hours) refl
+      joined _ _ (request_refused graph own (command.Request from to first last lots)) _ (closed-at (hours_from first.hour last.hour) hours)
+      (over-arc graph from to (λ arc. work.Grant arc first last lots) _ (λ arc. over-range (λ events. refusals.no_room events arc lots) arc first last lots hours))
+  state-over graph caller (command.Halt from to first last) joint hours =
+      joined _ _ None _ (closed-at (hours_from first last) hours) (no-capacity graph from to (λ arc. work.Halt arc.border first last) (λ arc desk. refl))
+  state-over graph caller (command.Resume from to first last) joint hours =
+      joined _ _ None _ (closed-at (hours_from first last) hours) (no-capacity graph from to (λ arc. work.Resume arc.border first last) (λ arc desk. refl))
   state-over graph caller (command.Blocks first last) joint hours = joined _ _ None None (closed-at (hours_from first last) hours) refl
   state-over graph caller (command.EnterBlock order) joint hours = joined _ _ None None (closed-at (hours_from order.first order.last) hours) refl
   state-over graph caller _ joint hours = absurd joint

@@ -1,25 +1,12 @@
 -- The parts of the hours of a command.
-use Rattle.std.specs.Prelude.{◌≡◌, ◌-◌, ◌<◌, ◌^◌, List, [], ◌∷◌, ◌++◌, count_by, flat_map, Option, None}
-use Rattle.std.specs.Option.{option_map}
+use Rattle.std.specs.Prelude.{◌≡◌, ◌-◌, ◌<◌, ◌^◌, List, [], ◌∷◌, ◌++◌, count_by, flat_map}
 use Rattle.zone_graph.specs.Graph.{Graph}
-use Rattle.zone_graph.specs.Grid.{arc_between}
-use Rattle.market_model.specs.declared.command.Command.{Command}
-use Rattle.market_model.specs.declared.command.Command.TheVariants as command
 use Rattle.market_model.specs.declared.event.Event.{Event}
 use Rattle.market_model.specs.History.{enters_in}
 use Rattle.market_model.specs.Sweep.{all_parts, sweep}
 use Rattle.hour_desk.specs.declared.part_work.PartWork.{PartWork}
-use Rattle.hour_desk.specs.declared.part_work.PartWork.TheVariants as work
 use Rattle.hour_desk.specs.Desk.{DeskState, planning}
 use Rattle.hour_desk.specs.Shared.{CanShare, part_events, shared_events}
-
--- what each hour of the range of a command shares, where there is an arc for it
-abbrev pub range_work : Graph → Command → Option PartWork
-range_work graph (command.Offer from to first last lots) = option_map (λ arc. work.Offer arc first last lots) (arc_between graph from to)
-range_work graph (command.Request from to first last lots) = option_map (λ arc. work.Grant arc first last lots) (arc_between graph from to)
-range_work graph (command.Halt from to first last) = option_map (λ arc. work.Halt arc.border first last) (arc_between graph from to)
-range_work graph (command.Resume from to first last) = option_map (λ arc. work.Resume arc.border first last) (arc_between graph from to)
-range_work graph given = None
 
 -- a desk can plan its part of some work
 pub record CanPlanPart (graph : Graph) (given : PartWork) (desk : DeskState) : Type 0 where

@@ -5,16 +5,14 @@ ghost use Rattle.market_model.specs.declared.event.Event.{Event as AnEvent};
 ghost use Rattle.market_model.specs.declared.reply.Reply.TheVariants as replies;
 ghost use Rattle.market_model.specs.History.{events_of};
 ghost use Rattle.market_model.specs.Market.{reply_to};
-ghost use Rattle.hour_desk.specs.Kinds.{IsOfBorder, IsOfCapacity};
-ghost use Rattle.joint_plan.specs.Kinds.{IsOverRange};
+ghost use Rattle.hour_desk.specs.Ranges.{IsOverRange};
 ghost use Rattle.joint_plan.specs.Rows.{AreAsked, IsHistoryOf, dropped, planning_all};
-ghost use Rattle.joint_plan.specs.Works as works;
 
 use crate::desks::Desks;
 use crate::parts::plan_over;
 use crate::refusing::refuse_by_state;
 use crate::undoing::refuse;
-use hour_desk::PartWork;
+use hour_desk::range_work;
 use market_model::{Command, Reply, Setup};
 use std::alloc::Global;
 use zone_graph::{Grid, NoMemory};
@@ -48,81 +46,5 @@ pub(crate) fn plan_range<D: Desks>(
             Ok(Reply::Done(events))
         }
         None => unreachable!(),
-    }
-}
-
-// What each hour of the range of a command shares with the others: `None` exactly where no border joins its zones, or
-// it is over no range.
-fn range_work(grid: &Grid, command: &Command) -> Option<PartWork>
-    ensures { result ≡ works.range_work grid.now command.now }
-{
-    match command {
-        Command::Offer { .. } | Command::Request { .. } => capacity_work(grid, command),
-        Command::Halt { .. } | Command::Resume { .. } => border_work(grid, command),
-        _ => None,
-    }
-}
-
-// The same, of an offer or a request.
-fn capacity_work(grid: &Grid, command: &Command) -> Option<PartWork>
-    requires { IsOfCapacity command.now }
-    ensures { result ≡ works.range_work grid.now command.now }
-{
-    match command {
-        Command::Offer {
-            from,
-            to,
-            first,
-            last,
-            lots,
-        } => Some(PartWork::Offer {
-            arc: grid.arc(*from, *to)?,
-            first: *first,
-            last: *last,
-            lots: *lots,
-        }),
-        Command::Request {
-            from,
-            to,
-            first,
-            last,
-            lots,
-        } => Some(PartWork::Grant {
-            arc: grid.arc(*from, *to)?,
-            first: *first,
-            last: *last,
-            lots: *lots,
-        }),
-        _ => unreachable!(),
-    }
-}
-
-// The same, of a halt or a resumption.
-fn border_work(grid: &Grid, command: &Command) -> Option<PartWork>
-    requires { IsOfBorder command.now }
-    ensures { result ≡ works.range_work grid.now command.now }
-{
-    match command {
-        Command::Halt {
-            from,
-            to,
-            first,
-            last,
-        } => Some(PartWork::Halt {
-            border: grid.arc(*from, *to)?.border,
-            first: *first,
-            last: *last,
-        }),
-        Command::Resume {
-            from,
-            to,
-            first,
-            last,
-        } => Some(PartWork::Resume {
-            border: grid.arc(*from, *to)?.border,
-            first: *first,
-            last: *last,
-        }),
-        _ => unreachable!(),
     }
 }

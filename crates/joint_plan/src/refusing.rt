@@ -1,16 +1,14 @@
 //! What refuses a command by the state of its hours.
 
 ghost use Rattle.std.specs.Prelude.{◌≡◌};
-ghost use Rattle.zone_graph.specs.Graph.{HasArc};
-ghost use Rattle.zone_graph.specs.Route.{IsIn};
 ghost use Rattle.market_model.specs.Room.{is_closed_phase};
-ghost use Rattle.hour_desk.specs.Desk.{DeskState};
 ghost use Rattle.joint_plan.specs.Refusing as refusing;
 ghost use Rattle.joint_plan.specs.Rows.{AreOver, AreUnplanned};
 
 use crate::desks::Desks;
-use market_model::{Command, Phase, Quarter, Refusal};
-use zone_graph::{Arc, Grid};
+use hour_desk::range_work;
+use market_model::{Command, Phase, Refusal};
+use zone_graph::Grid;
 
 /// The refusal of a command by the first closed hour of those that it touches, and else by the first quarter in
 /// which its capacity is refused. Nothing is planned.
@@ -46,71 +44,15 @@ fn is_closed(phase: Phase) -> bool
     matches!(phase, Phase::Closed)
 }
 
-// The refusal of an offer or a request by the capacity of the hours.
+// The refusal of an offer or a request by the first hour in which more flows, or in which there is less room.
 fn refuse_by_capacity<D: Desks>(row: &D, grid: &Grid, command: &Command) -> Option<Refusal>
     requires unplanned { AreUnplanned (D.desks row.now) }
     requires over { AreOver grid.now (D.desks row.now) }
     ensures { result ≡ refusing.capacity_refusal grid.now command.now (D.desks row.now) }
 {
-    match command {
-        Command::Offer {
-            from,
-            to,
-            first,
-            last,
-            lots,
-        } => match grid.arc(*from, *to) {
-            Some(arc) => refuse_offer(row, arc, *first, *last, *lots),
-            None => None,
-        },
-        Command::Request {
-            from,
-            to,
-            first,
-            last,
-            lots,
-        } => match grid.arc(*from, *to) {
-            Some(arc) => refuse_request(row, arc, *first, *last, *lots),
-            None => None,
-        },
-        _ => None,
-    }
-}
-
-// The refusal of an offer by the first hour in which more flows.
-fn refuse_offer<D: Desks>(
-    row: &D,
-    arc: Arc,
-    first: Quarter,
-    last: Quarter,
-    lots: u32,
-) -> Option<Refusal>
-    requires unplanned { AreUnplanned (D.desks row.now) }
-    requires arc { (desk : DeskState) → IsIn desk (D.desks row.now) → HasArc desk.grid arc }
-    ensures { result ≡ refusing.offer_refusal arc first last lots (D.desks row.now) }
-{
+    let work = range_work(grid, command)?;
     for i in 0..row.len() {
-        if let Some(refusal) = row.desk(i).refuse_offer(arc, first, last, lots) {
-            return Some(refusal);
-        }
-    }
-    None
-}
-
-// The refusal of a request by the first hour in which there is less room.
-fn refuse_request<D: Desks>(
-    row: &D,
-    arc: Arc,
-    first: Quarter,
-    last: Quarter,
-    lots: u32,
-) -> Option<Refusal>
-    requires unplanned { AreUnplanned (D.desks row.now) }
-    requires arc { (desk : DeskState) → IsIn desk (D.desks row.now) → HasArc desk.grid arc }
-    ensures { result ≡ refusing.request_refusal arc first last lots (D.desks row.now) }
-{
-    for i in 0..row.len() {
-        if let Some(refusal) = row.desk(i).refuse_request(arc, first, last, lots) {
+        if let Some(refusal) = row.desk(i).refuse_part(&work) {
             return Some(refusal);
         }
     }

@@ -1,4 +1,4 @@
-use Rattle.std.proofs.Common.{◌≡◌, ◌∙◌, None, ap, is_some, sym, subst}
+use Rattle.std.proofs.Common.{◌∙◌, None, ap, is_some, sym, subst}
 use Rattle.std.proofs.lemmas.Bool.{false≢true}
 use Rattle.desk_blocks.proofs.DeskPlanning.{on-ok}
 use Rattle.desk_blocks.specs.State.{CanBeNext, after_event, withdrawal_of}

@@ -1,15 +1,10 @@
-use Rattle.std.proofs.Common.{◌≡◌, ◌∙◌, Ok, None, ap, refl, sym, subst}
-use Rattle.order_kinds.specs.Contract.{is_known, part_number}
-use Rattle.market_model.specs.declared.command.Command.TheVariants as command
-use Rattle.market_model.specs.Board.{BoardState}
+use Rattle.std.proofs.Common.{◌∙◌, ap, sym, subst}
 use Rattle.market_model.specs.Market.{events_done}
-use Rattle.market_model.specs.Rules.{first_broken}
 use Rattle.market_model.specs.Sweep.{all_parts}
-use Rattle.market_model.specs.StateRules.{filling_rules}
 use Rattle.match_core.specs.Walks.{AreRoomsOf}
 use Rattle.desk_blocks.specs.Planned.{with_planned}
 use Rattle.hour_desk.specs.Placed.{CanChange}
-use Rattle.hour_desk.proofs.Commands.{not-refused, order-hour, order-next, order-part, order-planned, quiet}
+use Rattle.hour_desk.proofs.Commands.{not-refused, order-next, order-part, order-planned, quiet}
 use Rattle.hour_desk.proofs.Touching.{no-entry}
 use Rattle.hour_desk.proofs.Views.{order-rooms}
 use Rattle.hour_desk.proofs.changing.change.Goals as goal

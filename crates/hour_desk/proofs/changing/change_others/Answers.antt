@@ -1,5 +1,4 @@
-use Rattle.std.proofs.Common.{◌≡◌, ◌∙◌, inl, inr, ap, refl, sym, subst}
-use Rattle.market_model.specs.declared.command.Command.TheVariants as command
+use Rattle.std.proofs.Common.{◌∙◌, ap, refl, sym, subst}
 use Rattle.market_model.specs.Market.{events_done}
 use Rattle.market_model.specs.Sweep.{all_parts}
 use Rattle.desk_blocks.specs.Planned.{with_planned}
@@ -7,8 +6,20 @@ use Rattle.desk_blocks.proofs.DeskPlanning.{on-ok}
 use Rattle.hour_desk.specs.Placed.{CanChange}
 use Rattle.hour_desk.proofs.Commands.{gate-next, gate-planned, quiet, view-planned}
 use Rattle.hour_desk.proofs.Planned.{none-planned}
-use Rattle.hour_desk.proofs.Touching.{no-basket, no-block, no-matching}
+use Rattle.hour_desk.proofs.RangeParts.{other-kinds, part-can, part-done}
 use Rattle.hour_desk.proofs.changing.change_others.Goals as goal
+
+pub share-requires-clause-quiet : goal.share-requires-clause-quiet
+share-requires-clause-quiet c = quiet c.args.setup.now c.args.hour.now c.args.caller c.args.command.now c.requires.can c.args.grid.now c.requires.grid
+
+pub share-requires-clause-can : goal.share-requires-clause-can
+share-requires-clause-can c =
+    part-can c.args.setup.now c.args.hour.now c.args.caller c.args.command.now c.requires.can c.args.grid.now c.requires.grid c.in-Some.work c.in-Some.ensures.work
+
+pub returns-in-Some-clause-done : goal.returns-in-Some-clause-done
+returns-in-Some-clause-done c =
+    on-ok c.share.result _ _ (λ is. is ∙ ap (with_planned c.args.hour.now)
+    (part-done c.args.setup.now c.args.hour.now c.args.caller c.args.command.now c.requires.can c.args.grid.now c.requires.grid c.in-Some.work c.in-Some.ensures.work)) c.share.ensures.planned
 
 pub gate-requires-clause-next : goal.gate-requires-clause-next
 gate-requires-clause-next c =
@@ -31,13 +42,6 @@ returns-in-View-clause-done c =
     ∙ view-planned c.args.setup.now c.args.hour.now c.args.caller c.in-View.contract c.in-View.side c.in-View.zone)
 
 pub unreachable-requires : goal.unreachable-requires
-unreachable-requires c = elim c.in-Enter.is [
-  | inl order ↦ c.requires.no_order order.0 order.1
-  | inr others ↦ elim others [
-    | inl block ↦ no-block c.args.setup.now c.args.hour.now c.args.caller c.args.command.now c.requires.can.placed c.requires.can.early block.0 block.1
-    | inr more ↦ elim more [
-      | inl basket ↦ no-basket c.args.setup.now c.args.hour.now c.args.caller c.args.command.now c.requires.can.placed c.requires.can.early basket.0 basket.1
-      | inr matching ↦ no-matching c.args.setup.now c.args.hour.now c.args.caller c.args.command.now c.requires.can.placed c.requires.can.early matching.0 matching.1 matching.2
-    ]
-  ]
-]
+unreachable-requires c =
+    other-kinds c.args.setup.now c.args.hour.now c.args.caller c.args.command.now c.requires.can c.args.grid.now c.requires.grid
+    c.in_default.ensures.work c.requires.no_order c.in_default-command.not-Cancel c.in_default-command.not-Reduce c.in_default-command.not-Gate c.in_default-command.not-View

@@ -22,22 +22,22 @@ returns-in-Some-clause-reply g c = λ history is.
 pub plan_over-requires-clause-can : goal.plan_over-requires-clause-can
 plan_over-requires-clause-can g c =
     asked-part c.args.setup.now c.args.grid.now c.args.caller c.args.command.now (g.D.Desks.desks c.args.row.now) c.requires.asked c.requires.range
-    c.in_default.ensures c.in-Some-range_work.work c.in-Some-range_work.ensures
+    c.in_default.ensures c.in-Some-range_work.work c.in-Some-range_work.ensures.work
 
 pub unreachable-requires : goal.unreachable-requires
 unreachable-requires g c =
-    range-known c.args.setup.now c.args.grid.now c.args.caller c.args.command.now (g.D.Desks.desks c.args.row.now) c.requires.asked c.requires.range c.in-None.ensures
+    range-known c.args.setup.now c.args.grid.now c.args.caller c.args.command.now (g.D.Desks.desks c.args.row.now) c.requires.asked c.requires.range c.in-None.ensures.work
 
 pub returns-clause-reply : goal.returns-clause-reply
 returns-clause-reply g c = λ history is.
     ap reply.Done c.in_ok-events-in-Some-range_work.ensures.events
     ∙ asked-reply c.args.setup.now c.args.grid.now c.args.caller c.args.command.now (g.D.Desks.desks c.args.row.now) c.requires.asked c.requires.range
-    c.in_default.ensures c.in-Some-range_work.work c.in-Some-range_work.ensures (asked-some c.args.setup.now c.args.grid.now c.args.caller c.args.command.now (g.D.Desks.desks c.args.row.now) c.requires.asked (range-joint c.args.command.now c.requires.range)) history is
+    c.in_default.ensures c.in-Some-range_work.work c.in-Some-range_work.ensures.work (asked-some c.args.setup.now c.args.grid.now c.args.caller c.args.command.now (g.D.Desks.desks c.args.row.now) c.requires.asked (range-joint c.args.command.now c.requires.range)) history is
 
 pub returns-clause-planned : goal.returns-clause-planned
 returns-clause-planned g c =
     let desks = g.D.Desks.desks c.args.row.now in
     c.in_ok-events-in-Some-range_work.ensures.planned
     ∙ asked-planned c.args.setup.now c.args.grid.now c.args.caller c.args.command.now desks c.requires.asked c.requires.range
-    c.in_default.ensures c.in-Some-range_work.work c.in-Some-range_work.ensures (asked-some c.args.setup.now c.args.grid.now c.args.caller c.args.command.now desks c.requires.asked (range-joint c.args.command.now c.requires.range))
+    c.in_default.ensures c.in-Some-range_work.work c.in-Some-range_work.ensures.work (asked-some c.args.setup.now c.args.grid.now c.args.caller c.args.command.now desks c.requires.asked (range-joint c.args.command.now c.requires.range))
     ∙ ap (planning_all desks) (sym c.in_ok-events-in-Some-range_work.ensures.events)
