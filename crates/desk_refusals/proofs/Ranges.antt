@@ -1,5 +1,5 @@
 -- The quarters of one hour that are in a range, and what they refuse.
-use Rattle.std.proofs.Common.{◌≡◌, ◌∙◌, ℕ, ◌+◌, ◌==◌, ◌&&◌, ◌||◌, Bool, true, false, List, [], ◌∷◌, filter, flat_map, nat_le, nat_lt, Option, eq-eqb, refl, sym, ap, ap₂, subst, arith}
+use Rattle.std.proofs.Common.{◌≡◌, ◌∙◌, ℕ, ◌+◌, ◌==◌, ◌&&◌, ◌||◌, Bool, true, false, List, [], ◌∷◌, filter, flat_map, nat_le, nat_lt, Option, option_map, eq-eqb, refl, sym, ap, ap₂, subst, arith}
 use Rattle.std.proofs.lemmas.Bool.{le-leb, le-ltb, lt-leb}
 use Rattle.order_kinds.specs.declared.contract.Quarter.{Quarter}
 use Rattle.order_kinds.specs.Period.{EachQuarter, hour_quarters, hours_from, is_not_after, is_quarter, quarter_of, range_quarters}
@@ -14,12 +14,13 @@ use Rattle.market_model.specs.Refusals.{below_flow, no_room}
 use Rattle.market_model.specs.Sweep.{first_answer}
 use Rattle.market_model.specs.Asked.{first_in_hour}
 use Rattle.laws_of_market.proofs.Restrict.{filter-same}
+use Rattle.capacity_requests.specs.Requests.{first_flow_above, first_room_below}
 use Rattle.flow_netting.specs.declared.quarter_set.QuarterSet.{QuarterSet}
 use Rattle.flow_netting.specs.Flows.{Flows}
 use Rattle.flow_netting.specs.QuarterSet.{has}
 use Rattle.laws_of_hours.specs.FlowLaws.{IsRangeIn}
 use Rattle.laws_of_hours.specs.Standing.{Stands}
-use Rattle.laws_of_hours.specs.Refusing.{offer_refused_by, request_refused_by}
+use Rattle.laws_of_hours.specs.Refusing.{below_flow_of, no_room_of}
 use Rattle.laws_of_hours.proofs.Refused.{offers_alike, requests_alike}
 
 -- ---- a range cut to the quarters of an hour
@@ -88,7 +89,7 @@ module _ (hour : ℕ) (first last : Quarter) where
       ∙ sym (ap₂ (λ (starts ends : Bool). is_quarter (quarter_of hour number) && starts && ends) (starts-same number low high) (ends-same number low high))
 
   module _ (graph : Graph) (events : List Event) (flows : Flows) (set : QuarterSet)
-      (arc : Arc) (lots : ℕ) (is : Stands graph events hour flows) (there : HasArc graph arc) (covers : IsRangeIn hour first last (has set)) where
+      (arc : Arc) (lots : ℕ) (is : Stands graph events hour flows) (there : HasArc graph arc) where
     cut-first : (ask : Quarter → Option Refusal) → first_in_hour ask (record { arc = arc; first = first; last = last; lots = lots }) hour ≡ first_answer ask (range_quarters cut_first cut_last)
     unfolding first_in_hour
     cut-first ask = ap (first_answer ask) (sym cut-quarters)
@@ -101,16 +102,22 @@ module _ (hour : ℕ) (first last : Quarter) where
     unfolding cut_last
     last_hour = refl
 
-    -- the flows of the hour refuse as the market does
-    pub offer-refused : offer_refused_by flows hour arc set lots ≡ first_in_hour (below_flow events arc lots) (record { arc = arc; first = first; last = last; lots = lots }) hour
-    offer-refused =
-        sym (cut-first (below_flow events arc lots)
-        ∙ offers_alike graph events hour cut_first cut_last flows arc set lots is there first_hour last_hour (cut-covers set covers))
+    module _ (own : ℕ) (same : own ≡ hour) (covers : IsRangeIn own first last (has set)) (found : Option (ℕ × ℕ)) where
+      covers_here : IsRangeIn hour cut_first cut_last (has set)
+      covers_here = cut-covers set (subst (λ h. IsRangeIn h first last (has set)) same covers)
 
-    pub request-refused : request_refused_by flows hour arc set lots ≡ first_in_hour (no_room events arc lots) (record { arc = arc; first = first; last = last; lots = lots }) hour
-    request-refused =
-        sym (cut-first (no_room events arc lots)
-        ∙ requests_alike graph events hour cut_first cut_last flows arc set lots is there first_hour last_hour (cut-covers set covers))
+      -- the flows of the hour refuse as the market does
+      pub offer-refused : found ≡ first_flow_above flows arc set lots
+          → option_map (below_flow_of own) found ≡ first_in_hour (below_flow events arc lots) (record { arc = arc; first = first; last = last; lots = lots }) hour
+      offer-refused told =
+          ap₂ (λ h o. option_map (below_flow_of h) o) same told
+          ∙ sym (cut-first (below_flow events arc lots) ∙ offers_alike graph events hour cut_first cut_last flows arc set lots is there first_hour last_hour covers_here)
+
+      pub request-refused : found ≡ first_room_below flows arc set lots
+          → option_map (no_room_of own) found ≡ first_in_hour (no_room events arc lots) (record { arc = arc; first = first; last = last; lots = lots }) hour
+      request-refused told =
+          ap₂ (λ h o. option_map (no_room_of h) o) same told
+          ∙ sym (cut-first (no_room events arc lots) ∙ requests_alike graph events hour cut_first cut_last flows arc set lots is there first_hour last_hour covers_here)
 
 -- a range of one hour alone
 pub whole-range : (hour : ℕ) (arc : Arc) (first last : Quarter) (lots : ℕ) (ask : Quarter → Option Refusal) → hours_from first.hour last.hour ≡ hour ∷ []

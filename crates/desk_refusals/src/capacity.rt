@@ -27,15 +27,11 @@ pub fn refuse_offer(
     ensures { result ≡ first_in_hour (refusals.below_flow hour.now.board.events arc lots)
         (record { arc = arc; first = first; last = last; lots = lots }) hour.now.board.hour }
 {
-    let quarters = quarters_in_range(hour.hour(), first, last);
+    let own = hour.hour();
+    let quarters = quarters_in_range(own, first, last);
     let (number, flow) = test_offer(hour.flows(), arc, quarters, lots)?;
-    Some(Refusal::BelowFlow {
-        quarter: Quarter {
-            hour: hour.hour(),
-            number,
-        },
-        flow,
-    })
+    let quarter = Quarter { hour: own, number };
+    Some(Refusal::BelowFlow { quarter, flow })
 }
 
 /// The refusal by the first quarter of the hour, of those in a range, in which an arc has less room than is
@@ -51,15 +47,11 @@ pub fn refuse_request(
     ensures { result ≡ first_in_hour (refusals.no_room hour.now.board.events arc lots)
         (record { arc = arc; first = first; last = last; lots = lots }) hour.now.board.hour }
 {
-    let quarters = quarters_in_range(hour.hour(), first, last);
+    let own = hour.hour();
+    let quarters = quarters_in_range(own, first, last);
     let (number, room) = test_request(hour.flows(), arc, quarters, lots)?;
-    Some(Refusal::NoRoom {
-        quarter: Quarter {
-            hour: hour.hour(),
-            number,
-        },
-        room,
-    })
+    let quarter = Quarter { hour: own, number };
+    Some(Refusal::NoRoom { quarter, room })
 }
 
 /// The first rule on capacity that a command which concerns the hour alone breaks.
