@@ -1,10 +1,20 @@
-pub mod Rooms
+pub mod PartRooms
 pub mod Quiet
 pub mod Opened
 pub mod Planning
 pub mod Names
 pub mod Found
 pub mod Ending
+pub mod Hours
+pub mod Staying
+pub mod LegsOpened
+pub mod BlockPlanning
+pub mod Lowered
+pub mod SameRooms
+pub mod Periods
+pub mod Fewer
+pub mod Making
+pub mod NextDeals
 -- What stands below and is passed on to the crates above.
 pub use Rattle.kept_hour.proofs.Carrying
 pub use Rattle.kept_hour.proofs.DealtEntries

@@ -24,7 +24,7 @@ use Rattle.laws_of_hours.proofs.NextEvents.{after, agrees, before, next}
 use Rattle.sweep_core.specs.Sweeping.{order_numbers, part_leg, swept}
 use Rattle.sweep_core.proofs.Progress.{begun, ended, next-is}
 use Rattle.desk_changes.specs.Quiet.{HasNoLeg}
-use Rattle.desk_changes.proofs.Rooms.{unraised}
+use Rattle.desk_changes.proofs.PartRooms.{unraised}
 
 or_else-none : (o : Option Event) → or_else o (λ u. None) ≡ o
 or_else-none None = refl

@@ -3,6 +3,10 @@ pub mod Changes
 pub mod Quiet
 pub mod Openings
 pub mod StillOpen
+pub mod LegOpenings
+pub mod Plans
+pub mod Rooms
+pub mod Periods
 -- What stands below and is passed on to the crates above.
 pub use Rattle.kept_hour.specs.Deals
 pub use Rattle.kept_hour.specs.Kept

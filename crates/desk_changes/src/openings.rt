@@ -48,7 +48,7 @@ fn parts_of_arc(hour: &KeptHour, arc: Arc) -> PartSet
 }
 
 /// Whether an arc has room in a quarter of an hour, as its planned events leave it.
-pub fn has_room_in(hour: &KeptHour, arc: Arc, number: u32) -> bool
+pub(crate) fn has_room_in(hour: &KeptHour, arc: Arc, number: u32) -> bool
     requires arc { HasArc hour.now.board.grid arc }
     requires first { 1 ≤ number }
     requires last { number ≤ 4 }

@@ -34,8 +34,8 @@ use Rattle.laws_of_market.proofs.Admitted.{IsAdmitted, all-pass, naming-none, re
 use Rattle.laws_of_market.proofs.Admitting.{early-none, let_in-refusal, no_entry-rules}
 use Rattle.laws_of_market.proofs.Replies.{gate-fits, grant-fits, halt-fits, offer-fits, reduction-fits, resumption-fits, withdrawal-fits}
 use Rattle.laws_of_market.proofs.Uses.{not_after-hours}
-use Rattle.desk_blocks.specs.Planned.{IsUnplanned, with_planned}
-use Rattle.desk_blocks.specs.State.{CanBeNext, HourState, after_event, entry_of, gate_of, name_in, reduction_of, withdrawal_of}
+use Rattle.desk_changes.specs.Planned.{IsUnplanned, with_planned}
+use Rattle.desk_changes.specs.State.{CanBeNext, HourState, after_event, entry_of, gate_of, name_in, reduction_of, withdrawal_of}
 use Rattle.laws_of_boards.specs.Hours.{IsOfHour}
 use Rattle.laws_of_boards.specs.Settled.{IsSettled}
 use Rattle.laws_of_boards.proofs.Admitting as entering

@@ -5,7 +5,7 @@ use Rattle.std.proofs.option.Option.TheSendSync as option
 use Rattle.zone_graph.proofs.sequence.Sequence.TheSendSync as sequence
 use Rattle.market_model.proofs.event.Event.TheSendSync as event
 use Rattle.hour_store.proofs.store.HourStore.TheSendSync as store
-use Rattle.desk_blocks.specs.KeptHour as kept
+use Rattle.desk_changes.specs.KeptHour as kept
 use Rattle.desk_views.proofs.desk.DeskViews.TheSendSync as views
 use Rattle.hour_desk.specs.contracts.desk.HourDesk as desk
 

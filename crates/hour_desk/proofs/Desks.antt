@@ -4,10 +4,10 @@ use Rattle.market_model.specs.declared.event.Event.{Event}
 use Rattle.zone_graph.specs.Graph.{Graph}
 use Rattle.market_model.specs.Board.{BoardState, IsBoard, IsHourOf, is_in_hand, resting_names}
 use Rattle.market_model.specs.Orders.{open_names}
-use Rattle.desk_blocks.specs.State.{HourState, empty_board, settled_board, settled_now, undone, with_hand}
+use Rattle.desk_changes.specs.State.{HourState, empty_board, settled_board, settled_now, undone, with_hand}
 use Rattle.desk_views.specs.Desk as views
 use Rattle.desk_views.specs.Standing.{IsNext, StandAt}
-use Rattle.desk_blocks.proofs.Lists.{all-pass}
+use Rattle.desk_changes.proofs.Lists.{all-pass}
 use Rattle.hour_desk.specs.Desk.{DeskState}
 use Rattle.hour_desk.specs.Insides.{IsInside, desk_of, planned_if}
 use Rattle.laws_of_boards.specs.Settled.{IsSettled}

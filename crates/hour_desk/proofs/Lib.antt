@@ -12,5 +12,5 @@ pub mod Crosses
 pub mod Certified
 pub mod Quiet
 -- What stands below and is passed on to the crates above.
-pub use Rattle.desk_blocks.proofs.SameRooms
+pub use Rattle.desk_changes.proofs.SameRooms
 pub use Rattle.laws_of_market.proofs.Admitting

@@ -5,10 +5,10 @@ use Rattle.block_match.specs.declared.deal.BlockDeal.{BlockDeal}
 use Rattle.block_match.specs.Market.{deal_events}
 use Rattle.market_model.specs.declared.event.Event.TheVariants as event
 use Rattle.market_model.specs.Orders.{next_name}
-use Rattle.desk_blocks.specs.Planned.{IsUnplanned}
-use Rattle.desk_blocks.specs.State.{HourState, block_entry_of}
+use Rattle.desk_changes.specs.Planned.{IsUnplanned}
+use Rattle.desk_changes.specs.State.{HourState, block_entry_of}
 use Rattle.laws_of_joint_commands.specs.EnteringBlocks.{AreClosed, block_entry}
-use Rattle.desk_blocks.specs.Plans as plans
+use Rattle.desk_changes.specs.Plans as plans
 use Rattle.hour_desk.specs.declared.part_work.BlockEntry.{BlockEntry}
 use Rattle.hour_desk.specs.Insides.{desk_of}
 use Rattle.hour_desk.specs.Shared.{EntersFirst, TakesOrRests, TradesBlocks}

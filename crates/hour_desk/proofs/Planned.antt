@@ -20,8 +20,8 @@ use Rattle.market_model.specs.Sweep.{all_parts}
 use Rattle.market_model.specs.View.{view}
 use Rattle.market_model.specs.LetIn.{IsLetIn}
 use Rattle.market_model.specs.StateRules.{filling_rules, state_refusal}
-use Rattle.desk_blocks.specs.Planned.{IsUnplanned, with_planned}
-use Rattle.desk_blocks.specs.State.{HourState, after_event, settled_board, undone, with_board, with_hand}
+use Rattle.desk_changes.specs.Planned.{IsUnplanned, with_planned}
+use Rattle.desk_changes.specs.State.{HourState, after_event, settled_board, undone, with_board, with_hand}
 use Rattle.laws_of_market.proofs.Admitting.{IsNamed, early-none, state-some}
 use Rattle.laws_of_market.proofs.Answered.{Answers, done, refused, refused_late, seen}
 use Rattle.hour_desk.specs.Placed.{CanChange, IsPlaced}

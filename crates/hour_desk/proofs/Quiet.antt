@@ -23,8 +23,8 @@ use Rattle.laws_of_market.proofs.Trades.{from_line}
 use Rattle.laws_of_hours.proofs.NextEvents.{first_of_many}
 use Rattle.laws_of_boards.specs.Settled.{IsSettled}
 use Rattle.laws_of_boards.proofs.Settling.{settled-apart, settled-reduced, settled-swept, settled-withdrawn}
-use Rattle.desk_blocks.specs.Planned.{with_planned}
-use Rattle.desk_blocks.specs.State.{HourState}
+use Rattle.desk_changes.specs.Planned.{with_planned}
+use Rattle.desk_changes.specs.State.{HourState}
 use Rattle.hour_desk.specs.Placed.{IsPlaced}
 use Rattle.hour_desk.proofs.Touching.{concerned, no-basket, no-block, no-matching}
 

@@ -26,7 +26,7 @@ use Rattle.laws_of_market.proofs.Admitted.{naming-none}
 use Rattle.laws_of_market.proofs.Admitting.{early-none}
 use Rattle.laws_of_market.proofs.Repeats.{map-some}
 use Rattle.laws_of_joint_commands.specs.Ranges.{shared_event}
-use Rattle.desk_blocks.specs.State.{HourState}
+use Rattle.desk_changes.specs.State.{HourState}
 use Rattle.hour_desk.specs.declared.part_work.PartWork.{PartWork}
 use Rattle.hour_desk.specs.declared.part_work.PartWork.TheVariants as work
 use Rattle.hour_desk.specs.Desk.{DeskState}

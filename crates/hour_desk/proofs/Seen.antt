@@ -10,8 +10,8 @@ use Rattle.market_model.specs.declared.reply.ViewRow.{ViewRow}
 use Rattle.market_model.specs.declared.setup.Setup.{Setup}
 use Rattle.market_model.specs.Grid.{graph_of}
 use Rattle.market_model.specs.View.{view}
-use Rattle.desk_blocks.specs.State.{HourState, settled_board}
-use Rattle.desk_blocks.proofs.PartNumbers.{part-of_number}
+use Rattle.desk_changes.specs.State.{HourState, settled_board}
+use Rattle.desk_changes.proofs.PartNumbers.{part-of_number}
 use Rattle.local_view.specs.Kept.{kept_of}
 use Rattle.desk_views.specs.Desk.{DeskState}
 use Rattle.desk_views.specs.Standing.{StandAt}

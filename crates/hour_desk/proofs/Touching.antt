@@ -16,7 +16,7 @@ use Rattle.market_model.specs.Rules.{ascends, basket_is_good, early_refusal, hou
 use Rattle.market_model.specs.LetIn.{IsNoEntry}
 use Rattle.laws_of_market.proofs.Admitted.{NamesWhatIs, naming-none}
 use Rattle.laws_of_market.proofs.Admitting.{IsNamed, early-none, is-no_entry}
-use Rattle.desk_blocks.specs.State.{HourState}
+use Rattle.desk_changes.specs.State.{HourState}
 use Rattle.hour_desk.specs.Placed.{IsPlaced}
 
 -- it concerns the hour alone

@@ -10,8 +10,8 @@ use Rattle.local_view.specs.Boards as boards
 use Rattle.local_view.specs.Kept.{Views, adopted as line_adopted, forgotten as line_forgotten, kept_of, no_part, on_side, part_adopted, part_forgotten, views_adopted, views_forgotten}
 use Rattle.local_view.specs.Rows.{LineRows}
 use Rattle.local_view.specs.declared.part_views.PartViews.{PartViews}
-use Rattle.desk_blocks.specs.Planned.{IsUnplanned}
-use Rattle.desk_blocks.specs.State.{HourState, settled_board}
+use Rattle.desk_changes.specs.Planned.{IsUnplanned}
+use Rattle.desk_changes.specs.State.{HourState, settled_board}
 use Rattle.desk_views.specs.Desk.{DeskState, adopted, forgotten, with_made}
 use Rattle.desk_views.specs.Standing.{StandAt}
 use Rattle.hour_desk.proofs.Planned.{settled-same}

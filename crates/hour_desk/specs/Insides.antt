@@ -4,7 +4,7 @@ use Rattle.market_model.specs.declared.event.Event.{Event}
 use Rattle.laws_of_boards.specs.Settled.{IsSettled}
 use Rattle.desk_views.specs.Desk as views
 use Rattle.desk_views.specs.Standing.{IsNext, StandAt}
-use Rattle.desk_blocks.specs.State.{HourState, settled_board}
+use Rattle.desk_changes.specs.State.{HourState, settled_board}
 use Rattle.hour_desk.specs.Desk.{DeskState}
 
 -- the events of an hour, if something is planned

@@ -5,5 +5,5 @@ pub mod Placed
 pub mod Ranges
 pub mod Shared
 -- What stands below and is passed on to the crates above.
-pub use Rattle.desk_blocks.specs.Periods
-pub use Rattle.desk_blocks.specs.Plans
+pub use Rattle.desk_changes.specs.Periods
+pub use Rattle.desk_changes.specs.Plans

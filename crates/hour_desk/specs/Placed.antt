@@ -7,8 +7,8 @@ use Rattle.market_model.specs.Grid.{graph_of}
 use Rattle.market_model.specs.Rules.{early_refusal, touched_hours}
 use Rattle.market_model.specs.StateRules.{state_refusal}
 use Rattle.laws_of_boards.specs.Settled.{IsSettled}
-use Rattle.desk_blocks.specs.Planned.{IsUnplanned}
-use Rattle.desk_blocks.specs.State.{HourState}
+use Rattle.desk_changes.specs.Planned.{IsUnplanned}
+use Rattle.desk_changes.specs.State.{HourState}
 
 -- an hour with nothing planned is of a setup's grid, nothing is left to trade in it, and a command touches it alone
 pub record IsPlaced (setup : Setup) (hour : HourState) (caller : ℕ) (given : Command) : Type 0 where

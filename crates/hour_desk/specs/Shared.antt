@@ -10,7 +10,7 @@ use Rattle.market_model.specs.Refusals.{desk_room}
 use Rattle.market_model.specs.Sweep.{all_parts, sweep}
 use Rattle.laws_of_joint_commands.specs.EnteringBlocks.{block_entry}
 use Rattle.laws_of_joint_commands.specs.MatchingBlocks.{legs_of}
-use Rattle.desk_blocks.specs.Plans.{CloseInTurn}
+use Rattle.desk_changes.specs.Plans.{CloseInTurn}
 use Rattle.hour_desk.specs.declared.part_work.BlockEntry.{BlockEntry}
 use Rattle.hour_desk.specs.declared.part_work.PartWork.{PartWork}
 use Rattle.hour_desk.specs.declared.part_work.PartWork.TheVariants as work

@@ -19,7 +19,7 @@ ghost use Rattle.hour_desk.specs.Ranges as ranges;
 
 use crate::part_work::PartWork;
 use block_book::BlockBook;
-use desk_blocks::KeptHour;
+use desk_changes::KeptHour;
 use desk_refusals::{refuse_offer, refuse_request};
 use desk_views::DeskViews;
 use flow_netting::HourFlows;

@@ -20,7 +20,7 @@ mod sharing;
 
 pub use copying::events_from;
 pub use desk::HourDesk;
-pub use desk_blocks::entered_block;
+pub use desk_changes::entered_block;
 pub use part_work::{BlockDeals, BlockEntry, PartWork};
 pub use ranges::range_work;
 pub use zone_graph::NoMemory;

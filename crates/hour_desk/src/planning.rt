@@ -9,13 +9,13 @@ ghost use Rattle.market_model.specs.History.{enters_in, events_of};
 ghost use Rattle.market_model.specs.Market.{reply_to};
 ghost use Rattle.market_model.specs.Rules.{early_refusal, touched_hours};
 ghost use Rattle.laws_of_maximum.specs.Unfilled.{IsUnfilledOrder};
-ghost use Rattle.desk_blocks.specs.State.{settled_now, undone};
+ghost use Rattle.desk_changes.specs.State.{settled_now, undone};
 ghost use Rattle.desk_views.specs.Desk.{adopted, forgotten};
 ghost use Rattle.hour_desk.specs.Desk as states;
 
 use crate::desk::HourDesk;
 use crate::replying::reply_and_refresh;
-use desk_blocks::KeptHour;
+use desk_changes::KeptHour;
 use desk_views::DeskViews;
 use market_model::{Command, Reply, Setup};
 use zone_graph::{Grid, NoMemory};

@@ -4,7 +4,7 @@ ghost use Rattle.std.specs.Prelude.{◌≡◌, ◌<◌, ◌-◌, ◌^◌, [], No
 ghost use Rattle.market_model.specs.History.{enters_in};
 ghost use Rattle.laws_of_joint_commands.specs.MatchingBlocks.{legs_of};
 ghost use Rattle.zone_graph.specs.Graph.{border_count};
-ghost use Rattle.desk_blocks.specs.Periods as periods;
+ghost use Rattle.desk_changes.specs.Periods as periods;
 ghost use Rattle.hour_desk.specs.Desk as states;
 ghost use Rattle.hour_desk.specs.Shared as shared;
 

@@ -1,5 +1,5 @@
 use Rattle.desk_changes.specs.Openings.{opens}
-use Rattle.desk_changes.proofs.Rooms.{seven-tell}
+use Rattle.desk_changes.proofs.PartRooms.{seven-tell}
 use Rattle.desk_changes.proofs.openings.opened_since.Goals as goal
 
 pub returns : goal.returns

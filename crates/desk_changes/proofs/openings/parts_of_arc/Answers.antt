@@ -1,5 +1,5 @@
 use Rattle.std.proofs.Common.{◌∙◌, ◌≡◌, ◌&&◌, sym, ap}
-use Rattle.desk_changes.proofs.Rooms.{parts-tell}
+use Rattle.desk_changes.proofs.PartRooms.{parts-tell}
 use Rattle.desk_changes.proofs.openings.parts_of_arc.Goals as goal
 use Rattle.desk_changes.proofs.openings.parts_of_arc.Goals.{then-one, else-one, then-three, else-three}
 

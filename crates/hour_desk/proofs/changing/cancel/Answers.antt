@@ -1,7 +1,7 @@
 use Rattle.std.proofs.Common.{◌∙◌, None, ap, is_some, sym, subst}
 use Rattle.std.proofs.lemmas.Bool.{false≢true}
-use Rattle.desk_blocks.proofs.DeskPlanning.{on-ok}
-use Rattle.desk_blocks.specs.State.{CanBeNext, after_event, withdrawal_of}
+use Rattle.desk_changes.proofs.Planning.{on-ok}
+use Rattle.desk_changes.specs.State.{CanBeNext, after_event, withdrawal_of}
 use Rattle.hour_desk.proofs.Commands.{cancel-known, cancel-next, cancel-planned}
 use Rattle.hour_desk.proofs.changing.cancel.Goals as goal
 

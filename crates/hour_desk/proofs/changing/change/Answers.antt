@@ -2,7 +2,7 @@ use Rattle.std.proofs.Common.{◌∙◌, ap, sym, subst}
 use Rattle.market_model.specs.Market.{events_done}
 use Rattle.market_model.specs.Sweep.{all_parts}
 use Rattle.match_core.specs.Walks.{AreRoomsOf}
-use Rattle.desk_blocks.specs.Planned.{with_planned}
+use Rattle.desk_changes.specs.Planned.{with_planned}
 use Rattle.hour_desk.specs.Placed.{CanChange}
 use Rattle.hour_desk.proofs.Commands.{not-refused, order-next, order-part, order-planned, quiet}
 use Rattle.hour_desk.proofs.Touching.{no-entry}

@@ -1,8 +1,8 @@
 use Rattle.std.proofs.Common.{◌∙◌, ap, refl, sym, subst}
 use Rattle.market_model.specs.Market.{events_done}
 use Rattle.market_model.specs.Sweep.{all_parts}
-use Rattle.desk_blocks.specs.Planned.{with_planned}
-use Rattle.desk_blocks.proofs.DeskPlanning.{on-ok}
+use Rattle.desk_changes.specs.Planned.{with_planned}
+use Rattle.desk_changes.proofs.Planning.{on-ok}
 use Rattle.hour_desk.specs.Placed.{CanChange}
 use Rattle.hour_desk.proofs.Commands.{gate-next, gate-planned, quiet, view-planned}
 use Rattle.hour_desk.proofs.Planned.{none-planned}

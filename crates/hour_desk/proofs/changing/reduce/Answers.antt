@@ -1,7 +1,7 @@
 use Rattle.std.proofs.Common.{◌∙◌, ◌-◌, None, ap, is_some, sym, subst, arith}
 use Rattle.std.proofs.lemmas.Bool.{false≢true}
-use Rattle.desk_blocks.proofs.DeskPlanning.{on-ok}
-use Rattle.desk_blocks.specs.State.{CanBeNext, after_event, reduction_of}
+use Rattle.desk_changes.proofs.Planning.{on-ok}
+use Rattle.desk_changes.specs.State.{CanBeNext, after_event, reduction_of}
 use Rattle.hour_desk.proofs.Commands.{reduce-below, reduce-known, reduce-next, reduce-planned}
 use Rattle.hour_desk.proofs.changing.reduce.Goals as goal
 

@@ -1,7 +1,7 @@
 use Rattle.std.proofs.Common.{◌∙◌, ap}
 use Rattle.laws_of_joint_commands.specs.MatchingBlocks.{legs_of}
-use Rattle.desk_blocks.specs.Planned.{with_planned}
-use Rattle.desk_blocks.specs.Plans.{then_sweep_all}
+use Rattle.desk_changes.specs.Planned.{with_planned}
+use Rattle.desk_changes.specs.Plans.{then_sweep_all}
 use Rattle.hour_desk.proofs.Quiet.{swept-quiet}
 use Rattle.hour_desk.proofs.part.match_and_refresh.Goals as goal
 

@@ -1,4 +1,4 @@
-use Rattle.desk_blocks.specs.State.{settled_board}
+use Rattle.desk_changes.specs.State.{settled_board}
 use Rattle.hour_desk.proofs.Views.{kept-stands}
 use Rattle.hour_desk.proofs.replying.refresh.Goals as goal
 

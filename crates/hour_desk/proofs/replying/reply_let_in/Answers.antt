@@ -3,7 +3,7 @@ use Rattle.market_model.specs.declared.reply.Reply.{Reply}
 use Rattle.market_model.specs.declared.reply.Reply.TheVariants as reply
 use Rattle.market_model.specs.Market.{events_done}
 use Rattle.market_model.specs.Sweep.{all_parts}
-use Rattle.desk_blocks.proofs.DeskPlanning.{if-ok, on-ok}
+use Rattle.desk_changes.proofs.Planning.{if-ok, on-ok}
 use Rattle.hour_desk.specs.Placed.{CanChange}
 use Rattle.hour_desk.proofs.Planned.{IsAnswered, done-told, dropped-is, filling-refused, on-err, view-seen}
 use Rattle.hour_desk.proofs.Seen.{view-part, view-rows, view-there}

@@ -1,5 +1,5 @@
 use Rattle.std.proofs.Common.{false, sym, subst}
-use Rattle.desk_blocks.specs.State.{settled_now}
+use Rattle.desk_changes.specs.State.{settled_now}
 use Rattle.hour_desk.specs.Insides.{IsInside}
 use Rattle.hour_desk.proofs.Desks.{carried-inside}
 use Rattle.hour_desk.proofs.desk.HourDesk.carry.Goals as goal

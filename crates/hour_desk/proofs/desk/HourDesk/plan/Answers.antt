@@ -1,6 +1,6 @@
 use Rattle.std.proofs.Common.{◌≡◌, ◌∙◌, ap, sym, subst}
 use Rattle.market_model.specs.Market.{reply_to}
-use Rattle.desk_blocks.specs.State.{HourState}
+use Rattle.desk_changes.specs.State.{HourState}
 use Rattle.desk_views.specs.Desk.{forgotten}
 use Rattle.hour_desk.specs.Desk.{DeskState}
 use Rattle.hour_desk.proofs.Certified.{unfilled}

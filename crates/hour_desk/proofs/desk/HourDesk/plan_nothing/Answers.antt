@@ -1,5 +1,5 @@
 use Rattle.std.proofs.Common.{true, sym, subst}
-use Rattle.desk_blocks.specs.State.{undone}
+use Rattle.desk_changes.specs.State.{undone}
 use Rattle.hour_desk.specs.Insides.{IsInside}
 use Rattle.hour_desk.proofs.Desks.{undone-inside}
 use Rattle.hour_desk.proofs.desk.HourDesk.plan_nothing.Goals as goal
