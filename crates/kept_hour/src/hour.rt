@@ -32,7 +32,6 @@ use zone_graph::{Arc, Grid, NoMemory};
 /// An hour as a desk keeps it: contracts see a board, and the first of its events, those that are settled.
 ///
 /// An order that enters is in hand until it is told to rest, and only one is in hand at a time.
-#[derive(Drop)]
 pub struct KeptHour {
     pub(crate) grid: Snapshot<Grid>,
     pub(crate) hour: u32,
@@ -54,6 +53,22 @@ impl Model for KeptHour {
     ghost view = { λ a. hour_of a.grid.value a.hour a.events a.settled a.hand };
 
     ghost invariant = { λ a. IsKept (hour_of a.grid.value a.hour a.events a.settled a.hand) a.settled a.numbers a.settled_numbers a.store };
+}
+
+// Written out: a crate that drops one need not know what it is made of.
+impl Drop for KeptHour {
+    fn drop(self) {
+        let KeptHour {
+            grid: _,
+            hour: _,
+            events: _,
+            settled: _,
+            numbers: _,
+            settled_numbers: _,
+            hand: _,
+            store: _,
+        } = self;
+    }
 }
 
 impl KeptHour {
