@@ -1,21 +1,25 @@
 -- With the rooms of a contract, partners and legs over rooms are those of the market.
-use Rattle.std.proofs.Common.{◌≡◌, ◌∙◌, ℕ, List, Option, Some, None, refl, sym, ap, if◌then◌else◌}
-use Rattle.std.specs.Option.{option_and_then}
+use Rattle.std.proofs.Common.{◌≡◌, ◌∙◌, ℕ, ◌&&◌, List, Option, Some, None, nat_lt, refl, sym, ap, if◌then◌else◌}
+use Rattle.std.proofs.lemmas.Bool.{and_parts, true≢false}
+use Rattle.std.specs.Option.{option_and_then, option_map}
 use Rattle.std.specs.Ordering.{is_lt}
 use Rattle.order_kinds.specs.declared.contract.Contract.{Contract}
 use Rattle.order_kinds.specs.declared.order.OrderName.{OrderName}
 use Rattle.order_kinds.specs.declared.side.Side.TheVariants.{Buy, Sell}
 use Rattle.order_kinds.specs.Period.{contract_quarters}
+use Rattle.order_kinds.specs.Same.{same_name}
 use Rattle.order_kinds.specs.Side.{opposite}
 use Rattle.zone_graph.specs.declared.route.Arc.{Arc}
 use Rattle.zone_graph.specs.Graph.{Graph, IsGraph}
 use Rattle.zone_graph.specs.Rooms.{room_of}
+use Rattle.zone_graph.proofs.Finding.{from_find}
 use Rattle.market_model.specs.declared.event.Event.{Event}
 use Rattle.market_model.specs.Lines.{line, partner, time_cmp}
-use Rattle.market_model.specs.Orders.{Standing}
+use Rattle.market_model.specs.Orders.{Placed, Standing, is_open, left, open_order, placed, standing}
 use Rattle.market_model.specs.Room.{room}
 use Rattle.market_model.specs.Sweep.{first_answer, leg_in, leg_of_buy, resting_trade}
 use Rattle.market_model.specs.Taking.{next_leg, standing_order, trade}
+use Rattle.laws_of_market.proofs.Tests.{same_name-eq}
 use Rattle.laws_of_market.proofs.Trades.{IsInLine, from_line, partner-is}
 use Rattle.laws_of_market.proofs.LocalLines.{first_answer-same}
 use Rattle.plain_matching.specs.Over.{AreRoomsFor, leg_of_buy_over, leg_with_partner, partner_in, resting_trade_over, trade_over}
@@ -95,6 +99,17 @@ next_leg-is graph events name own found = ap (option_and_then (leg_with_partner 
 pub no_leg : (graph : Graph) (events : List Event) (name : OrderName) → None ≡ standing_order events name → None ≡ next_leg graph name events
 unfolding next_leg
 no_leg graph events name found = ap (option_and_then (leg_with_partner graph events)) found
+
+-- nor where nothing is left of it
+pub none_left : (graph : Graph) (events : List Event) (name : OrderName) → left events name ≡ 0 → None ≡ next_leg graph name events
+none_left graph events name none = no_leg graph events name (by (open_order events name) refl)
+  where
+    by : (o : Option Placed) → open_order events name ≡ o → None ≡ option_map (standing events) o
+    by None found = refl
+    by (Some own) found =
+        let both = and_parts (same_name own.name name) (is_open events own.name)
+        (from_find (λ (order : Placed). same_name order.name name && is_open events order.name) own (placed events) found).1 in
+        absurd (true≢false (sym both.1 ∙ ap (is_open events) (same_name-eq own.name name both.0) ∙ ap (nat_lt 0) none))
 
 pub no_partner-leg : (graph : Graph) (events : List Event) (own : Standing) → partner graph events own ≡ None → None ≡ leg_with_partner graph events own
 no_partner-leg graph events own none = sym (ap (option_and_then (trade graph events own)) none)

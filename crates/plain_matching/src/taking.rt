@@ -18,7 +18,7 @@ use crate::trade::trade;
 use event_history::History;
 use market_model::{Event, NoMemory, OrderName};
 use plain_capacity::{CapacitySums, contract_rooms_over};
-use plain_orders::{StandingOrder, best_price, line, open_orders_over};
+use plain_orders::{StandingOrder, best_price, left_over, line, open_orders_over};
 use std::alloc::Global;
 use zone_graph::Grid;
 
@@ -70,6 +70,9 @@ fn next_leg(
 {
     let zones = grid.zones();
     prove!(zones <= 64);
+    if left_over(alloc, events, &mut sums.orders, name)? == 0 {
+        return Ok(None);
+    }
     let orders = open_orders_over(alloc, events, &mut sums.orders, name.hour)?;
     match open_as(orders.as_slice(), name) {
         Some(own) => {
