@@ -1,5 +1,5 @@
 -- The legs of a taking and of a sweep, one more at a time.
-use Rattle.std.proofs.Common.{◌≡◌, ◌∙◌, ℕ, ◌<◌, List, [], ◌∷◌, ◌++◌, append_assoc, Some, None, refl, sym, ap, subst}
+use Rattle.std.proofs.Common.{◌≡◌, ◌∙◌, ℕ, ◌<◌, List, [], ◌∷◌, ◌++◌, append_assoc, length, Option, Some, None, refl, sym, ap, subst}
 use Rattle.std.proofs.lemmas.List.{append-nil}
 use Rattle.std.proofs.Math.Seq.{append_snoc}
 use Rattle.order_kinds.specs.declared.contract.Part.{Part}
@@ -14,9 +14,13 @@ use Rattle.market_model.specs.Orders.{left}
 use Rattle.market_model.specs.Sweep.{left_in_hour, sweep, sweep_leg}
 use Rattle.market_model.specs.Taking.{next_leg, take}
 use Rattle.market_model.specs.WellFormed.{IsMarketSetup, IsLegalOver}
+use Rattle.plain_capacity.specs.declared.rooms.CapacitySums.{CapacitySums}
 use Rattle.laws_of_market.proofs.Falls.{next_leg-lowers, sweep-run, sweep_leg-lowers, take-run}
 use Rattle.laws_of_market.proofs.Legs.{next_leg-fits, sweep_leg-fits}
 use Rattle.laws_of_market.proofs.Repeats.{fit-more}
+use Rattle.plain_matching.specs.declared.hour_sums.HourSums.{HourSums}
+use Rattle.plain_matching.specs.Summed.{AreHourSums, StaysOrIsAfter}
+use Rattle.plain_matching.proofs.Sums.{grew-more, hour_sums-grow, stays-or-after}
 
 -- a history grew by a first part of its legs, and the others are those of the history as it is now
 pub record IsSoFar (legs : List Event → List Event) (old now : List Event) : Type 0 where
@@ -100,3 +104,31 @@ module _ (graph : Graph) (is : IsGraph graph) (events : List Event) (legal : IsL
       subst (λ g. sweep parts g hour events ≡ []) (sym legal.over)
       (run-unique (sweep_leg parts (graph_of legal.setup) hour) and_then events (sweep parts (graph_of legal.setup) hour events) []
       (sweep-run legal.setup is_setup parts hour events legal.fit) no_leg)
+
+-- a history grew by a first part of the legs of an hour and is legal, and what was summed up of the hour is of its events
+pub record IsUnderWay (graph : Graph) (legs : List Event → List Event) (hour : ℕ) (first : List Event) (capacity : Option CapacitySums) (now : List Event) (sums : HourSums) : Type 0 where
+  pub so_far : IsSoFar legs first now
+  pub legal : IsLegalOver graph now
+  pub summed : AreHourSums graph now hour sums
+  pub kept : StaysOrIsAfter (now ≡ first) (length first) capacity sums.capacity
+
+module _ (graph : Graph) (legs : List Event → List Event) (hour : ℕ) (first : List Event) (capacity : Option CapacitySums) (now : List Event) (old new : HourSums) (leg : Option Event)
+    (way : IsUnderWay graph legs hour first capacity now old) (asked : StaysOrIsAfter (leg ≡ None) (length now) old.capacity new.capacity) where
+  capacity-on : (needless : Type 0) → (now ≡ first → leg ≡ None → needless) → StaysOrIsAfter needless (length first) capacity new.capacity
+  capacity-on needless so =
+      stays-or-after (now ≡ first) (leg ≡ None) needless (length first) (length now) capacity old.capacity new.capacity so
+      (grew-more first now way.so_far.done way.so_far.grew) way.kept asked
+
+  -- with one leg more
+  pub way-on : (open_lots : List Event → ℕ) (e : Event) (next : List Event) → leg ≡ Some e → next ≡ and_then now e → AreHourSums graph now hour new
+      → IsNext graph legs open_lots now e → IsUnderWay graph legs hour first capacity next new
+  way-on open_lots e next found is summed more = subst (λ events. IsUnderWay graph legs hour first capacity events new) (sym is) (record {
+    so_far = more-so_far legs first now e way.so_far more.onward;
+    legal = more.legal;
+    summed = hour_sums-grow graph now (e ∷ []) hour new summed;
+    kept = capacity-on (and_then now e ≡ first) (λ same none. absurd (cc (none, found)));
+  })
+
+  -- and once there is no leg any more
+  pub way-end : StaysOrIsAfter (now ≡ first) (length first) capacity new.capacity
+  way-end = capacity-on (now ≡ first) (λ same none. same)

@@ -1,45 +1,33 @@
-use Rattle.std.proofs.Common.{◌≡◌, ◌∙◌, ◌<◌, List, [], ◌∷◌, Some, None, length, subst, sym}
-use Rattle.market_model.specs.declared.event.Event.{Event}
+use Rattle.std.proofs.Common.{◌≡◌, ◌∙◌, ◌<◌, None, subst, sym}
 use Rattle.market_model.specs.Orders.{left}
 use Rattle.market_model.specs.Taking.{next_leg, take}
-use Rattle.market_model.specs.WellFormed.{IsLegalOver}
-use Rattle.plain_matching.specs.Summed.{AreHourSums}
-use Rattle.plain_matching.proofs.Sums.{grew-more, hour_sums-grow, stays-or-after}
-use Rattle.plain_matching.proofs.Legs.{IsSoFar, all-so_far, more-so_far, take-next, take-end}
+use Rattle.plain_matching.proofs.Legs.{IsNext, all-so_far, take-next, take-end, way-end, way-on}
 use Rattle.plain_matching.proofs.taking.take.Goals as goal
+use Rattle.plain_matching.proofs.taking.take.Goals.{In-Some}
+
+-- what the next leg does
+next : (c : In-Some) → IsNext c.args.grid.now (λ history. take c.args.grid.now history c.args.name) (λ history. left history c.args.name) c.loop-leg.events c.in-Some.leg
+next c =
+    take-next c.args.grid.now c.next_leg.ensures.grid.is_graph c.loop-leg.events c.loop-leg.invariant.legal c.args.name c.in-Some.leg
+    (sym c.in_ok-leg.ensures.leg ∙ c.in-Some.is)
 
 pub loop-leg-smaller : goal.loop-leg-smaller
 loop-leg-smaller c =
-    let found : next_leg c.args.grid.now c.args.name c.loop-leg.events ≡ Some c.in-Some.leg =
-    sym c.in_ok-leg.ensures.leg ∙ c.in-Some.is in
-    let next = take-next c.args.grid.now c.next_leg.ensures.grid.is_graph c.loop-leg.events c.loop-leg.invariant.legal c.args.name c.in-Some.leg found in
-    subst (λ history. left history c.args.name < left c.loop-leg.events c.args.name) (sym c.in_ok-push.ensures.ok) next.lower
+    subst (λ history. left history c.args.name < left c.loop-leg.events c.args.name) (sym c.in_ok-push.ensures.ok) (next (goal.at.loop-leg-smaller c).In-Some).lower
 
 pub loop-leg-preserved : goal.loop-leg-preserved
 loop-leg-preserved c =
-    let found : next_leg c.args.grid.now c.args.name c.loop-leg.events ≡ Some c.in-Some.leg =
-    sym c.in_ok-leg.ensures.leg ∙ c.in-Some.is in
-    let next = take-next c.args.grid.now c.next_leg.ensures.grid.is_graph c.loop-leg.events c.loop-leg.invariant.legal c.args.name c.in-Some.leg found in
-    let legs : List Event → List Event = λ history. take c.args.grid.now history c.args.name in
-    record {
-      so_far = subst (λ history. IsSoFar legs c.args.events.now history) (sym c.in_ok-push.ensures.ok)
-          (more-so_far legs c.args.events.now c.loop-leg.events c.in-Some.leg c.loop-leg.invariant.so_far next.onward);
-      legal = subst (λ history. IsLegalOver c.args.grid.now history) (sym c.in_ok-push.ensures.ok) next.legal;
-      summed = subst (λ history. AreHourSums c.args.grid.now history c.args.name.hour c.next_leg.new.sums) (sym c.in_ok-push.ensures.ok)
-          (hour_sums-grow c.args.grid.now c.loop-leg.events (c.in-Some.leg ∷ []) c.args.name.hour c.next_leg.new.sums c.next_leg.ensures.summed);
-      kept = stays-or-after (c.loop-leg.events ≡ c.args.events.now) (c.in_ok-leg.field-0 ≡ None) (c.push.new.self ≡ c.args.events.now) (length c.args.events.now) (length c.loop-leg.events) c.args.sums.now.capacity c.loop-leg.sums.capacity c.next_leg.new.sums.capacity
-          (λ same none. absurd (cc (none, c.in-Some.is))) (grew-more c.args.events.now c.loop-leg.events c.loop-leg.invariant.so_far.done c.loop-leg.invariant.so_far.grew) c.loop-leg.invariant.kept c.in_ok-leg.ensures.capacity;
-    }
+    way-on c.args.grid.now (λ history. take c.args.grid.now history c.args.name) c.args.name.hour c.args.events.now c.args.sums.now.capacity c.loop-leg.events c.loop-leg.sums
+    c.next_leg.new.sums c.in_ok-leg.field-0 c.loop-leg.invariant c.in_ok-leg.ensures.capacity (λ history. left history c.args.name) c.in-Some.leg c.push.new.self
+    c.in-Some.is c.in_ok-push.ensures.ok c.next_leg.ensures.summed (next (goal.at.loop-leg-preserved c).In-Some)
 
 pub returns-clause-capacity : goal.returns-clause-capacity
 returns-clause-capacity c =
-    stays-or-after (c.loop-leg.events ≡ c.args.events.now) (c.in_ok-leg.field-0 ≡ None) (c.loop-leg.events ≡ c.args.events.now) (length c.args.events.now) (length c.loop-leg.events)
-    c.args.sums.now.capacity c.loop-leg.sums.capacity c.next_leg.new.sums.capacity
-    (λ same none. same) (grew-more c.args.events.now c.loop-leg.events c.loop-leg.invariant.so_far.done c.loop-leg.invariant.so_far.grew) c.loop-leg.invariant.kept c.in_ok-leg.ensures.capacity
+    way-end c.args.grid.now (λ history. take c.args.grid.now history c.args.name) c.args.name.hour c.args.events.now c.args.sums.now.capacity c.loop-leg.events c.loop-leg.sums
+    c.next_leg.new.sums c.in_ok-leg.field-0 c.loop-leg.invariant c.in_ok-leg.ensures.capacity
 
 pub returns-clause-ok : goal.returns-clause-ok
 returns-clause-ok c =
-    let none : next_leg c.args.grid.now c.args.name c.loop-leg.events ≡ None =
-    sym c.in_ok-leg.ensures.leg ∙ c.in_default.is in
+    let none : next_leg c.args.grid.now c.args.name c.loop-leg.events ≡ None = sym c.in_ok-leg.ensures.leg ∙ c.in_default.is in
     all-so_far (λ history. take c.args.grid.now history c.args.name) c.args.events.now c.loop-leg.events c.loop-leg.invariant.so_far
     (take-end c.args.grid.now c.next_leg.ensures.grid.is_graph c.loop-leg.events c.loop-leg.invariant.legal c.args.name none)
