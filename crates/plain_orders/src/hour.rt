@@ -15,9 +15,6 @@ use event_history::History;
 use market_model::{Event, Events, NoMemory, OrderName};
 use std::alloc::Global;
 
-// For how many open orders there is room before a list of them grows.
-const FEW: usize = 64;
-
 /// The open orders that are named by an hour, in order of entry, as they stand.
 ///
 /// # Errors
@@ -71,7 +68,7 @@ fn list_open(
     ensures { IfOk result (λ made. made.items ≡ listed.open_orders events.now hour) }
 {
     let list = events.listed(hour);
-    let mut standing = Vec::with_capacity(alloc, FEW)?;
+    let mut standing = Vec::with_capacity(alloc, sums.tallies.len())?;
     for tally in &sums.tallies.as_slice()[1..] {
         if tally.left > 0 {
             match order_given(&list[tally.place], hour) {
