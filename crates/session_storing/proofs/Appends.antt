@@ -3,19 +3,22 @@ use Rattle.std.proofs.Common.{◌≡◌, ◌∙◌, All, ℕ, ◌+◌, ◌<◌, 
 use Rattle.std.proofs.lemmas.List.{get_or_at, map-append, take_more}
 use Rattle.std.proofs.lemmas.List.Sums.{sum_by-append}
 use Rattle.disk_model.specs.Contents.{Contents}
-use Rattle.disk_model.specs.Moments.{MayLeave}
+use Rattle.disk_model.specs.Moments.{LeavesOnly, MayLeave}
+use Rattle.disk_model.proofs.Moments.{leaves_more, runs_on}
 use Rattle.durable_journal.specs.Appending.{size_behind}
 use Rattle.durable_journal.specs.Resting.{HoldsLines}
 use Rattle.durable_journal.specs.Stored.{image_of}
 use Rattle.durable_journal.proofs.Steps.{held_image}
 use Rattle.market_model.specs.declared.entry.Entry.{Entry}
+use Rattle.market_model.specs.declared.setup.Setup.{Setup}
+use Rattle.market_model.specs.Naming.{IsEntryIn}
 use Rattle.market_text.specs.Commands.{commands_of}
 use Rattle.market_text.specs.declared.session.Session.{Session}
 use Rattle.session_journal.proofs.Journals.{count-callers}
 use Rattle.session_journal.proofs.Turns.{turn_comes}
 use Rattle.journal_audit.specs.Course.{callers_of, entries_of}
 use Rattle.stored_journal.specs.Lines.{StoresFront, stored_line, stored_lines}
-use Rattle.stored_journal.proofs.Fronts.{IsFront, stores-front}
+use Rattle.stored_journal.proofs.Fronts.{IsFront, front-more, stores-front}
 use Rattle.stored_journal.proofs.Lines.{image-more, lines-more}
 use Rattle.session_storing.specs.Playing.{HasCommandsFor, IsPlaying, PlayState, lines_in_order, lines_played, turns_of}
 use Rattle.session_storing.proofs.Orders.{order-front}
@@ -26,29 +29,34 @@ pub played-lines : (session : Session) (state : PlayState) → IsPlaying session
 played-lines session state is = (λ i. stored_lines (is.setup i) (is.journal i))
 
 -- one more entry
-pub record Grew (old : PlayState) (caller : ℕ) (new : PlayState) : Type 0 where
-  pub setup : new.setup ≡ old.setup
-  pub entry : Entry
-  pub entries : new.entries ≡ old.entries ++ entry ∷ []
-  pub whose : entry.caller ≡ caller
+abbrev pub Grew : (old : PlayState) (caller : ℕ) (new : PlayState) → Type 0
+Grew old caller new = (entry : Entry) × (new.entries ≡ old.entries ++ entry ∷ []) × (entry.caller ≡ caller)
 
-module _ (old : PlayState) (caller : ℕ) (new : PlayState) (grew : Grew old caller new) where
-  pub callers-more : callers_of new.entries ≡ callers_of old.entries ++ caller ∷ []
-  callers-more =
-      ap callers_of grew.entries ∙ map-append (λ (e : Entry). e.caller) old.entries (grew.entry ∷ [])
-      ∙ ap (λ c. callers_of old.entries ++ c ∷ []) grew.whose
+module _ (old new : PlayState) (setup : Setup) (entries : List Entry) (last : Entry) (its : setup ≡ new.setup) (all : entries ≡ new.entries)
+    (ends : (before : List Entry) (entry : Entry) → entries ≡ before ++ entry ∷ [] → last ≡ entry) where
+  -- the line that is stored of the last entry is behind the others
+  pub lines-grew : new.setup ≡ old.setup → (caller : ℕ) → Grew old caller new → lines_played old ++ stored_line setup (length entries) last ∷ [] ≡ lines_played new
+  lines-grew same caller grew =
+      let count : length entries ≡ length old.entries + 1 = ap length (all ∙ grew.1) ∙ length-append old.entries (grew.0 ∷ []) in
+      (λ i. stored_lines (sym same i) old.entries ++ stored_line (its i) (count i) (ends old.entries grew.0 (all ∙ grew.1) i) ∷ [])
+      ∙ sym (ap (stored_lines new.setup) grew.1 ∙ lines-more new.setup old.entries grew.0)
 
-  -- the line of the last entry is behind the others
-  pub lines-grew : (last : Entry) → last ≡ grew.entry → lines_played old ++ stored_line new.setup (length new.entries) last ∷ [] ≡ lines_played new
-  lines-grew last same =
-      let count : length new.entries ≡ length old.entries + 1 = ap length grew.entries ∙ length-append old.entries (grew.entry ∷ []) in
-      ap (λ s. stored_lines s old.entries ++ stored_line new.setup (length new.entries) last ∷ []) (sym grew.setup)
-      ∙ (λ i. stored_lines new.setup old.entries ++ stored_line new.setup (count i) (same i) ∷ [])
-      ∙ sym (ap (stored_lines new.setup) grew.entries ∙ lines-more new.setup old.entries grew.entry)
+  -- the last entry names what the setup has
+  pub last-within : (session : Session) → IsPlaying session new → (entry : Entry) → new.entries ≡ old.entries ++ entry ∷ [] → IsEntryIn setup last
+  last-within session is entry grew =
+      subst (λ s. IsEntryIn s last) (sym (its ∙ is.setup)) (subst (IsEntryIn session.setup) (sym (ends old.entries entry (all ∙ grew)))
+      (last-named (IsEntryIn session.setup) old.entries entry (subst (All (IsEntryIn session.setup)) grew is.named)))
+    where
+      -- what holds of all entries holds of the last
+      last-named : (P : Entry → Type 0) (entries : List Entry) (last : Entry) → All P (entries ++ last ∷ []) → P last
+      last-named P entries last all =
+          subst P (get_or_at entries last [] last (length entries) refl) (all (length entries) last (omega (arith, length-append entries (last ∷ []))))
 
-  module _ (session : Session) (is : IsPlaying session new) where
-    pub lines-then : lines_played new ≡ lines_in_order session (callers_of old.entries ++ caller ∷ [])
-    lines-then = played-lines session new is ∙ ap (lines_in_order session) callers-more
+pub lines-then : (old : PlayState) (caller : ℕ) (new : PlayState) → Grew old caller new → (session : Session) → IsPlaying session new
+    → lines_played new ≡ lines_in_order session (callers_of old.entries ++ caller ∷ [])
+lines-then old caller new grew session is =
+    played-lines session new is
+    ∙ ap (lines_in_order session) (ap callers_of grew.1 ∙ map-append (λ (e : Entry). e.caller) old.entries (grew.0 ∷ []) ∙ ap (λ c. callers_of old.entries ++ c ∷ []) grew.2)
 
 -- the lines so far are the first of those of all turns
 pub front-of : (session : Session) (state : PlayState) (turns : List ℕ) → IsPlaying session state → IsFront (lines_played state) (lines_in_order session (callers_of state.entries ++ turns))
@@ -62,17 +70,28 @@ holds-front session state turns is contents place holds image leaves =
     stores-front (lines_played state) (lines_in_order session (callers_of state.entries ++ turns)) image (front-of session state turns is)
     (held_image contents (lines_played state) place holds image leaves)
 
--- the turns up to one and that one are the first of all
-pub turns-front : (session : Session) (callers turns : List ℕ) (i : ℕ) → i < length turns
-    → IsFront (lines_in_order session ((callers ++ take i turns) ++ get_or turns i 0 ∷ [])) (lines_in_order session (callers ++ turns))
-turns-front session callers turns i within =
-    let upto : (callers ++ take i turns) ++ get_or turns i 0 ∷ [] ≡ callers ++ take (i + 1) turns =
-    append_assoc callers (take i turns) (get_or turns i 0 ∷ []) ∙ ap (λ ts. callers ++ ts) (sym (take_more turns i 0 within)) in
-    let whole : (callers ++ take (i + 1) turns) ++ drop (i + 1) turns ≡ callers ++ turns =
-    append_assoc callers (take (i + 1) turns) (drop (i + 1) turns) ∙ ap (λ ts. callers ++ ts) (take-append-drop (i + 1) turns) in
-    subst (λ order. IsFront (lines_in_order session ((callers ++ take i turns) ++ get_or turns i 0 ∷ [])) (lines_in_order session order)) whole
-    (subst (λ order. IsFront (lines_in_order session order) (lines_in_order session ((callers ++ take (i + 1) turns) ++ drop (i + 1) turns))) (sym upto)
-    (order-front session (callers ++ take (i + 1) turns) (drop (i + 1) turns)))
+module _ (session : Session) (callers turns : List ℕ) (entries : List Entry) (i : ℕ) (upto : callers_of entries ≡ callers ++ take i turns) (within : i < length turns) where
+  -- the turns up to one and that one are the first of all
+  pub turns-front : IsFront (lines_in_order session (callers_of entries ++ get_or turns i 0 ∷ [])) (lines_in_order session (callers ++ turns))
+  turns-front =
+      let more : callers_of entries ++ get_or turns i 0 ∷ [] ≡ callers ++ take (i + 1) turns =
+      ap (λ cs. cs ++ get_or turns i 0 ∷ []) upto ∙ append_assoc callers (take i turns) (get_or turns i 0 ∷ []) ∙ ap (λ ts. callers ++ ts) (sym (take_more turns i 0 within)) in
+      let whole : (callers ++ take (i + 1) turns) ++ drop (i + 1) turns ≡ callers ++ turns =
+      append_assoc callers (take (i + 1) turns) (drop (i + 1) turns) ∙ ap (λ ts. callers ++ ts) (take-append-drop (i + 1) turns) in
+      subst (λ order. IsFront (lines_in_order session order) (lines_in_order session (callers ++ turns))) (sym more)
+      (subst (λ order. IsFront (lines_in_order session (callers ++ take (i + 1) turns)) (lines_in_order session order)) whole
+      (order-front session (callers ++ take (i + 1) turns) (drop (i + 1) turns)))
+
+  -- and what they leave is the first part of what all leave
+  pub turn-leaves : {D : Type 0} (moment : D → ℕ) (left_since : D → ℕ → List ℕ → Type 0) (old mid new : D)
+      → LeavesOnly moment left_since old mid (StoresFront (lines_in_order session (callers ++ turns)))
+      → LeavesOnly moment left_since mid new (StoresFront (lines_in_order session (callers_of entries ++ get_or turns i 0 ∷ [])))
+      → LeavesOnly moment left_since old new (StoresFront (lines_in_order session (callers ++ turns)))
+  turn-leaves moment left_since old mid new before here =
+      let now = lines_in_order session (callers_of entries ++ get_or turns i 0 ∷ []) in
+      let whole = lines_in_order session (callers ++ turns) in
+      runs_on moment left_since old mid new (StoresFront whole) before
+      (leaves_more moment left_since mid new (StoresFront now) (StoresFront whole) (λ image stores. front-more now whole image turns-front stores) here)
 
 -- whose turn it is has a command left
 pub some-waits : (session : Session) (old now : PlayState) (turns : List ℕ) (i : ℕ) → IsPlaying session old → IsPlaying session now → HasCommandsFor old turns
@@ -92,11 +111,6 @@ some-waits session old now turns i was is has callers within =
     turns-append first rest caller = sum_by-append (λ t. cond (nat_eq t caller) 1 0) first rest
 
 -- ---- a whole session
-
--- what holds of all entries holds of the last
-pub last-named : (P : Entry → Type 0) (entries : List Entry) (last : Entry) → All P (entries ++ last ∷ []) → P last
-last-named P entries last all =
-    subst P (get_or_at entries last [] last (length entries) refl) (all (length entries) last (omega (arith, length-append entries (last ∷ []))))
 
 -- the line behind those that a disk holds has so many bytes up to the closed gate
 pub behind-size : (lines : List (List ℕ)) (line : List ℕ) (contents : Option Contents) (place : ℕ) → HoldsLines contents lines place

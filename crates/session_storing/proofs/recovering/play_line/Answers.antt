@@ -1,14 +1,13 @@
 -- A stored line is compared with that of the next command of the caller that it names.
-use Rattle.std.proofs.Common.{◌≡◌, ◌∙◌, ◌<◌, All, true, false, None, Some, length, arith, ap, sym, subst}
+use Rattle.std.proofs.Common.{◌≡◌, ◌∙◌, ◌<◌, true, false, None, Some, length, arith, ap, sym}
 use Rattle.std.specs.Str.{bytes_eq}
 use Rattle.std.proofs.lemmas.Bool.{ltb-true}
 use Rattle.market_model.specs.declared.setup.Setup.{Setup}
-use Rattle.market_model.specs.Naming.{IsEntryIn}
 use Rattle.market_text.specs.Commands.{commands_of}
 use Rattle.trade_journal.specs.Journals.{made_by, room_of_caller}
 use Rattle.journal_audit.specs.Lines.{caller_named}
 use Rattle.stored_journal.specs.Lines.{stored_line}
-use Rattle.session_storing.proofs.Appends.{last-named}
+use Rattle.session_storing.proofs.Appends.{last-within}
 use Rattle.session_storing.proofs.Plays.{room-is, waiting-count}
 use Rattle.session_storing.proofs.Recovers.{differs-wrong, nobody-named, nothing-left, same-right}
 use Rattle.session_storing.proofs.recovering.play_line.Goals as goal
@@ -42,12 +41,9 @@ play_next-requires-clause-some g c =
 -- the last entry names what the setup has
 pub is_line_of-requires-clause-within : goal.is_line_of-requires-clause-within
 is_line_of-requires-clause-within g c =
-    let old = g.P.Player.state c.args.player.now in
-    let session = c.requires.plays.0 in
-    let on = c.in_ok-play_next.ensures.played session c.requires.plays.1 in
-    let last : c.last_of.result.now ≡ on.entry = c.last_of.ensures old.entries on.entry (c.entries-entries.ensures ∙ on.grew) in
-    let named : IsEntryIn session.setup on.entry = last-named (IsEntryIn session.setup) old.entries on.entry (subst (All (IsEntryIn session.setup)) on.grew on.playing.named) in
-    subst (λ (setup : Setup). IsEntryIn setup c.last_of.result.now) (sym (c.setup-2.ensures ∙ on.playing.setup)) (subst (IsEntryIn session.setup) (sym last) named)
+    let on = c.in_ok-play_next.ensures.played c.requires.plays.0 c.requires.plays.1 in
+    last-within (g.P.Player.state c.args.player.now) (g.P.Player.state c.play_next.new.player) c.setup-2.result.now c.entries-entries.result.now c.last_of.result.now
+    c.setup-2.ensures c.entries-entries.ensures c.last_of.ensures c.requires.plays.0 on.playing on.entry on.grew
 
 pub returns-in-Ok-clause-right : goal.returns-in-Ok-clause-right
 returns-in-Ok-clause-right g c = λ session is same.

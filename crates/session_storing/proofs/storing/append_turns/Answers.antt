@@ -1,12 +1,12 @@
 -- The turns are played one after the other, and their lines stored.
-use Rattle.std.proofs.Common.{◌∙◌, ◌++◌, ◌∷◌, [], ℕ, List, append_assoc, ap, get_or, take, sym, subst, arith}
+use Rattle.std.proofs.Common.{◌∙◌, ◌++◌, ◌∷◌, [], append_assoc, ap, get_or, take, sym, arith}
 use Rattle.std.proofs.lemmas.List.{append-nil, take_more}
-use Rattle.disk_model.proofs.Moments.{leaves_more, runs_on, started}
+use Rattle.disk_model.proofs.Moments.{started}
 use Rattle.journal_audit.specs.Course.{callers_of}
 use Rattle.stored_journal.specs.Lines.{StoresFront}
-use Rattle.stored_journal.proofs.Fronts.{IsFront, front-more, front-shorter}
+use Rattle.stored_journal.proofs.Fronts.{front-shorter}
 use Rattle.session_storing.specs.Playing.{lines_in_order}
-use Rattle.session_storing.proofs.Appends.{holds-front, some-waits, turns-front}
+use Rattle.session_storing.proofs.Appends.{holds-front, some-waits, turn-leaves, turns-front}
 use Rattle.session_storing.proofs.storing.append_turns.Goals as goal
 
 pub loop-turn-init : goal.loop-turn-init
@@ -33,18 +33,12 @@ append_turn-requires-clause-some g c =
 
 pub returns-in-Err-clause-any_moment : goal.returns-in-Err-clause-any_moment
 returns-in-Err-clause-any_moment g c = λ session is holds.
-    let callers = callers_of (g.P.Player.state c.args.player.now).entries in
-    let turn = get_or c.args.turns.now c.loop-turn.turn-index 0 in
-    let before = c.loop-turn.invariant in
+    let old = g.P.Player.state c.args.player.now in
     let now = g.P.Player.state c.loop-turn.player in
-    let whole = lines_in_order session (callers ++ c.args.turns.now) in
-    let upto = lines_in_order session (callers_of now.entries ++ turn ∷ []) in
-    let front : IsFront upto whole = subst (λ (cs : List ℕ). IsFront (lines_in_order session (cs ++ turn ∷ [])) whole) (sym before.callers)
-    (turns-front session callers c.args.turns.now c.loop-turn.turn-index c.loop-turn-test.true) in
-    runs_on g.D.Disk.moment g.D.Disk.left_since c.args.disk.now c.loop-turn.disk c.append_turn.new.disk (StoresFront whole) (before.any_moment session is holds)
-    (leaves_more g.D.Disk.moment g.D.Disk.left_since c.loop-turn.disk c.append_turn.new.disk (StoresFront upto) (StoresFront whole)
-    (λ image stores. front-more upto whole image front stores)
-    (c.append_turn.ensures.any_moment session (before.played session is) (before.stored holds)))
+    let before = c.loop-turn.invariant in
+    turn-leaves session (callers_of old.entries) c.args.turns.now now.entries c.loop-turn.turn-index before.callers c.loop-turn-test.true
+    g.D.Disk.moment g.D.Disk.left_since c.args.disk.now c.loop-turn.disk c.append_turn.new.disk (before.any_moment session is holds)
+    (c.append_turn.ensures.any_moment session (before.played session is) (before.stored holds))
 
 pub returns-in-Err-clause-too_long : goal.returns-in-Err-clause-too_long
 returns-in-Err-clause-too_long g c = λ session is holds long.
@@ -52,11 +46,8 @@ returns-in-Err-clause-too_long g c = λ session is holds long.
     let turn = get_or c.args.turns.now c.loop-turn.turn-index 0 in
     let before = c.loop-turn.invariant in
     let now = g.P.Player.state c.loop-turn.player in
-    let whole = lines_in_order session (callers ++ c.args.turns.now) in
-    let upto = lines_in_order session (callers_of now.entries ++ turn ∷ []) in
-    let front : IsFront upto whole = subst (λ (cs : List ℕ). IsFront (lines_in_order session (cs ++ turn ∷ [])) whole) (sym before.callers)
-    (turns-front session callers c.args.turns.now c.loop-turn.turn-index c.loop-turn-test.true) in
-    let shorter = front-shorter upto whole front in
+    let shorter = front-shorter (lines_in_order session (callers_of now.entries ++ turn ∷ [])) (lines_in_order session (callers ++ c.args.turns.now))
+    (turns-front session callers c.args.turns.now now.entries c.loop-turn.turn-index before.callers c.loop-turn-test.true) in
     let large = c.in-Err.ensures.too_long session (before.played session is) (before.stored holds) long in
     omega (arith, shorter, large)
 
@@ -77,13 +68,8 @@ loop-turn-preserved g c =
       image = λ holds is. made.image (before.stored holds) (before.image holds is);
       fits = λ holds few. made.fits (before.stored holds);
       any_moment = λ session is holds.
-          let whole = lines_in_order session (callers ++ c.args.turns.now) in
-          let upto = lines_in_order session (callers_of now.entries ++ turn ∷ []) in
-          let front : IsFront upto whole = subst (λ (cs : List ℕ). IsFront (lines_in_order session (cs ++ turn ∷ [])) whole) (sym before.callers)
-          (turns-front session callers c.args.turns.now c.loop-turn.turn-index c.loop-turn-test.true) in
-          runs_on g.D.Disk.moment g.D.Disk.left_since c.args.disk.now c.loop-turn.disk c.append_turn.new.disk (StoresFront whole) (before.any_moment session is holds)
-          (leaves_more g.D.Disk.moment g.D.Disk.left_since c.loop-turn.disk c.append_turn.new.disk (StoresFront upto) (StoresFront whole)
-          (λ image stores. front-more upto whole image front stores)
-          (c.append_turn.ensures.any_moment session (before.played session is) (before.stored holds)));
+          turn-leaves session callers c.args.turns.now now.entries c.loop-turn.turn-index before.callers c.loop-turn-test.true
+          g.D.Disk.moment g.D.Disk.left_since c.args.disk.now c.loop-turn.disk c.append_turn.new.disk (before.any_moment session is holds)
+          (c.append_turn.ensures.any_moment session (before.played session is) (before.stored holds));
       count = omega (arith, before.count, c.append_turn.ensures.count);
     }
