@@ -4,17 +4,17 @@ use Rattle.std.specs.Prelude.{ℕ, List, [], ◌∷◌, codes, map, pos}
 use Rattle.std.specs.List.{enumerate_from}
 use Rattle.order_kinds.specs.declared.contract.Contract.{Contract}
 use Rattle.order_kinds.specs.declared.contract.Part.TheVariants as part
-use Rattle.order_kinds.specs.declared.contract.Quarter.{Quarter}
 use Rattle.order_kinds.specs.declared.order.Kind.{Kind}
 use Rattle.order_kinds.specs.declared.order.Kind.TheVariants as kind
+pub use Rattle.order_kinds.specs.declared.order.Kind.TheVariants.{Fok as fill_or_kill, Ioc as immediate, Limit as limit}
 use Rattle.order_kinds.specs.declared.order.Order.{Order}
 use Rattle.order_kinds.specs.declared.order.OrderName.{OrderName}
-use Rattle.order_kinds.specs.declared.phase.Phase.{Phase}
-use Rattle.order_kinds.specs.declared.phase.Phase.TheVariants as phase
+pub use Rattle.order_kinds.specs.declared.phase.Phase.TheVariants.{Closed as closed}
 use Rattle.order_kinds.specs.declared.side.Side.{Side}
-use Rattle.order_kinds.specs.declared.side.Side.TheVariants as side
+pub use Rattle.order_kinds.specs.declared.side.Side.TheVariants.{Buy as buys, Sell as sells}
 use Rattle.market_model.specs.declared.command.Command.{Command}
 use Rattle.market_model.specs.declared.command.Command.TheVariants as command
+pub use Rattle.market_model.specs.declared.command.Command.TheVariants.{Blocks as blocks, Cancel as cancel, EnterBasket as basket, Gate as gate, Halt as halt, Offer as offer, Reduce as reduce, Request as request, Resume as resume, View as view_of}
 use Rattle.market_model.specs.declared.setup.Caller.{Caller}
 use Rattle.market_model.specs.declared.setup.Role.{Role}
 use Rattle.market_model.specs.declared.setup.Role.TheVariants as role
@@ -92,26 +92,8 @@ quarter hour number = record { hour = hour; part = part.Quarter number }
 abbrev pub half : (hour number : ℕ) → Contract
 half hour number = record { hour = hour; part = part.Half number }
 
-abbrev pub limit : Kind
-limit = kind.Limit
-
-abbrev pub immediate : Kind
-immediate = kind.Ioc
-
-abbrev pub fill_or_kill : Kind
-fill_or_kill = kind.Fok
-
 abbrev pub iceberg : (peak delta : ℕ) → Kind
 iceberg peak delta = kind.Iceberg (record { 0 = peak }) delta
-
-abbrev pub buys : Side
-buys = side.Buy
-
-abbrev pub sells : Side
-sells = side.Sell
-
-abbrev pub closed : Phase
-closed = phase.Closed
 
 abbrev pub order : (hour number : ℕ) → OrderName
 order hour number = record { hour = hour; number = number }
@@ -151,36 +133,6 @@ sell_block first last zone lots cents = block_for sells first last zone lots cen
 -- an order of a basket
 abbrev pub item : Side → Contract → (zone lots cents : ℕ) → Order
 item side contract zone lots cents = order_for side fill_or_kill contract zone lots cents
-
-abbrev pub basket : List Order → Command
-basket orders = command.EnterBasket orders
-
-abbrev pub cancel : OrderName → Command
-cancel name = command.Cancel name
-
-abbrev pub reduce : OrderName → (to : ℕ) → Command
-reduce name to = command.Reduce name to
-
-abbrev pub blocks : (first last : ℕ) → Command
-blocks first last = command.Blocks first last
-
-abbrev pub offer : (from to : ℕ) → (first last : Quarter) → (lots : ℕ) → Command
-offer from to first last lots = command.Offer from to first last lots
-
-abbrev pub request : (from to : ℕ) → (first last : Quarter) → (lots : ℕ) → Command
-request from to first last lots = command.Request from to first last lots
-
-abbrev pub halt : (from to first last : ℕ) → Command
-halt from to first last = command.Halt from to first last
-
-abbrev pub resume : (from to first last : ℕ) → Command
-resume from to first last = command.Resume from to first last
-
-abbrev pub gate : (hour : ℕ) → Phase → Command
-gate hour phase = command.Gate hour phase
-
-abbrev pub view_of : Contract → Side → (zone : ℕ) → Command
-view_of contract side zone = command.View contract side zone
 
 -- a command and who gives it
 abbrev pub by : (caller : ℕ) → Command → Turn

@@ -1,6 +1,6 @@
 //! Worked sessions as theorems: from the definitions of the market alone the journal of each
 //! session follows, to the byte; and from those of the grid which routes are best. Each is the contract of a function that does nothing.
-#![tactic(auto)]
+#![tactic(auto, unfolding(crate::proofs::Computing::computing))]
 
 mod blocks;
 mod diamond;

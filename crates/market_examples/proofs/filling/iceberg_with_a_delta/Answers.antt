@@ -1,7 +1,0 @@
-use Rattle.std.proofs.Common.{refl}
-use Rattle.market_examples.proofs.Computing.{computing}
-use Rattle.market_examples.proofs.filling.iceberg_with_a_delta.Goals as goal
-
-pub returns : goal.returns
-unfolding computing
-returns c = refl
