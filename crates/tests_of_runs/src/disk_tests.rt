@@ -1,14 +1,9 @@
 //! Runs of `store`, where no clause says what comes.
 
-ghost use Rattle.std.specs.Prelude.{◌≡◌, []};
-ghost use Rattle.disk_model.specs.Contents.{settled};
-
-use crate::sessions::{JOURNAL, SALE, SWEEP, SWEEP_JOURNAL, words_of};
-use command_words::is_trade;
+use crate::sessions::{JOURNAL, SALE, SWEEP, SWEEP_JOURNAL, part, ran};
 use disk_model::RamDisk;
 use durable_journal::open_image;
-use outside::{BytesSink, BytesSource};
-use session_run::{Status, run_alone};
+use session_run::Status;
 use std::alloc::Global;
 use std::test::Fail;
 
@@ -16,29 +11,16 @@ use std::test::Fail;
 // read it.
 const CALLS: u64 = 24;
 
-// How a run of `store` over a session and an empty disk ends, and what it has written.
-fn store_on(alloc: Global, session: &[u8], disk: &mut RamDisk) -> Result<(Status, BytesSink), Fail>
-    requires { disk.old.now ≡ settled [] }
-{
-    let words = words_of(alloc, &["store"])?;
-    let mut source = BytesSource::new(alloc, session, 64, &[])?;
-    let mut sink = BytesSink::new(alloc, 100, &[])?;
-    if is_trade(words.as_slice()) {
-        return Ok((Status::Usage, sink));
-    }
-    let status = run_alone(alloc, words.as_slice(), &mut source, &mut sink, disk);
-    Ok((status, sink))
-}
-
-// Some of the bytes: none where there are not so many.
-fn part(bytes: &[u8], from: usize, to: usize) -> &[u8] {
-    bytes.get(from..to).unwrap_or_default()
-}
-
 #[test]
 fn a_sale_is_stored(rt: HostRuntime) -> Result<(), Fail> {
     let alloc = rt.alloc();
-    let (status, sink) = store_on(alloc, SALE, &mut RamDisk::new(alloc))?;
+    let (status, sink) = ran(
+        alloc,
+        &["store"],
+        SALE,
+        (&[], &[]),
+        &mut RamDisk::new(alloc),
+    )?;
     assert_eq!(rt; status, Status::Done);
     let image = sink.bytes();
     assert_eq!(rt; image.len(), 206);
@@ -78,7 +60,7 @@ fn each_failed_call_of_the_disk_leaves_the_first_lines(rt: HostRuntime) -> Resul
     let alloc = rt.alloc();
     for call in 1..=CALLS + 1 {
         let mut disk = RamDisk::failing(alloc, &[call])?;
-        let (status, sink) = store_on(alloc, SWEEP, &mut disk)?;
+        let (status, sink) = ran(alloc, &["store"], SWEEP, (&[], &[]), &mut disk)?;
         if call > CALLS {
             assert_eq!(rt; status, Status::Done);
         } else {

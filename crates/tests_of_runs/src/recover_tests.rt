@@ -1,14 +1,9 @@
 //! Runs of `recover`, where no clause says what comes.
 
-ghost use Rattle.std.specs.Prelude.{◌≡◌, []};
-ghost use Rattle.disk_model.specs.Contents.{settled};
-
-use crate::sessions::{JOURNAL, SALE, SWEEP, SWEEP_JOURNAL, words_of};
-use crate::streams::Counting;
-use command_words::is_trade;
+use crate::sessions::{JOURNAL, SALE, SWEEP, SWEEP_JOURNAL, part, ran};
 use disk_model::RamDisk;
-use outside::{BytesSink, BytesSource, NullSink};
-use session_run::{Status, run_alone};
+use outside::BytesSink;
+use session_run::Status;
 use std::alloc::Global;
 use std::test::Fail;
 
@@ -19,38 +14,16 @@ const CALLS: u64 = 16;
 // The most bytes that an image has.
 const LONGEST_IMAGE: usize = 67_108_864;
 
-// How a run of a word over an input and an empty disk ends, and what it has written.
-fn run_on(
-    alloc: Global,
-    word: &str,
-    input: &[u8],
-    disk: &mut RamDisk,
-) -> Result<(Status, BytesSink), Fail>
-    requires { disk.old.now ≡ settled [] }
-{
-    let words = words_of(alloc, &[word])?;
-    let mut source = BytesSource::new(alloc, input, 65_536, &[])?;
-    let mut sink = BytesSink::new(alloc, 1000, &[])?;
-    if is_trade(words.as_slice()) {
-        return Ok((Status::Usage, sink));
-    }
-    let status = run_alone(alloc, words.as_slice(), &mut source, &mut sink, disk);
-    Ok((status, sink))
-}
-
 // How a run of `recover` of a session from an image ends, and what it has written.
 fn recovered(alloc: Global, session: &[u8], image: &[u8]) -> Result<(Status, BytesSink), Fail> {
     let input = input_of(alloc, session, image)?;
-    run_on(alloc, "recover", input.as_slice(), &mut RamDisk::new(alloc))
+    let mut disk = RamDisk::new(alloc);
+    ran(alloc, &["recover"], input.as_slice(), (&[], &[]), &mut disk)
 }
 
 // A session, the line `image`, and an image.
 fn input_of(alloc: Global, session: &[u8], image: &[u8]) -> Result<Vec<u8>, Fail> {
-    let mut input = Vec::new(alloc);
-    input.extend_from_slice(session)?;
-    input.extend_from_slice(b"image\n")?;
-    input.extend_from_slice(image)?;
-    Ok(input)
+    Ok([session, b"image\n", image].concat(alloc)?)
 }
 
 // The image of the stored lines of a journal.
@@ -75,15 +48,16 @@ fn next_gate(image: &[u8], gate: usize) -> usize {
     }
 }
 
-// Some of the bytes: none where there are not so many.
-fn part(bytes: &[u8], from: usize, to: usize) -> &[u8] {
-    bytes.get(from..to).unwrap_or_default()
-}
-
 #[test]
 fn a_sale_is_recovered_from_one_line(rt: HostRuntime) -> Result<(), Fail> {
     let alloc = rt.alloc();
-    let (status, stored) = run_on(alloc, "store", SALE, &mut RamDisk::new(alloc))?;
+    let (status, stored) = ran(
+        alloc,
+        &["store"],
+        SALE,
+        (&[], &[]),
+        &mut RamDisk::new(alloc),
+    )?;
     assert_eq!(rt; status, Status::Done);
     let mut image = part(stored.bytes(), 0, 82).to_vec(alloc)?;
     image.push(0)?;
@@ -94,51 +68,45 @@ fn a_sale_is_recovered_from_one_line(rt: HostRuntime) -> Result<(), Fail> {
 }
 
 #[test]
-fn an_open_gate_without_a_line_is_damage(rt: HostRuntime) -> Result<(), Fail> {
+fn damage_is_told(rt: HostRuntime) -> Result<(), Fail> {
     let alloc = rt.alloc();
-    let image = image_of(alloc, JOURNAL)?;
-    let (status, sink) = recovered(alloc, SALE, part(image.as_slice(), 0, 83))?;
-    assert_eq!(rt; status, Status::BadImage { place: 82 });
-    assert_eq!(rt; sink.bytes(), b"".as_slice());
-    Ok(())
-}
-
-#[test]
-fn lines_that_are_exchanged_are_not_right(rt: HostRuntime) -> Result<(), Fail> {
-    let alloc = rt.alloc();
+    // An open gate without a line.
+    let opened = part(image_of(alloc, JOURNAL)?.as_slice(), 0, 83).to_vec(alloc)?;
     let (first, second) = JOURNAL.split_at(74);
-    let mut exchanged = second.to_vec(alloc)?;
-    exchanged.extend_from_slice(first)?;
-    let image = image_of(alloc, exchanged.as_slice())?;
-    let (status, sink) = recovered(alloc, SALE, image.as_slice())?;
-    assert_eq!(rt; status, Status::Illegal { entry: 1 });
-    assert_eq!(rt; sink.bytes(), b"".as_slice());
-    Ok(())
-}
-
-#[test]
-fn a_changed_line_or_one_too_many_is_told(rt: HostRuntime) -> Result<(), Fail> {
-    let alloc = rt.alloc();
+    let exchanged = image_of(alloc, [second, first].concat(alloc)?.as_slice())?;
     let mut changed = image_of(alloc, SWEEP_JOURNAL)?;
     // A byte of the line before the last gate.
     let place = changed.len().saturating_sub(2);
     if let Some(byte) = changed.get_mut(place) {
         *byte ^= 1;
     }
-    let (status, _sink) = recovered(alloc, SWEEP, changed.as_slice())?;
-    assert_eq!(rt; status, Status::Illegal { entry: 5 });
-    let mut twice = SWEEP_JOURNAL.to_vec(alloc)?;
-    twice.extend_from_slice(SWEEP_JOURNAL)?;
-    let image = image_of(alloc, twice.as_slice())?;
-    let (status, _sink) = recovered(alloc, SWEEP, image.as_slice())?;
-    assert_eq!(rt; status, Status::Illegal { entry: 6 });
+    let twice = image_of(
+        alloc,
+        [SWEEP_JOURNAL, SWEEP_JOURNAL].concat(alloc)?.as_slice(),
+    )?;
+    for (session, image, told) in [
+        (SALE, &opened, Status::BadImage { place: 82 }),
+        (SALE, &exchanged, Status::Illegal { entry: 1 }),
+        (SWEEP, &changed, Status::Illegal { entry: 5 }),
+        (SWEEP, &twice, Status::Illegal { entry: 6 }),
+    ] {
+        let (status, sink) = recovered(alloc, session, image.as_slice())?;
+        assert_eq!(rt; status, told);
+        assert_eq!(rt; sink.bytes(), b"".as_slice());
+    }
     Ok(())
 }
 
 #[test]
 fn a_cut_image_is_recovered_or_its_damage_told(rt: HostRuntime) -> Result<(), Fail> {
     let alloc = rt.alloc();
-    let (status, stored) = run_on(alloc, "store", SWEEP, &mut RamDisk::new(alloc))?;
+    let (status, stored) = ran(
+        alloc,
+        &["store"],
+        SWEEP,
+        (&[], &[]),
+        &mut RamDisk::new(alloc),
+    )?;
     assert_eq!(rt; status, Status::Done);
     let image = stored.bytes();
     assert_eq!(rt; image, image_of(alloc, SWEEP_JOURNAL)?.as_slice());
@@ -173,7 +141,7 @@ fn each_failed_call_of_the_disk_is_told(rt: HostRuntime) -> Result<(), Fail> {
     let input = input_of(alloc, SWEEP, image.as_slice())?;
     for call in 1..=CALLS + 1 {
         let mut disk = RamDisk::failing(alloc, &[call])?;
-        let (status, sink) = run_on(alloc, "recover", input.as_slice(), &mut disk)?;
+        let (status, sink) = ran(alloc, &["recover"], input.as_slice(), (&[], &[]), &mut disk)?;
         if call > CALLS {
             assert_eq!(rt; status, Status::Done);
             assert_eq!(rt; sink.bytes(), SWEEP_JOURNAL);
@@ -199,36 +167,6 @@ fn the_longest_image_is_recovered_from(rt: HostRuntime) -> Result<(), Fail> {
         let (status, sink) = recovered(alloc, session, image)?;
         assert_eq!(rt; status, Status::TooLong);
         assert_eq!(rt; sink.bytes(), b"".as_slice());
-    }
-    Ok(())
-}
-
-#[test]
-fn the_longest_input_is_read(rt: HostRuntime) -> Result<(), Fail> {
-    let alloc = rt.alloc();
-    let words = words_of(alloc, &["recover"])?;
-    if is_trade(words.as_slice()) {
-        return Ok(());
-    }
-    for (left, status) in [
-        // One comment of the greatest length, which nothing divides.
-        (134_217_728, Status::BadSession { line: 1 }),
-        // One byte more.
-        (134_217_729, Status::TooLong),
-    ] {
-        let mut source = Counting {
-            left,
-            most: usize::MAX,
-            reads: 0,
-        };
-        let ended = run_alone(
-            alloc,
-            words.as_slice(),
-            &mut source,
-            &mut NullSink::new(),
-            &mut RamDisk::new(alloc),
-        );
-        assert_eq!(rt; ended, status);
     }
     Ok(())
 }

@@ -1,17 +1,20 @@
 //! Sessions that are run, and the words for it.
 
-ghost use Rattle.std.specs.Prelude.{◌≡◌, ◌≤◌, ◌⊎◌, Ok, Some, false, length, IfOk};
+ghost use Rattle.std.specs.Prelude.{◌≡◌, ◌≤◌, ◌⊎◌, Ok, Some, [], false, length, IfOk};
 ghost use Rattle.command_words.specs.Words.{is_trade, task_of};
 ghost use Rattle.command_words.specs.declared.words.Task.TheVariants as task;
+ghost use Rattle.disk_model.specs.Contents.{settled};
 ghost use Rattle.market_text.specs.Text.{session_of_text};
 ghost use Rattle.market_text.specs.declared.session.Session.{Session};
 ghost use Rattle.session_io.specs.Reading.{longest_session};
 ghost use Rattle.session_io.specs.declared.status.Status.TheVariants as ended;
 
+use command_words::is_trade;
 use disk_model::RamDisk;
-use outside::{NullSink, SteadySource};
+use outside::{BytesSink, BytesSource, NullSink, SteadySource};
 use session_run::{Status, run_alone};
 use std::alloc::Global;
+use std::test::Fail;
 use zone_graph::{NoMemory, Sequence, Word};
 
 /// A sale and a purchase of one hour in one zone.
@@ -53,6 +56,32 @@ pub(crate) fn words_of(alloc: Global, texts: &[&str]) -> Result<Sequence<Word>, 
         words.push(Word::new(alloc, text.as_bytes())?)?;
     }
     Ok(words)
+}
+
+/// How a run of these words, which mean no `trade`, ends over an input that is given in at most four pieces, and what it has
+/// written, at most 16 bytes at once. The reads and the writes of these numbers fail.
+pub(crate) fn ran(
+    alloc: Global,
+    texts: &[&str],
+    input: &[u8],
+    fails: (&[u64], &[u64]),
+    disk: &mut RamDisk,
+) -> Result<(Status, BytesSink), Fail>
+    requires { disk.old.now ≡ settled [] }
+{
+    let words = words_of(alloc, texts)?;
+    let mut source = BytesSource::new(alloc, input, input.len() / 4 + 1, fails.0)?;
+    let mut sink = BytesSink::new(alloc, 16, fails.1)?;
+    if is_trade(words.as_slice()) {
+        return Ok((Status::Usage, sink));
+    }
+    let status = run_alone(alloc, words.as_slice(), &mut source, &mut sink, disk);
+    Ok((status, sink))
+}
+
+/// Some of the bytes: none where there are not so many.
+pub(crate) fn part(bytes: &[u8], from: usize, to: usize) -> &[u8] {
+    bytes.get(from..to).unwrap_or_default()
 }
 
 /// From a source and to a sink that never fail, each session that is not too long is played, unless
