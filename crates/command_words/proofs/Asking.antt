@@ -10,43 +10,21 @@ use Rattle.command_words.specs.declared.words.Task.TheVariants as task
 use Rattle.command_words.proofs.Counts.{is-numeral, numeral-is-text, spelled}
 use Rattle.command_words.proofs.Programs.{one-word, some-count}
 
-replay-is-text : IsUtf8 (codes "replay")
-unfolding encode_utf8
-replay-is-text = (codes "replay", (refl, refl))
-
-audit-is-text : IsUtf8 (codes "audit")
-unfolding encode_utf8
-audit-is-text = (codes "audit", (refl, refl))
-
-ship-is-text : IsUtf8 (codes "ship")
-unfolding encode_utf8
-ship-is-text = (codes "ship", (refl, refl))
-
-store-is-text : IsUtf8 (codes "store")
-unfolding encode_utf8
-store-is-text = (codes "store", (refl, refl))
-
-recover-is-text : IsUtf8 (codes "recover")
-unfolding encode_utf8
-recover-is-text = (codes "recover", (refl, refl))
-
-generate-is-text : IsUtf8 (codes "generate")
-unfolding encode_utf8
-generate-is-text = (codes "generate", (refl, refl))
-
 -- each of the words is text
 pub asking-is-text : (words : List (List ℕ)) → is_some (task_of words) ≡ true → (i : ℕ) (d : List ℕ) → i < length words → IsUtf8 (get_or words i d)
+unfolding encode_utf8
 asking-is-text [] asked = absurd (true≢false (sym asked))
 asking-is-text (word ∷ []) asked = only
   where
     only : (i : ℕ) (d : List ℕ) → i < 1 → IsUtf8 (get_or (word ∷ []) i d)
-    only zero d within = one-word IsUtf8 replay-is-text audit-is-text ship-is-text store-is-text recover-is-text word asked
+    only zero d within =
+        one-word IsUtf8 (codes "replay", (refl, refl)) (codes "audit", (refl, refl)) (codes "ship", (refl, refl)) (codes "store", (refl, refl)) (codes "recover", (refl, refl)) word asked
     only (suc i) d within = absurd (omega (arith, within))
 asking-is-text (word ∷ count ∷ []) asked = by (bytes_eq word (codes "generate")) refl asked
   where
     by : (b : Bool) → bytes_eq word (codes "generate") ≡ b → is_some (if b then option_map task.Generate (count_of count) else None) ≡ true
         → (i : ℕ) (d : List ℕ) → i < 2 → IsUtf8 (get_or (word ∷ count ∷ []) i d)
-    by true same asked zero d within = subst IsUtf8 (sym ((bytes_eq-Decides word (codes "generate")).0 same)) generate-is-text
+    by true same asked zero d within = subst IsUtf8 (sym ((bytes_eq-Decides word (codes "generate")).0 same)) (codes "generate", (refl, refl))
     by true same asked (suc zero) d within =
         let counted = some-count (count_of count) asked in
         numeral-is-text count (is-numeral count counted.0 (spelled count counted.0 counted.1)).0

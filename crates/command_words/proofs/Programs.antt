@@ -9,6 +9,7 @@ use Rattle.clap.specs.Words.{is_simple, subcommand_of, takes}
 use Rattle.clap.proofs.OnLiterals.{clap_on_literals}
 use Rattle.command_words.specs.Matches.{program, task_matched}
 use Rattle.command_words.specs.Words.{count_of, task_of, task_of_word}
+use Rattle.command_words.specs.declared.words.Task.{Task}
 use Rattle.command_words.specs.declared.words.Task.TheVariants as task
 use Rattle.command_words.proofs.Counts.{begins, spelled}
 
@@ -21,58 +22,19 @@ program-simple = refl
 
 -- ---- one word
 
-replay-parsed : IsParsed (codes "replay" ∷ [])
-unfolding clap_on_literals
-replay-parsed = (refl, refl)
-
-audit-parsed : IsParsed (codes "audit" ∷ [])
-unfolding clap_on_literals
-audit-parsed = (refl, refl)
-
-ship-parsed : IsParsed (codes "ship" ∷ [])
-unfolding clap_on_literals
-ship-parsed = (refl, refl)
-
-store-parsed : IsParsed (codes "store" ∷ [])
-unfolding clap_on_literals
-store-parsed = (refl, refl)
-
-recover-parsed : IsParsed (codes "recover" ∷ [])
-unfolding clap_on_literals
-recover-parsed = (refl, refl)
-
 -- what holds of the five words holds of each one that asks for something
 pub one-word : (P : List ℕ → Type 0) → P (codes "replay") → P (codes "audit") → P (codes "ship") → P (codes "store") → P (codes "recover")
     → (word : List ℕ) → is_some (task_of_word word) ≡ true → P word
-one-word P replay audit ship store recover word asked = first (bytes_eq word (codes "replay")) refl asked
+one-word P replay audit ship store recover word asked =
+    step (codes "replay") task.Replay _ replay (step (codes "audit") task.Audit _ audit (step (codes "ship") task.Ship _ ship (step (codes "store") task.Store _ store
+    (step (codes "recover") task.Recover None recover (λ never. absurd (true≢false (sym never))))))) asked
   where
-    fifth : (b : Bool) → bytes_eq word (codes "recover") ≡ b → is_some (if b then Some task.Recover else None) ≡ true → P word
-    fifth true same asked = subst P (sym ((bytes_eq-Decides word (codes "recover")).0 same)) recover
-    fifth false same asked = absurd (true≢false (sym asked))
-
-    fourth : (b : Bool) → bytes_eq word (codes "store") ≡ b
-        → is_some (if b then Some task.Store else if bytes_eq word (codes "recover") then Some task.Recover else None) ≡ true → P word
-    fourth true same asked = subst P (sym ((bytes_eq-Decides word (codes "store")).0 same)) store
-    fourth false same asked = fifth (bytes_eq word (codes "recover")) refl asked
-
-    third : (b : Bool) → bytes_eq word (codes "ship") ≡ b
-        → is_some (if b then Some task.Ship else if bytes_eq word (codes "store") then Some task.Store
-        else if bytes_eq word (codes "recover") then Some task.Recover else None) ≡ true → P word
-    third true same asked = subst P (sym ((bytes_eq-Decides word (codes "ship")).0 same)) ship
-    third false same asked = fourth (bytes_eq word (codes "store")) refl asked
-
-    second : (b : Bool) → bytes_eq word (codes "audit") ≡ b
-        → is_some (if b then Some task.Audit else if bytes_eq word (codes "ship") then Some task.Ship else if bytes_eq word (codes "store") then Some task.Store
-        else if bytes_eq word (codes "recover") then Some task.Recover else None) ≡ true → P word
-    second true same asked = subst P (sym ((bytes_eq-Decides word (codes "audit")).0 same)) audit
-    second false same asked = third (bytes_eq word (codes "ship")) refl asked
-
-    first : (b : Bool) → bytes_eq word (codes "replay") ≡ b
-        → is_some (if b then Some task.Replay else if bytes_eq word (codes "audit") then Some task.Audit
-        else if bytes_eq word (codes "ship") then Some task.Ship else if bytes_eq word (codes "store") then Some task.Store
-        else if bytes_eq word (codes "recover") then Some task.Recover else None) ≡ true → P word
-    first true same asked = subst P (sym ((bytes_eq-Decides word (codes "replay")).0 same)) replay
-    first false same asked = second (bytes_eq word (codes "audit")) refl asked
+    step : (text : List ℕ) (its : Task) (rest : Option Task) → P text → (is_some rest ≡ true → P word) → is_some (if bytes_eq word text then Some its else rest) ≡ true → P word
+    step text its rest here others asked = by (bytes_eq word text) refl asked
+      where
+        by : (b : Bool) → bytes_eq word text ≡ b → is_some (if b then Some its else rest) ≡ true → P word
+        by true same asked = subst P (sym ((bytes_eq-Decides word text).0 same)) here
+        by false same asked = others asked
 
 -- ---- `generate` and a number
 
@@ -115,8 +77,9 @@ some-count None asked = absurd (true≢false (sym asked))
 some-count (Some n) asked = (n, refl)
 
 pub parses : (words : List (List ℕ)) → is_some (task_of words) ≡ true → IsParsed words
+unfolding clap_on_literals
 parses [] asked = absurd (true≢false (sym asked))
-parses (word ∷ []) asked = one-word (λ w. IsParsed (w ∷ [])) replay-parsed audit-parsed ship-parsed store-parsed recover-parsed word asked
+parses (word ∷ []) asked = one-word (λ w. IsParsed (w ∷ [])) (refl, refl) (refl, refl) (refl, refl) (refl, refl) (refl, refl) word asked
 parses (word ∷ count ∷ []) asked = by (bytes_eq word (codes "generate")) refl asked
   where
     by : (b : Bool) → bytes_eq word (codes "generate") ≡ b → is_some (if b then option_map task.Generate (count_of count) else None) ≡ true
