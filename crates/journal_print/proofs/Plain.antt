@@ -1,12 +1,10 @@
 -- Which texts are plain: names, numbers, and what is put together of them.
-use Rattle.std.proofs.Common.{◌≡◌, ◌≢◌, ℕ, zero, suc, ◌+◌, ◌/◌, ◌%◌, ◌<◌, ◌≤◌, ◌==◌, ℤ, pos, negsuc, List, [], ◌∷◌, ◌++◌, true, false, nat_lt, get_or, lit<, decimal, refl, ◌∙◌, arith, Result, Ok, Err, MatchResult, IsOk}
+use Rattle.std.proofs.Common.{◌≡◌, ◌≢◌, ℕ, zero, suc, ◌+◌, ◌/◌, ◌%◌, ◌<◌, ◌≤◌, ◌==◌, ℤ, pos, negsuc, List, [], ◌∷◌, ◌++◌, true, false, nat_lt, decimal, refl, ◌∙◌, arith}
 use Rattle.std.proofs.lemmas.Bool.{and_parts, and_from, cond_both, le-leb, leb-true, ltb-false, ne_eqb, not_from_false}
 use Rattle.std.proofs.lemmas.Bool.Decides.{nat_tests}
 use Rattle.std.proofs.lemmas.List.Folds.{list_all-append}
-use Rattle.std.proofs.lemmas.Str.{IsUtf8-from_ascii}
 use Rattle.std.specs.Fmt.{digits, digits_onto, digit_glyph}
 use Rattle.std.specs.List.{list_all}
-use Rattle.std.specs.Str.{IsUtf8}
 use Rattle.zone_graph.specs.Name.{is_name_byte, IsName}
 use Rattle.order_kinds.specs.declared.contract.Part.{Part}
 use Rattle.order_kinds.specs.declared.contract.Part.TheVariants as part
@@ -50,22 +48,6 @@ plain-name name h = plain_bytes name h.each
 
 pub plain-append : (xs ys : List ℕ) → IsPlain xs → IsPlain ys → IsPlain (xs ++ ys)
 plain-append xs ys h k = list_all-append is_plain_byte xs ys ∙ and_from _ _ h k
-
-ascii_from_plain : (bytes : List ℕ) → IsPlain bytes → (i : ℕ) → get_or bytes i 0 < 128
-ascii_from_plain [] h i = lit< tt
-ascii_from_plain (b ∷ bytes) h zero =
-    let range = plain_byte_range b (and_parts _ _ h).0 in
-    omega (arith, range.1)
-ascii_from_plain (b ∷ bytes) h (suc i) = ascii_from_plain bytes (and_parts _ _ h).1 i
-
--- an answer that cannot be an error is none
-pub ok_unless : {X Y : Type 0} (r : Result X Y) (P : X → Type 0) (Q : Y → Type 0) → MatchResult r P Q → ((y : Y) → Q y → ⊥) → IsOk r
-ok_unless (Ok x) P Q h never = refl
-ok_unless (Err y) P Q h never = absurd (never y h)
-
--- plain bytes are text
-pub IsUtf8-from_plain : (bytes : List ℕ) → IsPlain bytes → IsUtf8 bytes
-IsUtf8-from_plain bytes h = IsUtf8-from_ascii bytes (ascii_from_plain bytes h)
 
 plain-digits_onto : (k n : ℕ) (acc : List ℕ) → IsPlain acc → IsPlain (digits_onto k 10 false n acc)
 plain-digits_onto zero n acc h = h
