@@ -4,7 +4,7 @@ use Rattle.std.proofs.lemmas.List.{length-append}
 use Rattle.std.specs.Io.KnownBytes.{Consumes}
 use Rattle.session_io.specs.declared.status.Status.{Status}
 use Rattle.session_io.specs.declared.status.Status.TheVariants as status
-use Rattle.session_io.specs.Outcomes.{Answers, DiskAnswers, EndsWell}
+use Rattle.session_io.specs.Outcomes.{Answers}
 use Rattle.session_io.specs.Sources.{ReadsUpTo}
 
 -- what came of known bytes is no more than they are
@@ -41,27 +41,3 @@ completes most IsAsked IsBad IsIllegal bytes status.TooLong left new old written
     let less : most < length told.input = told.long refl in
     let few = no-more left new told.input bytes told.came is in
     absurd (omega (arith, less, few, short))
-
--- so is one whose run is over a disk, where no call of the disk failed and nothing was too long
-pub completes-on-disk : (IsAsked : List ℕ → Type 0) (IsBad IsIllegal IsDamaged : ℕ → Type 0) (end : Status) (old written : Option (List ℕ))
-    → ((line : ℕ) → IsBad line → ⊥) → ((entry : ℕ) → IsIllegal entry → ⊥) → ((place : ℕ) → IsDamaged place → ⊥)
-    → DiskAnswers IsAsked IsBad IsIllegal IsDamaged end old written
-    → end ≢ status.Usage → end ≢ status.ReadFault → end ≢ status.WriteFault → end ≢ status.DiskFault → end ≢ status.TooLong → EndsWell end
-completes-on-disk IsAsked IsBad IsIllegal IsDamaged status.Done old written good legal whole answers no_usage no_read no_write no_disk short = inl refl
-completes-on-disk IsAsked IsBad IsIllegal IsDamaged status.NoMemory old written good legal whole answers no_usage no_read no_write no_disk short = inr refl
-completes-on-disk IsAsked IsBad IsIllegal IsDamaged status.Usage old written good legal whole answers no_usage no_read no_write no_disk short =
-    absurd (no_usage refl)
-completes-on-disk IsAsked IsBad IsIllegal IsDamaged status.ReadFault old written good legal whole answers no_usage no_read no_write no_disk short =
-    absurd (no_read refl)
-completes-on-disk IsAsked IsBad IsIllegal IsDamaged status.WriteFault old written good legal whole answers no_usage no_read no_write no_disk short =
-    absurd (no_write refl)
-completes-on-disk IsAsked IsBad IsIllegal IsDamaged status.DiskFault old written good legal whole answers no_usage no_read no_write no_disk short =
-    absurd (no_disk refl)
-completes-on-disk IsAsked IsBad IsIllegal IsDamaged status.TooLong old written good legal whole answers no_usage no_read no_write no_disk short =
-    absurd (short refl)
-completes-on-disk IsAsked IsBad IsIllegal IsDamaged (status.BadSession line) old written good legal whole answers no_usage no_read no_write no_disk short =
-    absurd (good line answers)
-completes-on-disk IsAsked IsBad IsIllegal IsDamaged (status.Illegal entry) old written good legal whole answers no_usage no_read no_write no_disk short =
-    absurd (legal entry answers)
-completes-on-disk IsAsked IsBad IsIllegal IsDamaged (status.BadImage place) old written good legal whole answers no_usage no_read no_write no_disk short =
-    absurd (whole place answers)
