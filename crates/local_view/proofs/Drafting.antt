@@ -52,6 +52,18 @@ pub kept_past : (of left : List (ℕ × ℕ)) (arc : Arc) → length of ≤ arc.
 kept_past of left arc of_past left_past =
     omega (arith, none_past of arc of_past, none_past of (opposite_arc arc) of_past, none_past left arc left_past, none_past left (opposite_arc arc) left_past)
 
+-- where the two arcs of a border are given rooms those of others stay
+untouched : (old mid new : List (ℕ × ℕ)) (arc opposite : Arc) (room back : ℕ) → IsWith old mid arc room → IsWith mid new opposite back → opposite ≡ opposite_arc arc
+    → (other : Arc) → (arc.border == other.border) ≡ false → room_of new other ≡ room_of old other
+untouched old mid new arc opposite room back first second is other apart =
+    elsewhere mid new (opposite_arc arc) back other (subst (λ o. IsWith mid new o back) is second) (ap (λ t. t && same_bool (opposite_arc arc).forward other.forward) apart)
+    ∙ elsewhere old mid arc room other first (ap (λ t. t && same_bool arc.forward other.forward) apart)
+
+pub kept-others : (old mid new : List (ℕ × ℕ)) (arc opposite : Arc) (room back : ℕ) → IsWith old mid arc room → IsWith mid new opposite back → opposite ≡ opposite_arc arc
+    → (of : List (ℕ × ℕ)) (other : Arc) → (arc.border == other.border) ≡ false → IsKept of old other → IsKept of new other
+kept-others old mid new arc opposite room back first second is of other apart kept =
+    omega (arith, kept, untouched old mid new arc opposite room back first second is other apart, untouched old mid new arc opposite room back first second is (opposite_arc other) apart)
+
 -- the sum of a border is kept where its two arcs are given rooms with the sum of theirs, and those of others as before
 pub kept-both : (of old mid new : List (ℕ × ℕ)) (arc opposite : Arc) (room back : ℕ) → IsWith old mid arc room → IsWith mid new opposite back → opposite ≡ opposite_arc arc
     → room + back ≡ room_of of arc + room_of of (opposite_arc arc) → (other : Arc) → (other.border ≢ arc.border → IsKept of old other) → IsKept of new other
@@ -69,14 +81,9 @@ kept-both of old mid new arc opposite room back first second is sum other kept =
     turned : IsKept of new (opposite_arc arc)
     turned = omega (arith, there, ap (room_of new) (opposite-twice arc), ap (room_of of) (opposite-twice arc))
 
-    untouched : (a : Arc) → (arc.border == a.border) ≡ false → room_of new a ≡ room_of old a
-    untouched a e =
-        elsewhere mid new (opposite_arc arc) back a next (ap (λ t. t && same_bool (opposite_arc arc).forward a.forward) e)
-        ∙ elsewhere old mid arc room a first (ap (λ t. t && same_bool arc.forward a.forward) e)
-
     by : (b : Bool) → (arc.border == other.border) ≡ b → IsKept of new other
     by true e = elim (same_border other arc (sym (eqb-true arc.border other.border e))) [
       | inl same ↦ subst (IsKept of new) (sym same) there
       | inr same ↦ subst (IsKept of new) (sym same) turned
     ]
-    by false e = omega (arith, untouched other e, untouched (opposite_arc other) e, kept (λ same. true≢false (sym (eq-eqb arc.border other.border (sym same)) ∙ e)))
+    by false e = omega (arith, untouched old mid new arc opposite room back first second is other e, untouched old mid new arc opposite room back first second is (opposite_arc other) e, kept (λ same. true≢false (sym (eq-eqb arc.border other.border (sym same)) ∙ e)))

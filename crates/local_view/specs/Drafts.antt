@@ -13,6 +13,6 @@ IsKept old new arc = room_of new arc + room_of new (opposite_arc arc) ≡ room_o
 abbrev pub AreKept : (old new : List (ℕ × ℕ)) → Type 0
 AreKept old new = (arc : Arc) → IsKept old new arc
 
--- a flow is over rooms of so many borders
+-- a flow is over rooms of so many borders, and leaves each border as much of them together
 abbrev pub IsFlow : (borders : ℕ) → Flow → Type 0
-IsFlow borders flow = (length flow.of ≡ borders) × (length flow.left ≡ borders)
+IsFlow borders flow = (length flow.of ≡ borders) × (length flow.left ≡ borders) × AreKept flow.of flow.left

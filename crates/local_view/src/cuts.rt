@@ -112,7 +112,6 @@ impl Cuts {
         requires end { end ≡ length line }
         requires zone { HasZone grid.now zone }
         requires flow { IsFlow (border_count grid.now) flow.now }
-        requires kept { AreKept flow.now.of flow.now.left }
         ensures { IsTrue result → IsCertified grid.now (room_of flow.now.of) side zone line (flow_in flow.now) (given_by self.now) (cut_by self.now) }
     {
         // It shows that the grid has no more than 64 zones.

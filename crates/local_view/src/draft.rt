@@ -1,7 +1,7 @@
 //! Drafts of what comes to a zone from the orders of a line: a flow, mended until nothing better is found. Nothing rests on
 //! a draft, since what it says is tested.
 
-ghost use Rattle.std.specs.Prelude.{◌≡◌, ◌≢◌, ◌+◌, ◌<◌, ◌≤◌, ◌^◌, IfOk, IfSome, IsTrue, length};
+ghost use Rattle.std.specs.Prelude.{◌≡◌, ◌≢◌, ◌+◌, ◌<◌, ◌≤◌, ◌^◌, ℕ, IfOk, IfSome, List, length};
 ghost use Rattle.zone_graph.specs.Graph.{HasArc, border_count};
 ghost use Rattle.zone_graph.specs.Pour.{opposite_arc};
 ghost use Rattle.zone_graph.specs.Rooms.{room_of};
@@ -82,16 +82,20 @@ impl Flow {
         self.of.copy_from(rooms);
     }
 
-    // Lays it over the rooms of a border, where it is not over these or does not leave as much of them together.
+    // Lays it over the rooms of a border, where it is not over these.
     fn lay_over(&mut self, grid: &Grid, side: Side, rooms: &Rooms, border: u32)
         requires border { border < border_count grid.now }
         requires size { length rooms.now ≡ border_count grid.now }
         requires fit { FitTogether grid.now (room_of rooms.now) }
-        requires flow { IsFlow (border_count grid.now) self.old }
-        ensures flow { IsFlow (border_count grid.now) self.new }
-        ensures kept { (arc : AnArc) → (arc.border ≢ border → IsKept rooms.now self.old.left arc) → IsKept rooms.now self.new.left arc }
+        requires of { length self.old.of ≡ border_count grid.now }
+        requires left { length self.old.left ≡ border_count grid.now }
+        requires was { (arc : AnArc) → arc.border ≡ border → IsKept self.old.of self.old.left arc }
+        ensures of { self.new.of ≡ self.old.of }
+        ensures left { length self.new.left ≡ border_count grid.now }
+        ensures kept { (arc : AnArc) → arc.border ≡ border → IsKept rooms.now self.new.left arc }
+        ensures others { (of : List (ℕ × ℕ)) (arc : AnArc) → arc.border ≢ border → IsKept of self.old.left arc → IsKept of self.new.left arc }
     {
-        if is_laid(rooms, &self.of, &self.left, border) {
+        if are_same(&self.of, rooms, border) {
             return;
         }
         let arc = Arc {
@@ -148,25 +152,6 @@ impl Flow {
         } else {
             self.leads[from as usize] &= !bit(to);
         }
-    }
-
-    // The zones from which more can come to a zone, of so many.
-    fn can_reach(&self, zone: u32, zones: u32) -> u64
-        requires { zones ≤ 64 }
-    {
-        let mut reaching = bit(zone);
-        for _ in 0..zones {
-            let known = reaching;
-            for from in 0..zones {
-                if self.leads[from as usize] & reaching != 0 {
-                    reaching |= bit(from);
-                }
-            }
-            if reaching == known {
-                break;
-            }
-        }
-        reaching
     }
 
     // Passes lots on over an arc from a zone to a neighbour, as many as it has room for.
@@ -308,20 +293,16 @@ impl Draft {
         ensures size { length flow.new.left ≡ border_count grid.now }
         ensures kept { AreKept flow.old.left flow.new.left }
     {
-        let zones = grid.zones();
-        let can = if short.count_ones() < 2 {
-            short
-        } else {
-            short & flow.can_reach(self.zone, zones)
-        };
-        let mut is_all = can == short;
-        for zone in 0..zones {
-            if is_set(can, zone as usize) {
+        let mut is_all = true;
+        let mut closed: u64 = 0;
+        for zone in 0..grid.zones() {
+            if is_set(short & !closed, zone as usize) {
                 let given = flow.given[zone as usize];
                 let lacks = shown[zone as usize].saturating_sub(given);
-                let (sent, _) = self.send(grid, flow, zone, bit(self.zone), lacks);
+                let (sent, more_closed) = self.send(grid, flow, zone, bit(self.zone), lacks);
                 flow.given[zone as usize] = given.saturating_add(sent);
                 self.mark(flow, zone);
+                closed |= more_closed;
                 is_all = is_all && sent == lacks;
             }
         }
@@ -417,6 +398,12 @@ impl Draft {
             }
             let zone = new.trailing_zeros();
             let more = flow.leads[zone as usize] & !reached;
+            let ends = more & to;
+            if ends != 0 {
+                let target = ends.trailing_zeros();
+                self.before[target as usize] = zone;
+                return (reached, Some(target));
+            }
             new = (new & (new - 1)) | more;
             reached |= more;
             let mut steps = more;
@@ -426,9 +413,6 @@ impl Draft {
                 }
                 self.before[steps.trailing_zeros() as usize] = zone;
                 steps &= steps - 1;
-            }
-            if more & to != 0 {
-                return (reached, Some((more & to).trailing_zeros()));
             }
         }
         (reached, None)
@@ -494,18 +478,4 @@ impl Draft {
 // The set of one zone.
 fn bit(zone: u32) -> u64 {
     if zone < 64 { 1 << zone } else { 0 }
-}
-
-// Whether a flow is over the rooms that a border has in a part, and what it leaves of them is as much together.
-fn is_laid(of_part: &Rooms, of: &Rooms, left: &Rooms, border: u32) -> bool
-    requires size { border < length of_part.now }
-    requires of { border < length of.now }
-    requires left { border < length left.now }
-    ensures { IsTrue result → (arc : AnArc) → arc.border ≡ border → IsKept of_part.now left.now arc }
-{
-    let forward = Arc::over(border, true);
-    let backward = Arc::over(border, false);
-    let all = u64::from(of_part.at(forward)) + u64::from(of_part.at(backward));
-    all == u64::from(left.at(forward)) + u64::from(left.at(backward))
-        && are_same(of, of_part, border)
 }

@@ -7,9 +7,10 @@ use Rattle.market_model.specs.Board.{resting_line}
 use Rattle.local_view.specs.declared.footing.Certificate.{Certificate}
 use Rattle.local_view.specs.Certified.{IsCertified}
 use Rattle.local_view.specs.Cuts.{cut_by, flow_beside, given_by}
+use Rattle.local_view.specs.Drafts.{AreKept}
 use Rattle.local_view.specs.Footing.{RestOnWork}
 use Rattle.local_view.specs.Moved.{cut_in, flow_in}
-use Rattle.local_view.proofs.Drafting.{fit-kept}
+use Rattle.local_view.proofs.Drafting.{fit-kept, kept-on}
 use Rattle.local_view.proofs.Listed.{rooms-fit}
 use Rattle.local_view.proofs.Resting.{AreTold, rest-told, view-told}
 use Rattle.local_view.proofs.Wholes.{small-resting}
@@ -64,6 +65,9 @@ returns g c =
       flow = (
         ap length (c.note_given.ensures.of ∙ rooms_are) ∙ work.sized.sound.of_part ∙ work.sized.borders ∙ ap border_count (sym c.requires.0),
         ap length c.note_given.ensures.left ∙ c.along.ensures.size,
+        subst (λ of. AreKept of c.note_given.new.self.left) (sym (c.note_given.ensures.of ∙ rooms_are))
+            (subst (AreKept c.args.work.now.of_part) (sym c.note_given.ensures.left)
+            (kept-on c.args.work.now.of_part c.args.certificate.now.flow.left c.along.new.flow.left c.requires.1.1.1.1.1.1.1 c.along.ensures.kept)),
       );
       rest = λ is.
           subst (λ (side : Side). RestOnWork grid c.args.work.now side zone certificate c.along.new.rows.items) (sym c.requires.1.1.0)

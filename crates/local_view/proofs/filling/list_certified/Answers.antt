@@ -33,6 +33,7 @@ returns-then-is_balanced g c =
     let line = resting_line of.board of.part of.side in
     let flow = c.begin.new.flow in
     let few = c.zones.ensures.grid in
+    let kept : AreKept flow.of flow.left = subst (λ rooms. AreKept rooms flow.left) (sym c.begin.ensures.of) c.begin.ensures.kept in
     let listed = c.in_ok-list_whole.ensures in
     let small = small-resting of.board work.hand of.part of.side whole work.read grid c.requires.0 few.few_zones in
     let told : AreTold grid of.board of.part of.side zone c.args.work.now.of_part c.list_whole.new.certificate c.list_whole.new.rows.items = record {
@@ -40,7 +41,7 @@ returns-then-is_balanced g c =
       certified =
           subst (λ (f : Flow). IsCertified grid (room_of c.args.work.now.of_part) of.side zone line (flow_in f) (λ other. get_or whole.shown other 0) (cut_in c.list_whole.new.certificate.cuts)) (sym c.list_whole.ensures.flow)
           (subst (λ rooms. IsCertified grid (room_of rooms) of.side zone line (flow_in flow) (λ other. get_or whole.shown other 0) (cut_in c.list_whole.new.certificate.cuts)) c.begin.ensures.of
-          (whole_certified grid flow.of flow.left (subst (λ rooms. AreKept rooms flow.left) (sym c.begin.ensures.of) c.begin.ensures.kept) few of.side zone (omega (arith, c.requires.1.0, few.few_zones)) line
+          (whole_certified grid flow.of flow.left kept few of.side zone (omega (arith, c.requires.1.0, few.few_zones)) line
           whole.shown c.list_whole.new.certificate.cuts (work.read.zones c.if-not-work.false)
           (subst (λ (side : Side). (other : ℕ) → HasZone grid other → other ≢ zone → PassesOn grid side (flow_in flow) other (get_or whole.shown other 0)) c.requires.1.1.0
           (c.is_balanced.ensures c.if-is_balanced.true))
@@ -57,7 +58,7 @@ returns-then-is_balanced g c =
       };
       same = (refl, refl);
       flow = subst (IsFlow (border_count grid)) (sym c.list_whole.ensures.flow)
-          (ap length c.begin.ensures.of ∙ work.sized.sound.of_part ∙ work.sized.borders ∙ ap border_count (sym c.requires.0), c.begin.ensures.left);
+          (ap length c.begin.ensures.of ∙ work.sized.sound.of_part ∙ work.sized.borders ∙ ap border_count (sym c.requires.0), c.begin.ensures.left, kept);
       rest = λ is.
           subst (λ (side : Side). RestOnWork grid c.args.work.now side zone c.list_whole.new.certificate c.list_whole.new.rows.items) (sym c.requires.1.1.0)
           (rest-told grid of.board of.part of.side c.requires.0 zone c.requires.1.0 c.args.work.now work c.list_whole.new.certificate c.list_whole.new.rows.items told);
