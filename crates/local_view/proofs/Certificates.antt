@@ -54,7 +54,7 @@ pub row-lots : (price : Price) (lots : ℕ) (rows : List ViewRow) → lots_in (r
 row-lots price zero rows = omega arith
 row-lots price (suc more) rows = sum_by-cons (λ (row : ViewRow). row.lots) (record { price = price; lots = suc more }) rows
 
-row-append : (price : Price) (lots : ℕ) (rows others : List ViewRow) → row_if price lots (rows ++ others) ≡ row_if price lots rows ++ others
+pub row-append : (price : Price) (lots : ℕ) (rows others : List ViewRow) → row_if price lots (rows ++ others) ≡ row_if price lots rows ++ others
 row-append price zero rows others = refl
 row-append price (suc more) rows others = refl
 

@@ -1,29 +1,23 @@
 -- The rows and cuts of a line, one order after the other.
-use Rattle.std.proofs.Common.{◌≡◌, ◌≢◌, ◌∙◌, ◌⊎◌, inl, inr, ℕ, suc, ◌+◌, ◌-◌, ◌<◌, ◌≤◌, ◌==◌, List, [], ◌∷◌, ◌++◌, get_or, get_or-set_other, get_or-set_same, length, map, min, replicate, set, take, eq-eqb, refl, sym, ap, subst, arith}
+use Rattle.std.proofs.Common.{◌≡◌, ◌≢◌, ◌∙◌, ◌⊎◌, inl, inr, ℕ, zero, suc, ◌+◌, ◌-◌, ◌<◌, ◌≤◌, ◌==◌, List, [], ◌∷◌, ◌++◌, drop, get_or, get_or-set_other, get_or-set_same, length, map, min, replicate, set, take, eq-eqb, refl, sym, ap, subst, arith}
 use Rattle.std.proofs.lemmas.Bool.{cases_lt}
 use Rattle.std.proofs.lemmas.Bool.Decides.{eqb_tells}
-use Rattle.std.proofs.lemmas.List.{append-nil, get_or-map, get_or-replicate, length-map, length-set, take_all, take_more}
+use Rattle.std.proofs.lemmas.List.{append-nil, get_or-map, get_or-replicate, length-append, length-map, length-replicate, length-set, length-take, take-append-drop, take_all, take_more}
 use Rattle.zone_graph.specs.Pour.{lots_if}
 use Rattle.zone_graph.specs.Route.{IsIn}
+use Rattle.zone_graph.proofs.Membership.{IsIn-left}
 use Rattle.zone_graph.proofs.Places.{at_place}
+use Rattle.order_kinds.specs.declared.price.Price.{Price}
 use Rattle.market_model.specs.declared.reply.ViewRow.{ViewRow}
 use Rattle.market_model.specs.Orders.{Standing}
 use Rattle.local_view.specs.declared.cuts.Cuts.{Cuts}
 use Rattle.local_view.specs.declared.whole.LineOrder.{LineOrder}
 use Rattle.local_view.specs.Certified.{left_after, rows_in_turn}
-use Rattle.local_view.specs.Cuts.{AreAlong, IsNoLater, cut_by, given_by}
+use Rattle.local_view.specs.Cuts.{AreAlong, AreCutting, IsNoLater, cut_by, given_by}
 use Rattle.local_view.specs.Poured.{row_if}
 use Rattle.local_view.specs.Whole.{all_shown, in_line, rows_shown, shown_in}
-use Rattle.local_view.proofs.Certificates.{left-is, shown-cons, shown-more, shown-other, shown-own, turn-push}
+use Rattle.local_view.proofs.Certificates.{left-is, row-append, shown-cons, shown-more, shown-other, shown-own, turn-push}
 use Rattle.local_view.proofs.Reading.{zone-within}
-
--- the first orders of a line are gone along: those of a zone give all that they show before its cut, and nothing behind it
-pub record AreCutting (line : List Standing) (place : ℕ) (cuts : Cuts) (rows : List ViewRow) : Type 0 where
-  pub given_size : length cuts.given ≡ 64
-  pub places_size : length cuts.places ≡ 64
-  pub before : (zone : ℕ) → zone < 64 → shown_in (take (min (cut_by cuts zone) place) line) zone ≤ given_by cuts zone
-  pub behind : (zone : ℕ) → zone < 64 → given_by cuts zone ≤ shown_in (take (min (suc (cut_by cuts zone)) place) line) zone
-  pub rows_are : rows ≡ rows_in_turn (given_by cuts) (take place line)
 
 -- the order at a place gives some lots, and where they are not all that it shows its zone has its cut there
 pub record IsTaken (place : ℕ) (order : LineOrder) (lots : ℕ) (old new : Cuts) : Type 0 where
@@ -282,23 +276,139 @@ module _ (line : List Standing) (orders : List LineOrder) (are : orders ≡ map 
       subst (λ (seen : LineOrder). IsTaken place seen lots old new → AreCutting line (place + 1) new (rows ++ row_if seen.price lots [])) at.is
       (one_more line place at.order at.next at_small old rows cutting new lots)
 
--- ---- the whole line
+-- ---- the orders with which a line begins
 
--- no order has given yet
-pub none_cut : (line : List Standing) (cuts : Cuts) → length cuts.places ≡ 64 → cuts.given ≡ replicate 64 0 → AreCutting line 0 cuts []
-unfolding rows_in_turn
-none_cut line cuts size none = record {
-  given_size = ap length none;
-  places_size = size;
+-- each zone gives all that the first orders of a line show, which have so many rows, and none has a cut
+pub record HaveGiven (line : List Standing) (place count : ℕ) (cuts : Cuts) : Type 0 where
+  pub size : length cuts.given ≡ 64
+  pub places : cuts.places ≡ replicate 64 (length line)
+  pub gives : (zone : ℕ) → zone < 64 → given_by cuts zone ≡ shown_in (take place line) zone
+  pub rows : count ≡ length (rows_shown (take place line))
+
+rows-push : (line : List Standing) (order : Standing) → rows_shown (line ++ order ∷ []) ≡ rows_shown line ++ row_if order.price order.shown []
+rows-push [] order = refl
+rows-push (first ∷ line) order = ap (row_if first.price first.shown) (rows-push line order) ∙ row-append first.price first.shown (rows_shown line) (row_if order.price order.shown [])
+
+pub row-count : (price : Price) (lots : ℕ) → 0 < lots → length (row_if price lots []) ≡ 1
+row-count price zero some = absurd (omega (arith, some))
+row-count price (suc more) some = refl
+
+pub none-counted : (price : Price) (lots count : ℕ) → lots ≤ 0 → count ≡ count + length (row_if price lots [])
+none-counted price zero count none = omega arith
+none-counted price (suc more) count none = absurd (omega (arith, none))
+
+pub row-few : (price : Price) (lots : ℕ) → length (row_if price lots []) ≤ 1
+row-few price zero = omega arith
+row-few price (suc more) = omega arith
+
+row-first-of : (price : Price) (lots : ℕ) (few rows : List ViewRow) → take (length few) rows ≡ few → take (length (row_if price lots few)) (row_if price lots rows) ≡ row_if price lots few
+row-first-of price zero few rows first = first
+row-first-of price (suc more) few rows first = ap (λ list. record { price = price; lots = suc more } ∷ list) first
+
+-- the rows of the first orders are the first rows
+rows-first : (place : ℕ) (line : List Standing) → take (length (rows_shown (take place line))) (rows_shown line) ≡ rows_shown (take place line)
+rows-first zero line = refl
+rows-first (suc place) [] = refl
+rows-first (suc place) (order ∷ line) = row-first-of order.price order.shown (rows_shown (take place line)) (rows_shown line) (rows-first place line)
+
+-- so the first orders are gone along
+pub first_cutting : (line : List Standing) → ((order : Standing) → IsIn order line → order.order.zone < 64) → (place count : ℕ) (cuts : Cuts) → place ≤ length line → HaveGiven line place count cuts
+    → AreCutting line place cuts (take count (rows_shown line))
+first_cutting line zones place count cuts within given = record {
+  given_size = given.size;
+  places_size = ap length given.places ∙ length-replicate 64 (length line);
   before = λ zone few.
-      let here : 0 ≡ min (cut_by cuts zone) 0 = omega arith in
-      subst (λ n. shown_in (take n line) zone ≤ given_by cuts zone) here (omega arith);
-  behind = λ zone few. omega (arith, gives zone few);
-  rows_are = refl;
+      let here : place ≡ min (cut_by cuts zone) place = omega (arith, end zone few, within) in
+      subst (λ n. shown_in (take n line) zone ≤ given_by cuts zone) here (omega (arith, given.gives zone few));
+  behind = λ zone few.
+      let here : place ≡ min (suc (cut_by cuts zone)) place = omega (arith, end zone few, within) in
+      subst (λ n. given_by cuts zone ≤ shown_in (take n line) zone) here (omega (arith, given.gives zone few));
+  rows_are =
+      ap (λ n. take n (rows_shown line)) given.rows
+      ∙ rows-first place line
+      ∙ sym (turn-all (given_by cuts) (take place line) (λ order i. omega (arith, given.gives order.order.zone (zones order (in_line_too order i)))));
 }
   where
-    gives : (zone : ℕ) → zone < 64 → given_by cuts zone ≡ 0
-    gives zone few = ap (λ (list : List ℕ). get_or list zone 0) none ∙ get_or-replicate 64 zone 0 0 few
+    end : (zone : ℕ) → zone < 64 → cut_by cuts zone ≡ length line
+    end zone few = ap (λ (list : List ℕ). get_or list zone 0) given.places ∙ get_or-replicate 64 zone (length line) 0 few
+
+    in_line_too : (order : Standing) → IsIn order (take place line) → IsIn order line
+    in_line_too order i = subst (IsIn order) (take-append-drop place line) (IsIn-left order (take place line) (drop place line) i)
+
+-- their rows are no more than all
+pub first_few : (line : List Standing) (place count : ℕ) (cuts : Cuts) → HaveGiven line place count cuts → count ≤ length (rows_shown line)
+first_few line place count cuts given = omega (arith, given.rows, ap length (rows-first place line), length-take (length (rows_shown (take place line))) (rows_shown line))
+
+-- no order has given yet
+pub none_given : (line : List Standing) (cuts : Cuts) → cuts.places ≡ replicate 64 (length line) → cuts.given ≡ replicate 64 0 → HaveGiven line 0 0 cuts
+none_given line cuts places none = record {
+  size = ap length none;
+  places = places;
+  gives = λ zone few. ap (λ (list : List ℕ). get_or list zone 0) none ∙ get_or-replicate 64 zone 0 0 few;
+  rows = refl;
+}
+
+-- one more gives
+module _ (line : List Standing) (orders : List LineOrder) (are : orders ≡ map in_line line) (zones : (order : Standing) → IsIn order line → order.order.zone < 64)
+    (place : ℕ) (d : LineOrder) (there : place < length orders) (count : ℕ) (cuts : Cuts) (given : HaveGiven line place count cuts) where
+  next_order : IsOrderAt line place (get_or orders place d)
+  next_order = order_at line orders place d are there
+
+  gives_own : given_by cuts next_order.order.order.zone + next_order.order.shown ≡ shown_in (take (place + 1) line) next_order.order.order.zone
+  gives_own =
+      let order = next_order.order in
+      omega (
+        arith,
+        given.gives order.order.zone (zones order next_order.there),
+        ap (λ orders. shown_in orders order.order.zone) next_order.next,
+        shown-own (take place line) order,
+      )
+
+  pub gives_few : given_by cuts (get_or orders place d).zone + (get_or orders place d).lots ≤ all_shown line
+  gives_few =
+      let order = next_order.order in
+      let whole : shown_in (take (length line + (place + 1)) line) order.order.zone ≡ shown_in line order.order.zone =
+      ap (λ orders. shown_in orders order.order.zone) (take_all (length line + (place + 1)) line (omega arith)) in
+      subst (λ (seen : LineOrder). given_by cuts seen.zone + seen.lots ≤ all_shown line) next_order.is
+      (omega (arith, gives_own, shown-more line (place + 1) (length line + (place + 1)) order.order.zone (omega arith), whole, zone-within line order.order.zone))
+
+  pub gives_more : (new : Cuts) (more : ℕ) → new.given ≡ set cuts.given (get_or orders place d).zone (given_by cuts (get_or orders place d).zone + (get_or orders place d).lots)
+      → new.places ≡ cuts.places → more ≡ count + length (row_if (get_or orders place d).price (get_or orders place d).lots []) → HaveGiven line (place + 1) more new
+  gives_more new more =
+      subst (λ (seen : LineOrder). new.given ≡ set cuts.given seen.zone (given_by cuts seen.zone + seen.lots) → new.places ≡ cuts.places
+      → more ≡ count + length (row_if seen.price seen.lots []) → HaveGiven line (place + 1) more new) next_order.is gives
+    where
+      order : Standing
+      order = next_order.order
+
+      gives : new.given ≡ set cuts.given order.order.zone (given_by cuts order.order.zone + order.shown) → new.places ≡ cuts.places
+          → more ≡ count + length (row_if order.price order.shown []) → HaveGiven line (place + 1) more new
+      gives is same counted = record {
+        size = ap length is ∙ length-set cuts.given order.order.zone _ ∙ given.size;
+        places = same ∙ given.places;
+        gives = λ zone few. elim (eqb_tells zone order.order.zone) [
+          | inl own ↦ subst (λ z. given_by new z ≡ shown_in (take (place + 1) line) z) (sym own.1)
+              (ap (λ (list : List ℕ). get_or list order.order.zone 0) is
+              ∙ get_or-set_same cuts.given order.order.zone _ 0 (omega (arith, zones order next_order.there, given.size))
+              ∙ gives_own)
+          | inr apart ↦
+              ap (λ (list : List ℕ). get_or list zone 0) is
+              ∙ get_or-set_other cuts.given order.order.zone zone _ 0 apart.1
+              ∙ given.gives zone few
+              ∙ sym (ap (λ orders. shown_in orders zone) next_order.next ∙ shown-other (take place line) order zone (λ e. apart.1 (sym e)))
+        ];
+        rows =
+            omega (
+              arith,
+              counted,
+              given.rows,
+              ap (λ orders. length (rows_shown orders)) next_order.next,
+              ap length (rows-push (take place line) order),
+              length-append (rows_shown (take place line)) (row_if order.price order.shown []),
+            );
+      }
+
+-- ---- the whole line
 
 -- all have
 pub all_rows : (line : List Standing) (cuts : Cuts) (rows : List ViewRow) (place : ℕ) → length line ≤ place → AreCutting line place cuts rows → rows ≡ rows_in_turn (given_by cuts) line

@@ -71,27 +71,26 @@ impl Balance {
         requires flow { IsFlow (border_count grid.now) flow.now }
         requires few { HasFew self.old (2 ^ 40) }
         ensures passed { HasPassed grid.now side (flow_in flow.now) border self.old self.new }
-        ensures few { (most : ℕ) → HasFew self.old most → HasFew self.new (most + 2 ^ 33) }
-    {
-        let arc = Arc::over(border, true);
-        self.pass_over(grid, flow, side, arc);
-        self.pass_over(grid, flow, side, arc.opposite());
-    }
-
-    // Adds what flows over an arc.
-    #[inline(always)]
-    fn pass_over(&mut self, grid: &Grid, flow: &Flow, side: Side, arc: Arc)
-        requires arc { HasArc grid.now arc }
-        requires flow { IsFlow (border_count grid.now) flow.now }
-        requires few { HasFew self.old (2 ^ 41) }
-        ensures out { (zone : ℕ) → zone < 64 → out_of self.new zone ≡ out_of self.old zone + lots_if (lots_from grid.now side arc == zone) (flow_in flow.now arc) }
-        ensures into { (zone : ℕ) → zone < 64 → into_of self.new zone ≡ into_of self.old zone + lots_if (lots_to grid.now side arc == zone) (flow_in flow.now arc) }
         ensures few { (most : ℕ) → HasFew self.old most → HasFew self.new (most + 2 ^ 32) }
     {
-        let lots = flow.at(arc);
-        if lots == 0 {
-            return;
+        let arc = Arc::over(border, true);
+        let (of, left) = (flow.of.at(arc), flow.left.at(arc));
+        if left < of {
+            self.pass_over(grid, side, arc, of - left);
+        } else if of < left {
+            self.pass_over(grid, side, arc.opposite(), left - of);
         }
+    }
+
+    // Adds lots that flow over an arc.
+    #[inline(always)]
+    fn pass_over(&mut self, grid: &Grid, side: Side, arc: Arc, lots: u32)
+        requires arc { HasArc grid.now arc }
+        requires few { HasFew self.old (2 ^ 41) }
+        ensures out { (zone : ℕ) → zone < 64 → out_of self.new zone ≡ out_of self.old zone + lots_if (lots_from grid.now side arc == zone) lots }
+        ensures into { (zone : ℕ) → zone < 64 → into_of self.new zone ≡ into_of self.old zone + lots_if (lots_to grid.now side arc == zone) lots }
+        ensures few { (most : ℕ) → HasFew self.old most → HasFew self.new (most + 2 ^ 32) }
+    {
         let (start, end) = grid.ends(arc);
         match side {
             Side::Sell => self.pass(start, end, lots),

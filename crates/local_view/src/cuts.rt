@@ -1,22 +1,21 @@
 //! Rows that a flow and cuts certify.
 
-ghost use Rattle.std.specs.Prelude.{◌≡◌, ◌+◌, ◌<◌, ◌≤◌, ◌^◌, ℕ, IsTrue, List, OnOk, length, map, slice_index_or, slice_set};
-ghost use Rattle.zone_graph.specs.Graph.{HasArc, HasZone, border_count};
+ghost use Rattle.std.specs.Prelude.{◌≡◌, ◌+◌, ◌<◌, ◌≤◌, ◌^◌, ℕ, IsTrue, List, OnOk, length, map, slice_index_or, slice_set, take};
+ghost use Rattle.zone_graph.specs.Graph.{HasZone, border_count};
 ghost use Rattle.zone_graph.specs.Rooms.{room_of};
 ghost use Rattle.zone_graph.specs.Route.{IsIn};
 ghost use Rattle.cut_proof.specs.Carrying.{FitTogether};
 ghost use Rattle.market_model.specs.Orders.{Standing};
-ghost use Rattle.local_view.specs.Certified.{IsCertified, lots_from, lots_to, rows_in_turn};
-ghost use Rattle.local_view.specs.Cuts.{AreAlong, AreClosedOver, IsNoLater, cut_by, given_by};
+ghost use Rattle.local_view.specs.Certified.{IsCertified, rows_in_turn};
+ghost use Rattle.local_view.specs.Cuts.{AreAlong, AreClosedOver, AreCutting, IsNoLater, cut_by, given_by};
 ghost use Rattle.local_view.specs.Drafts.{AreKept, IsFlow};
 ghost use Rattle.local_view.specs.Moved.{flow_in};
-ghost use Rattle.local_view.specs.Whole.{all_shown, in_line};
+ghost use Rattle.local_view.specs.Whole.{all_shown, in_line, rows_shown};
 
 use crate::balance::is_balanced;
 use crate::draft::{Draft, Flow};
 use crate::listing::add_row;
-use crate::still_standing::comes_no_later;
-use crate::whole::LineOrder;
+use crate::whole::{LineOrder, WholeLine};
 use market_model::{NoMemory, Side, ViewRow};
 use zone_graph::{Arc, Grid, MOST_ZONES, Rooms};
 
@@ -49,11 +48,12 @@ impl Cuts {
         grid: &Grid,
         draft: &mut Draft,
         flow: &mut Flow,
-        orders: &[LineOrder],
+        whole: &WholeLine,
         rows: &mut Vec<ViewRow>,
     ) -> Result<(), NoMemory>
         ghost line: { List Standing }
-        requires orders { orders.now ≡ map in_line line }
+        requires orders { whole.now.orders.items ≡ map in_line line }
+        requires rows { whole.now.rows.items ≡ rows_shown line }
         requires zones { (order : Standing) → IsIn order line → order.order.zone < 64 }
         requires shown { all_shown line < 2 ^ 32 }
         requires size { length flow.old.left ≡ border_count grid.now }
@@ -64,17 +64,46 @@ impl Cuts {
         ensures size { length flow.new.left ≡ border_count grid.now }
         ensures kept { AreKept flow.old.left flow.new.left }
     {
-        self.given = [0; MOST_ZONES];
-        self.places = [orders.len(); MOST_ZONES];
+        let orders = whole.orders.as_slice();
+        let (first, count) = self.begin(draft, flow, orders);
         rows.clear();
-        for (place, order) in orders.iter().enumerate() {
+        rows.extend_from_slice(&whole.rows.as_slice()[..count])?;
+        for place in first..orders.len() {
+            let order = orders[place];
             if place < self.places[order.zone as usize] {
                 let (lots, closed) = draft.obtain(grid, flow, order.zone, order.lots);
-                self.take(order, place, lots, closed);
+                self.take(&order, place, lots, closed);
                 add_row(rows, order.price, lots)?;
             }
         }
         Ok(())
+    }
+
+    // Goes along the orders with which a line begins, as long as each gives all that it shows of what comes from its zone. Answers
+    // how many these are, and how many rows they have.
+    fn begin(&mut self, draft: &mut Draft, flow: &mut Flow, orders: &[LineOrder]) -> (usize, usize)
+        ghost line: { List Standing }
+        requires orders { orders.now ≡ map in_line line }
+        requires zones { (order : Standing) → IsIn order line → order.order.zone < 64 }
+        requires shown { all_shown line < 2 ^ 32 }
+        ensures cutting { AreCutting line result.0 self.new (take result.1 (rows_shown line)) }
+        ensures count { result.1 ≤ length (rows_shown line) }
+        ensures of { flow.new.of ≡ flow.old.of }
+        ensures left { flow.new.left ≡ flow.old.left }
+    {
+        self.given = [0; MOST_ZONES];
+        self.places = [orders.len(); MOST_ZONES];
+        let mut count: usize = 0;
+        for (place, order) in orders.iter().enumerate() {
+            if !draft.gives(flow, order.zone, order.lots) {
+                return (place, count);
+            }
+            self.given[order.zone as usize] += order.lots;
+            if order.lots > 0 {
+                count += 1;
+            }
+        }
+        (orders.len(), count)
     }
 
     // Notes that the order at a place gives some lots, and where they are not all that it shows, that from here on nothing comes
@@ -146,17 +175,13 @@ impl Cuts {
         ensures { IsTrue result → AreClosedOver grid.now (room_of left.now) side (cut_by self.now) border }
     {
         let arc = Arc::over(border, true);
-        self.closes(grid, left, side, arc) && self.closes(grid, left, side, arc.opposite())
-    }
-
-    // Whether an arc has no room left, or leads lots to a zone whose cut is no later.
-    #[inline(always)]
-    fn closes(&self, grid: &Grid, left: &Rooms, side: Side, arc: Arc) -> bool
-        requires arc { HasArc grid.now arc }
-        requires size { length left.now ≡ border_count grid.now }
-        ensures { IsTrue result → 0 < room_of left.now arc → cut_by self.now (lots_to grid.now side arc) ≤ cut_by self.now (lots_from grid.now side arc) }
-    {
-        left.at(arc) == 0 || comes_no_later(grid, &self.places, side, arc)
+        let (start, end) = grid.ends(arc);
+        let (start, end) = (self.places[start as usize], self.places[end as usize]);
+        let (from, to) = match side {
+            Side::Sell => (start, end),
+            Side::Buy => (end, start),
+        };
+        from == to || left.at(if from < to { arc } else { arc.opposite() }) == 0
     }
 }
 

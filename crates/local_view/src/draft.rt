@@ -1,7 +1,7 @@
 //! Drafts of what comes to a zone from the orders of a line: a flow, mended until nothing better is found. Nothing rests on
 //! a draft, since what it says is tested.
 
-ghost use Rattle.std.specs.Prelude.{◌≡◌, ◌≢◌, ◌+◌, ◌<◌, ◌≤◌, ◌^◌, ℕ, IfOk, IfSome, List, length};
+ghost use Rattle.std.specs.Prelude.{◌≡◌, ◌≢◌, ◌+◌, ◌<◌, ◌≤◌, ◌^◌, ℕ, IfOk, IfSome, List, false, length, slice_index_or};
 ghost use Rattle.zone_graph.specs.Graph.{HasArc, border_count};
 ghost use Rattle.zone_graph.specs.Pour.{opposite_arc};
 ghost use Rattle.zone_graph.specs.Rooms.{room_of};
@@ -326,18 +326,32 @@ impl Draft {
         ensures kept { AreKept flow.old.left flow.new.left }
         ensures most { result.0 ≤ lots }
     {
-        let rest = flow.given[zone as usize];
-        if lots < rest {
-            flow.given[zone as usize] = rest - lots;
+        if self.gives(flow, zone, lots) {
             return (lots, 0);
         }
+        let rest = flow.given[zone as usize];
         flow.given[zone as usize] = 0;
         self.mark(flow, zone);
-        if rest == lots {
-            return (lots, 0);
-        }
         let (sent, closed) = self.send(grid, flow, zone, self.giving, lots - rest);
         (rest + sent, closed)
+    }
+
+    /// Has the next order of a zone give its lots, where no fewer come from the zone. Answers whether it gave them.
+    pub(crate) fn gives(&mut self, flow: &mut Flow, zone: u32, lots: u32) -> bool
+        requires zone { zone < 64 }
+        ensures short { result ≡ false → slice_index_or flow.new.given zone 0 < lots }
+        ensures of { flow.new.of ≡ flow.old.of }
+        ensures left { flow.new.left ≡ flow.old.left }
+    {
+        let rest = flow.given[zone as usize];
+        if rest < lots {
+            return false;
+        }
+        flow.given[zone as usize] = rest - lots;
+        if rest == lots {
+            self.mark(flow, zone);
+        }
+        true
     }
 
     // Notes whether something comes from a zone.

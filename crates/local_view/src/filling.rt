@@ -427,10 +427,9 @@ fn list_along(
 {
     // It shows that the grid has no more than 64 zones.
     let _ = grid.zones();
-    let orders = work.whole.orders.as_slice();
     let (cuts, flow) = (&mut *work.cuts, &mut certificate.flow);
-    cuts.along(grid, &mut work.draft, flow, orders, rows)?;
-    if !cuts.are_certified(grid, flow, line.side, zone, orders.len()) {
+    cuts.along(grid, &mut work.draft, flow, &work.whole, rows)?;
+    if !cuts.are_certified(grid, flow, line.side, zone, work.whole.orders.len()) {
         return Ok(false);
     }
     flow.note_given(&cuts.given);

@@ -65,34 +65,38 @@ pub(crate) fn stand_over(
     ensures { IsTrue result → StandOver grid.now changed.now (room_of new.now) side (flow_in flow.now) (cut_in cuts.now) }
 {
     for place in 0..changed.len() {
-        let forward = Arc::over(changed[place], true);
-        let backward = Arc::over(changed[place], false);
-        if !stands_over(grid, new, flow, cuts, side, forward)
-            || !stands_over(grid, new, flow, cuts, side, backward)
-        {
+        if !stands_over(grid, new, flow, cuts, side, changed[place]) {
             return false;
         }
     }
     true
 }
 
-// Whether the flow and cuts stand over the room of an arc.
+// Whether the flow and cuts stand over the room of both arcs of a border.
 fn stands_over(
     grid: &Grid,
     new: &Rooms,
     flow: &Flow,
     cuts: &[usize; MOST_ZONES],
     side: Side,
-    arc: Arc,
+    border: u32,
 ) -> bool
-    requires arc { HasArc grid.now arc }
+    requires border { border < border_count grid.now }
     requires new { length new.now ≡ border_count grid.now }
     requires flow { IsFlow (border_count grid.now) flow.now }
-    ensures { IsTrue result → StandsOver grid.now (room_of new.now) side (flow_in flow.now) (cut_in cuts.now) arc }
+    ensures { IsTrue result → (arc : AnArc) → arc.border ≡ border → StandsOver grid.now (room_of new.now) side (flow_in flow.now) (cut_in cuts.now) arc }
 {
-    let most = u64::from(new.at(arc)) + u64::from(flow.at(arc.opposite()));
-    let lots = u64::from(flow.at(arc));
-    lots == most || (lots < most && comes_no_later(grid, cuts, side, arc))
+    let forward = Arc::over(border, true);
+    let (of, left) = (flow.of.at(forward), flow.left.at(forward));
+    let arc = if of < left {
+        forward.opposite()
+    } else {
+        forward
+    };
+    let back = arc.opposite();
+    let (lots, most) = (of.abs_diff(left), new.at(arc));
+    let is_full = lots == most || (lots < most && comes_no_later(grid, cuts, side, arc));
+    is_full && ((lots == 0 && new.at(back) == 0) || comes_no_later(grid, cuts, side, back))
 }
 
 /// Whether the zone that lots come to over an arc has its cut no later than the one that they come from.

@@ -7,7 +7,7 @@ use Rattle.local_view.proofs.balance.is_balanced.Goals as goal
 pub loop-border-preserved : goal.loop-border-preserved
 loop-border-preserved c =
     let so_far = c.loop-border.invariant in
-    let more = c.add.ensures.few (c.loop-border.border * 2 ^ 33) so_far.few in
+    let more = c.add.ensures.few (c.loop-border.border * 2 ^ 32) so_far.few in
     record {
       balanced = balanced-more c.args.grid.now c.args.side (flow_in c.args.flow.now) c.loop-border.border c.loop-border.balance c.add.new.self so_far.balanced c.add.ensures.passed;
       few = record {

@@ -6,7 +6,7 @@ use Rattle.local_view.proofs.balance.is_balanced.Given as goal
 
 -- the balance over the borders so far is told
 abbrev pub invariant-loop-border : goal.invariant-loop-border
-invariant-loop-border l = record { balanced : IsBalanced l.grid l.side (flow_in l.flow) l.border l.balance; few : HasFew l.balance (l.border * 2 ^ 33) }
+invariant-loop-border l = record { balanced : IsBalanced l.grid l.side (flow_in l.flow) l.border l.balance; few : HasFew l.balance (l.border * 2 ^ 32) }
 
 -- the zones so far pass on what they give
 abbrev pub invariant-loop-other : goal.invariant-loop-other

@@ -22,12 +22,15 @@ along-requires g c =
     let flow = c.args.certificate.now.flow in
     let small = small-resting g.of.board work.hand g.of.part g.of.side c.args.work.now.whole work.read c.args.grid.now c.requires.0 c.zones.ensures.grid.few_zones in
     let fit = subst (λ (graph : Graph). FitTogether graph (room_of c.args.work.now.of_part)) (sym c.requires.0) (rooms-fit g.of.board g.of.part c.args.work.now.of_part work.rooms) in (
-      c.as_slice-orders.ensures.value ∙ work.read.orders,
+      work.read.orders,
       (
-        small,
+        work.read.rows,
         (
-          omega (arith, work.read.few c.requires.1.1.1.0),
-          (c.requires.1.1.1.1.1.1.0, fit-kept c.args.grid.now c.args.work.now.of_part flow.left fit c.requires.1.1.1.1.1.1.1),
+          small,
+          (
+            omega (arith, work.read.few c.requires.1.1.1.0),
+            (c.requires.1.1.1.1.1.1.0, fit-kept c.args.grid.now c.args.work.now.of_part flow.left fit c.requires.1.1.1.1.1.1.1),
+          ),
         ),
       ),
     )

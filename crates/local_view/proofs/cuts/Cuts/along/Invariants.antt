@@ -1,8 +1,12 @@
 use Rattle.std.proofs.Common.{◌≡◌, length}
 use Rattle.zone_graph.specs.Graph.{border_count}
+use Rattle.local_view.specs.Cuts.{AreCutting}
 use Rattle.local_view.specs.Drafts.{AreKept}
-use Rattle.local_view.proofs.Cutting.{AreCutting}
 use Rattle.local_view.proofs.cuts.Cuts.along.Given as goal
+
+-- along the same line
+abbrev pub ghost-begin : goal.ghost-begin
+ghost-begin g a = g.line
 
 -- the orders so far are gone along, and what is left so far keeps the sums
 abbrev pub invariant-loop-place : goal.invariant-loop-place
