@@ -1,8 +1,8 @@
 -- What rows rest on, moved to another line and to other rooms.
-use Rattle.std.proofs.Common.{Global, Vec, ◌≡◌, ◌≢◌, ◌∙◌, ◌⊎◌, ℕ, ◌+◌, ◌*◌, ◌%◌, ◌^◌, ◌<◌, ◌≤◌, ◌==◌, ◌&&◌, Bool, not, true, false, List, inl, inr, length, map, None, Option, Some, refl, set, slice_index_or, ap, subst, sym, arith}
+use Rattle.std.proofs.Common.{Global, Vec, ◌≡◌, ◌≢◌, ◌∙◌, ◌⊎◌, ℕ, ◌+◌, ◌*◌, ◌%◌, ◌^◌, ◌<◌, ◌≤◌, ◌==◌, ◌&&◌, Bool, not, true, false, List, [], ◌∷◌, ◌++◌, drop, inl, inr, length, map, take, None, Option, Some, refl, set, slice_index_or, ap, subst, sym, arith}
 use Rattle.std.proofs.lemmas.Bool.{true≢false}
 use Rattle.std.proofs.lemmas.Bool.Decides.{eqb_tells}
-use Rattle.std.proofs.lemmas.List.{get_or-set_other, get_or-set_same, length-set}
+use Rattle.std.proofs.lemmas.List.{get_or-set_other, get_or-set_same, length-set, take-append-drop}
 use Rattle.std.proofs.lemmas.Nat.Bits.{bit_at_set_other}
 use Rattle.std.specs.Int.{w64}
 use Rattle.std.specs.Int.RustNames.{bit_or}
@@ -23,9 +23,10 @@ use Rattle.local_view.specs.declared.footing.Footing.{Footing}
 use Rattle.local_view.specs.declared.whole.LineOrder.{LineOrder}
 use Rattle.local_view.specs.Certified.{IsCertified, lots_from, lots_to}
 use Rattle.local_view.specs.Drafts.{IsFlow}
-use Rattle.local_view.specs.Footing.{AreFilled, AreMadeOver, AreMovable, IsFootingAfter, IsFoundedAt, IsOver, Rest, RestOn, certificate_at, no_certificate}
+use Rattle.local_view.specs.Footing.{AreFilled, AreMadeOver, AreMovable, AreTold, Certifies, IsFootingAfter, IsFoundedAt, IsOver, Rest, RestOn, certificate_at, no_certificate}
 use Rattle.local_view.specs.Moved.{AreBehindCuts, AreSameBut, IsMoved, IsReplaced, StandOver, StandsOn, cut_in, flow_in}
-use Rattle.local_view.specs.Whole.{IsRead, in_line}
+use Rattle.local_view.specs.Poured.{row_if}
+use Rattle.local_view.specs.Whole.{IsRead, in_line, rows_shown}
 use Rattle.local_view.specs.declared.whole.WholeLine.{WholeLine}
 use Rattle.local_view.specs.Boards.{AreRoomsOf, view_of}
 use Rattle.local_view.specs.declared.filling.Made.{Made}
@@ -81,9 +82,9 @@ pub moved_rest : (graph : Graph) (old_rooms new_rooms : List (ℕ × ℕ)) (side
     → IsReplaced old new first last next → AreBehindCuts old first last (cut_in certificate.cuts) → AreBehindCuts new first next (cut_in certificate.cuts)
     → (changed : List ℕ) → AreSameBut graph changed (room_of old_rooms) (room_of new_rooms) → StandOver graph changed (room_of new_rooms) side (flow_in certificate.flow) (cut_in certificate.cuts)
     → ((other : ℕ) → other < zone_count graph → IsMoved first last next (cut_in certificate.cuts other) (cut_in moved.cuts other))
-    → moved.flow ≡ certificate.flow → (zone : ℕ) (rows : List ViewRow)
+    → certificate.is_whole ≡ false → moved.is_whole ≡ certificate.is_whole → moved.flow ≡ certificate.flow → (zone : ℕ) (rows : List ViewRow)
     → RestOn (zone_count graph) graph.borders old_rooms side zone old certificate rows → RestOn (zone_count graph) graph.borders new_rooms side zone new moved rows
-moved_rest graph old_rooms new_rooms side old new line certificate moved first last next orders zones replaced old_behind new_behind changed but stand cuts flow zone rows rest = record {
+moved_rest graph old_rooms new_rooms side old new line certificate moved first last next orders zones replaced old_behind new_behind changed but stand cuts by same flow zone rows rest = record {
   graph = rest.graph;
   is_graph = rest.is_graph;
   zones_are = rest.zones_are;
@@ -92,24 +93,68 @@ moved_rest graph old_rooms new_rooms side old new line certificate moved first l
   line = line;
   orders_are = orders;
   in_zones = in_zones;
-  taken = rest.taken;
-  certified = subst (λ f. IsCertified rest.graph (room_of new_rooms) side zone line (flow_in f) rest.taken (cut_in moved.cuts)) (sym flow) stood.certified;
-  rows_are = rest.rows_are ∙ sym stood.rows;
+  told = subst (λ is_whole. AreTold is_whole rest.graph new_rooms side zone line moved rows) (sym (same ∙ by)) certifies;
 }
   where
+    was : Certifies rest.graph old_rooms side zone rest.line certificate rows
+    was = subst (λ is_whole. AreTold is_whole rest.graph old_rooms side zone rest.line certificate rows) by rest.told
+
     in_zones : (order : Standing) → IsIn order line → HasZone rest.graph order.order.zone
     in_zones order i = let there = zones order i in let same = rest.zones_are in omega (arith, there, same)
 
-    stood : StandsOn rest.graph (room_of new_rooms) side zone rest.line line (flow_in certificate.flow) rest.taken (cut_in moved.cuts)
+    stood : StandsOn rest.graph (room_of new_rooms) side zone rest.line line (flow_in certificate.flow) was.taken (cut_in moved.cuts)
     stood =
-        replaced_stand rest.graph (room_of new_rooms) side zone rest.line line (flow_in certificate.flow) rest.taken (cut_in certificate.cuts) (cut_in moved.cuts) first last next rest.is_graph
+        replaced_stand rest.graph (room_of new_rooms) side zone rest.line line (flow_in certificate.flow) was.taken (cut_in certificate.cuts) (cut_in moved.cuts) first last next rest.is_graph
         rest.has_zone rest.in_zones in_zones
-        (over_rooms rest.graph changed (room_of old_rooms) (room_of new_rooms) side zone rest.line (flow_in certificate.flow) rest.taken (cut_in certificate.cuts)
+        (over_rooms rest.graph changed (room_of old_rooms) (room_of new_rooms) side zone rest.line (flow_in certificate.flow) was.taken (cut_in certificate.cuts)
         (λ arc there. but arc (subst (λ borders. arc.border < length borders) rest.borders_are there))
-        (same_stand graph rest.graph rest.borders_are changed (room_of new_rooms) side (flow_in certificate.flow) (cut_in certificate.cuts) stand) rest.certified)
+        (same_stand graph rest.graph rest.borders_are changed (room_of new_rooms) side (flow_in certificate.flow) (cut_in certificate.cuts) stand) was.certified)
         (subst (λ list. IsReplaced list (map in_line line) first last next) rest.orders_are (subst (λ list. IsReplaced old list first last next) orders replaced))
         (subst (λ list. AreBehindCuts list first last (cut_in certificate.cuts)) rest.orders_are old_behind) (subst (λ list. AreBehindCuts list first next (cut_in certificate.cuts)) orders new_behind)
         (λ other there. cuts other (let same = rest.zones_are in omega (arith, there, same)))
+
+    certifies : Certifies rest.graph new_rooms side zone line moved rows
+    certifies = record {
+      taken = was.taken;
+      certified = subst (λ f. IsCertified rest.graph (room_of new_rooms) side zone line (flow_in f) was.taken (cut_in moved.cuts)) (sym flow) stood.certified;
+      rows_are = was.rows_are ∙ sym stood.rows;
+    }
+
+-- where no order is replaced the line is the same
+pub nothing_replaced : (old new : List LineOrder) (first last next : ℕ) → last ≡ first → next ≡ first → IsReplaced old new first last next → new ≡ old
+nothing_replaced old new first last next last_is next_is replaced =
+    sym (take-append-drop first new)
+    ∙ ap (λ front. front ++ drop first new) (sym replaced.before)
+    ∙ ap (λ place. take first old ++ drop place new) (sym next_is)
+    ∙ ap (λ back. take first old ++ back) (sym replaced.behind)
+    ∙ ap (λ place. take first old ++ drop place old) last_is
+    ∙ take-append-drop first old
+
+-- all rows of a line rest on the same line over any rooms
+pub whole_rest : (zones : ℕ) (ends old_rooms new_rooms : List (ℕ × ℕ)) (side : Side) (zone : ℕ) (old new : List LineOrder) (certificate : Certificate) (rows : List ViewRow) → new ≡ old
+    → certificate.is_whole ≡ true → RestOn zones ends old_rooms side zone old certificate rows → RestOn zones ends new_rooms side zone new certificate rows
+whole_rest zones ends old_rooms new_rooms side zone old new certificate rows same by rest = record {
+  graph = rest.graph;
+  is_graph = rest.is_graph;
+  zones_are = rest.zones_are;
+  borders_are = rest.borders_are;
+  has_zone = rest.has_zone;
+  line = rest.line;
+  orders_are = same ∙ rest.orders_are;
+  in_zones = rest.in_zones;
+  told =
+      subst (λ is_whole. AreTold is_whole rest.graph new_rooms side zone rest.line certificate rows) (sym by)
+      (let all : rows ≡ rows_shown rest.line = subst (λ is_whole. AreTold is_whole rest.graph old_rooms side zone rest.line certificate rows) by rest.told in all);
+}
+
+-- orders that views see as the same show the same rows
+abbrev rows-seen : List LineOrder → List ViewRow
+rows-seen [] = []
+rows-seen (order ∷ orders) = row_if order.price order.lots (rows-seen orders)
+
+seen-shown : (line : List Standing) → rows-seen (map in_line line) ≡ rows_shown line
+seen-shown [] = refl
+seen-shown (order ∷ line) = ap (row_if order.price order.shown) (seen-shown line)
 
 -- the orders that views see are of the zones of a line
 pub seen_within : (graph : Graph) (line : List Standing) → ((order : Standing) → IsIn order line → HasZone graph order.order.zone)
@@ -128,18 +173,11 @@ renamed names others borders room side zone line flow taken cut same certified =
   closed = certified.closed;
 }
 
--- rows that rest on the line of a board and the rooms of its part are its view
+-- rows that rest on the line of a board and the rooms of its part are its view, where the rows of the whole line are it if they are these
 pub rest_view : (board : BoardState) → board.hand ≡ None → (part : ℕ) (side : Side) (zone : ℕ) → HasZone board.grid zone → (rooms : List (ℕ × ℕ)) → AreRoomsOf board part rooms
     → (whole : WholeLine) → IsRead board part side whole → whole.fits ≡ true → (certificate : Certificate) (rows : List ViewRow)
-    → RestOn (zone_count board.grid) board.grid.borders rooms side zone whole.orders.items certificate rows → rows ≡ view_of board part side zone
-rest_view board none part side zone known rooms of whole read fits certificate rows rest =
-    rest.rows_are
-    ∙ sym stood.rows
-    ∙ certified_view board none read.is_board part side zone known rooms of (flow_in certificate.flow) rest.taken (cut_in certificate.cuts)
-    (renamed rest.graph.zones board.grid.zones board.grid.borders (room_of rooms) side zone line (flow_in certificate.flow) rest.taken (cut_in certificate.cuts) rest.zones_are
-    (subst (λ borders. IsCertified (record { zones = rest.graph.zones; borders = borders }) (room_of rooms) side zone line (flow_in certificate.flow) rest.taken (cut_in certificate.cuts)) rest.borders_are
-    stood.certified))
-    (read.few fits)
+    → (certificate.is_whole ≡ true → whole.rows.items ≡ view_of board part side zone) → RestOn (zone_count board.grid) board.grid.borders rooms side zone whole.orders.items certificate rows → rows ≡ view_of board part side zone
+rest_view board none part side zone known rooms of whole read fits certificate rows is_view rest = told certificate.is_whole refl rest.told
   where
     line : List Standing
     line = resting_line board part side
@@ -147,15 +185,27 @@ rest_view board none part side zone known rooms of whole read fits certificate r
     same : map in_line rest.line ≡ map in_line line
     same = sym rest.orders_are ∙ read.orders
 
-    stood : StandsOn rest.graph (room_of rooms) side zone rest.line line (flow_in certificate.flow) rest.taken (cut_in certificate.cuts)
-    stood =
-        replaced_stand rest.graph (room_of rooms) side zone rest.line line (flow_in certificate.flow) rest.taken (cut_in certificate.cuts) (cut_in certificate.cuts) 0 0 0 rest.is_graph rest.has_zone
+    stood : (told : Certifies rest.graph rooms side zone rest.line certificate rows)
+        → StandsOn rest.graph (room_of rooms) side zone rest.line line (flow_in certificate.flow) told.taken (cut_in certificate.cuts)
+    stood told =
+        replaced_stand rest.graph (room_of rooms) side zone rest.line line (flow_in certificate.flow) told.taken (cut_in certificate.cuts) (cut_in certificate.cuts) 0 0 0 rest.is_graph rest.has_zone
         rest.in_zones (λ order i. let there = zones-resting board none part side whole read order i in let count = rest.zones_are in omega (arith, there, count))
-        rest.certified
+        told.certified
         (record { in_old = (omega arith, omega arith); in_new = (omega arith, omega arith); before = refl; behind = same })
         (record { each = λ place early less. absurd (omega (arith, less)) })
         (record { each = λ place early less. absurd (omega (arith, less)) })
         (λ other there. record { early = λ less. absurd (omega (arith, less)); between = λ early less. absurd (omega (arith, less)); late = λ later. refl })
+
+    told : (is_whole : Bool) → certificate.is_whole ≡ is_whole → AreTold is_whole rest.graph rooms side zone rest.line certificate rows → rows ≡ view_of board part side zone
+    told true by all = all ∙ sym (seen-shown rest.line) ∙ ap rows-seen same ∙ seen-shown line ∙ sym read.rows ∙ is_view by
+    told false by certifies =
+        certifies.rows_are
+        ∙ sym (stood certifies).rows
+        ∙ certified_view board none read.is_board part side zone known rooms of (flow_in certificate.flow) certifies.taken (cut_in certificate.cuts)
+        (renamed rest.graph.zones board.grid.zones board.grid.borders (room_of rooms) side zone line (flow_in certificate.flow) certifies.taken (cut_in certificate.cuts) rest.zones_are
+        (subst (λ borders. IsCertified (record { zones = rest.graph.zones; borders = borders }) (room_of rooms) side zone line (flow_in certificate.flow) certifies.taken (cut_in certificate.cuts)) rest.borders_are
+        (stood certifies).certified))
+        (read.few fits)
 
 -- ---- the certificates of a footing, moved one after the other
 
@@ -273,7 +323,7 @@ only_first true true c e is = absurd (true≢false (sym is ∙ e))
 only_first true false c e is = (refl, refl)
 only_first false b c e is = absurd (true≢false (sym is ∙ e))
 
-in_second : (a b c : Bool) → c ≡ (a && not b) → a ≡ true → c ≡ false → b ≡ true
+pub in_second : (a b c : Bool) → c ≡ (a && not b) → a ≡ true → c ≡ false → b ≡ true
 in_second true true c e is none = refl
 in_second true false c e is none = absurd (true≢false (sym e ∙ none))
 in_second false b c e is none = absurd (true≢false (sym is))
@@ -292,6 +342,18 @@ holds_it zones footing ends rooms side orders certificate zone rows ends_are roo
     (subst (λ s. RestOn zones footing.ends.items footing.rooms s zone orders certificate rows) (sym side_is)
     (subst (λ list. RestOn zones footing.ends.items list side zone orders certificate rows) (sym rooms_are)
     (subst (λ list. RestOn zones list rooms side zone orders certificate rows) (sym ends_are) rest)))
+
+-- of the rows that can be moved some can
+pub movable_fewer : (zones : ℕ) (footing : Footing) (still fewer others : ℕ) (rooms : List (ℕ × ℕ)) (orders : List LineOrder) (certificates : List Certificate)
+    → ((zone : ℕ) → holds fewer zone ≡ (holds still zone && not (holds others zone))) → AreMovable zones footing still rooms orders certificates → AreMovable zones footing fewer rooms orders certificates
+movable_fewer zones footing still fewer others rooms orders certificates are movable = record {
+  had = λ zone held. movable.had zone (only_first (holds still zone) (holds others zone) (holds fewer zone) (are zone) held).0;
+  rest = λ zone rows less held. movable.rest zone rows less (only_first (holds still zone) (holds others zone) (holds fewer zone) (are zone) held).0;
+}
+
+-- a zone of the whole line that rests still is one to which all of it comes
+pub still_whole : (moved wholes whole lost still : Bool) → lost ≡ (wholes && not whole) → still ≡ (moved && not lost) → still ≡ true → wholes ≡ true → whole ≡ true
+still_whole moved wholes whole lost still lost_is still_is is of_whole = in_second wholes whole lost lost_is of_whole (only_first moved lost still still_is is).1
 
 -- of a set of zones those are listed whose rows do not rest on a footing once it is moved
 module _ (graph : Graph) (side : Side) (first fewer : Footing) (over : IsOver graph side first) (may : Bool) (same : fewer ≡ record first { resting = fewer.resting })

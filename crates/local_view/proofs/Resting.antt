@@ -11,9 +11,9 @@ use Rattle.market_model.specs.declared.reply.ViewRow.{ViewRow}
 use Rattle.market_model.specs.Board.{BoardState, resting_line}
 use Rattle.local_view.specs.declared.footing.Certificate.{Certificate}
 use Rattle.local_view.specs.declared.work.Work.{Work}
-use Rattle.local_view.specs.Certified.{IsCertified, rows_in_turn}
+use Rattle.local_view.specs.Certified.{IsCertified}
 use Rattle.local_view.specs.Drafts.{IsFlow}
-use Rattle.local_view.specs.Footing.{RestOnWork, certificate_at, no_certificate}
+use Rattle.local_view.specs.Footing.{AreTold, Certifies, RestOnWork, certificate_at, no_certificate}
 use Rattle.local_view.specs.Moved.{cut_in, flow_in}
 use Rattle.local_view.specs.Works.{IsLineWork}
 use Rattle.local_view.specs.Boards.{view_of}
@@ -21,17 +21,11 @@ use Rattle.local_view.proofs.Certificates.{certified_view}
 use Rattle.local_view.proofs.Hours.{hour-graph}
 use Rattle.local_view.proofs.Wholes.{zones-resting}
 
--- rows of a board's line that a certificate tells
-pub record AreTold (graph : Graph) (board : BoardState) (part : ℕ) (side : Side) (zone : ℕ) (rooms : List (ℕ × ℕ)) (certificate : Certificate) (rows : List ViewRow) : Type 0 where
-  pub taken : ℕ → ℕ
-  pub certified : IsCertified graph (room_of rooms) side zone (resting_line board part side) (flow_in certificate.flow) taken (cut_in certificate.cuts)
-  pub rows_are : rows ≡ rows_in_turn taken (resting_line board part side)
-
 module _ (graph : Graph) (board : BoardState) (part : ℕ) (side : Side) (same_grid : graph ≡ board.grid) (zone : ℕ) (known : HasZone graph zone) (work : Work) (of_line : IsLineWork board part side work)
-    (certificate : Certificate) (rows : List ViewRow) (told : AreTold graph board part side zone work.of_part certificate rows) where
-  -- they rest on it
-  pub rest-told : RestOnWork graph work side zone certificate rows
-  rest-told = record {
+    (certificate : Certificate) (rows : List ViewRow) where
+  -- rows of a board's line that a certificate tells rest on it
+  pub rest-told : AreTold certificate.is_whole graph work.of_part side zone (resting_line board part side) certificate rows → RestOnWork graph work side zone certificate rows
+  rest-told told = record {
     graph = graph;
     is_graph = subst IsGraph (sym same_grid) (hour-graph board.grid board.hour board.events of_line.read.is_board.stands);
     zones_are = refl;
@@ -40,14 +34,12 @@ module _ (graph : Graph) (board : BoardState) (part : ℕ) (side : Side) (same_g
     line = resting_line board part side;
     orders_are = of_line.read.orders;
     in_zones = λ order i. subst (λ (g : Graph). HasZone g order.order.zone) (sym same_grid) (zones-resting board of_line.hand part side work.whole of_line.read order i);
-    taken = told.taken;
-    certified = told.certified;
-    rows_are = told.rows_are;
+    told = told;
   }
 
-  -- and are its view
-  pub view-told : work.whole.fits ≡ true → rows ≡ view_of board part side zone
-  view-told fits =
+  -- and are its view, where a flow and cuts do
+  pub view-told : Certifies graph work.of_part side zone (resting_line board part side) certificate rows → work.whole.fits ≡ true → rows ≡ view_of board part side zone
+  view-told told fits =
       told.rows_are
       ∙ certified_view board of_line.hand of_line.read.is_board part side zone (subst (λ (g : Graph). HasZone g zone) same_grid known) work.of_part of_line.rooms (flow_in certificate.flow) told.taken
       (cut_in certificate.cuts)

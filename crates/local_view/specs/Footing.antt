@@ -18,10 +18,21 @@ use Rattle.local_view.specs.Certified.{IsCertified, rows_in_turn}
 use Rattle.local_view.specs.Drafts.{IsFlow}
 use Rattle.local_view.specs.Moved.{cut_in, flow_in}
 use Rattle.local_view.specs.Rows.{HaveLists, chosen_at}
-use Rattle.local_view.specs.Whole.{in_line}
+use Rattle.local_view.specs.Whole.{in_line, rows_shown}
 use Rattle.local_view.specs.Works.{AreComputed}
 
--- rows of a zone rest on orders of a side, the two zones of each border of a grid, rooms, and a flow and cuts that certify them
+-- a flow and cuts certify rows of a zone
+pub record Certifies (graph : Graph) (rooms : List (ℕ × ℕ)) (side : Side) (zone : ℕ) (line : List Standing) (certificate : Certificate) (rows : List ViewRow) : Type 0 where
+  pub taken : ℕ → ℕ
+  pub certified : IsCertified graph (room_of rooms) side zone line (flow_in certificate.flow) taken (cut_in certificate.cuts)
+  pub rows_are : rows ≡ rows_in_turn taken line
+
+-- they do so, or the rows are all that the line shows
+abbrev pub AreTold : (is_whole : Bool) → Graph → (rooms : List (ℕ × ℕ)) → Side → (zone : ℕ) → List Standing → Certificate → List ViewRow → Type 0
+AreTold true graph rooms side zone line certificate rows = rows ≡ rows_shown line
+AreTold false graph rooms side zone line certificate rows = Certifies graph rooms side zone line certificate rows
+
+-- rows of a zone rest on orders of a side, the two zones of each border of a grid, rooms, and a certificate that tells them
 pub record RestOn (zones : ℕ) (ends rooms : List (ℕ × ℕ)) (side : Side) (zone : ℕ) (orders : List LineOrder) (certificate : Certificate) (rows : List ViewRow) : Type 0 where
   pub graph : Graph
   pub is_graph : IsGraph graph
@@ -31,13 +42,11 @@ pub record RestOn (zones : ℕ) (ends rooms : List (ℕ × ℕ)) (side : Side) (
   pub line : List Standing
   pub orders_are : orders ≡ map in_line line
   pub in_zones : (order : Standing) → IsIn order line → HasZone graph order.order.zone
-  pub taken : ℕ → ℕ
-  pub certified : IsCertified graph (room_of rooms) side zone line (flow_in certificate.flow) taken (cut_in certificate.cuts)
-  pub rows_are : rows ≡ rows_in_turn taken line
+  pub told : AreTold certificate.is_whole graph rooms side zone line certificate rows
 
 -- what stands for a certificate where there is none
 abbrev pub no_certificate : Certificate
-no_certificate = record { flow = record { of = []; left = []; leads = []; given = [] }; cuts = [] }
+no_certificate = record { is_whole = false; flow = record { of = []; left = []; leads = []; given = [] }; cuts = [] }
 
 abbrev pub certificate_at : List Certificate → (zone : ℕ) → Certificate
 certificate_at certificates zone = get_or certificates zone no_certificate

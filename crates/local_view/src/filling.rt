@@ -123,8 +123,9 @@ fn fill_over<B: Board>(
     fill_zones(alloc, grid, work, line, computed, lists, footing)
 }
 
-// Makes the lists of those zones whose rows do not rest on the footing once it is moved to the line and the rooms. The orders
-// of the footing and those of the line change places.
+// Makes the lists of those zones whose rows do not rest on the footing once it is moved to the line and the rooms, and of those
+// whose rows are the whole line where not all of it comes to them any more. The orders of the footing and those of the line
+// change places.
 fn fill_zones(
     alloc: Global,
     grid: &Grid,
@@ -147,12 +148,18 @@ fn fill_zones(
     ensures size { length lists.new ≡ length lists.old }
     ensures work { IsWork grid.now work.new }
 {
+    // It shows that the grid has no more than 64 zones.
+    let _ = grid.zones();
     footing.rest_where(work.whole.fits);
     let orders = work.whole.orders.as_slice();
-    let still = footing.move_to(grid, orders, &work.of_part)?;
+    let moved = footing.move_to(grid, orders, &work.of_part)?;
+    let wholes = footing.whole_zones();
+    let asked = without(computed, without(moved, wholes));
+    let whole = work.whole.comes_to(grid, &work.of_part, line.side, asked);
+    let still = without(moved, without(wholes, whole));
     let made = without(computed, still);
     let certificates = footing.certificates.as_mut_slice();
-    let resting = list_zones(alloc, grid, work, line, made, lists, certificates)?;
+    let resting = list_zones(alloc, grid, work, line, made, whole, lists, certificates)?;
     mem::swap(&mut footing.orders, &mut work.whole.orders);
     footing.resting = still;
     Ok(Made {
@@ -191,18 +198,20 @@ fn clear(alloc: Global, list: &mut Rows)
     }
 }
 
-// Makes the list of rows of each zone of a set, over the rooms of the part.
+// Makes the list of rows of each zone of a set, over the rooms of the part. In some zones the views are the whole line.
 fn list_zones(
     alloc: Global,
     grid: &Grid,
     work: &mut Work,
     line: Line,
     made: u64,
+    whole: u64,
     lists: &mut [Rows],
     certificates: &mut [Certificate],
 ) -> Result<u64, NoMemory>
     ghost board: { BoardState }
     requires grid { grid.now ≡ board.grid }
+    requires whole { (zone : ℕ) → HasZone grid.now zone → holds whole zone ≡ true → work.old.whole.rows.items ≡ view_of board line.part line.side zone }
     requires work { IsLineWork board line.part line.side work.old }
     requires zones { length lists.old ≡ zone_count grid.now }
     requires certificates { length certificates.old ≡ zone_count grid.now }
@@ -216,7 +225,6 @@ fn list_zones(
     ensures others { (zone : ℕ) → holds made zone ≡ false → certificate_at certificates.new zone ≡ certificate_at certificates.old zone }
     ensures rest { IfOk result (λ resting. AreListed grid.now work.new line.side made resting certificates.new lists.new) }
 {
-    let whole = work.whole.comes_to(grid, &work.of_part, line.side);
     let zones = grid.zones();
     let mut resting: u64 = 0;
     for (zone, list) in lists.iter_mut().enumerate() {
@@ -280,7 +288,8 @@ fn make_list(
 {
     if is_whole {
         copy_rows(alloc, work.whole.rows.as_slice(), list)?;
-        return Ok(false);
+        certificate.is_whole = true;
+        return Ok(true);
     }
     fill_list(alloc, grid, work, line, zone, list, certificate)
 }
@@ -391,10 +400,12 @@ fn list_whole(
     certificate: &mut Certificate,
     rows: &mut Vec<ViewRow>,
 ) -> Result<(), NoMemory>
+    ensures certified { certificate.new.is_whole ≡ false }
     ensures flow { certificate.new.flow ≡ certificate.old.flow }
     ensures cuts { certificate.new.cuts ≡ replicate 64 (length whole.now.orders.items) }
     ensures rows { OnOk result (rows.new.items ≡ whole.now.rows.items) }
 {
+    certificate.is_whole = false;
     certificate.cuts = [whole.orders.len(); MOST_ZONES];
     rows.clear();
     rows.extend_from_slice(whole.rows.as_slice())?;
@@ -433,6 +444,7 @@ fn list_along(
         return Ok(false);
     }
     flow.note_given(&cuts.given);
+    certificate.is_whole = false;
     certificate.cuts = cuts.places;
     Ok(true)
 }

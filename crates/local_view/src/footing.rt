@@ -26,6 +26,8 @@ use zone_graph::{Grid, MOST_ZONES, Rooms};
 /// What certifies the rows of a zone.
 #[derive(Drop)]
 pub(crate) struct Certificate {
+    /// Whether the rows are all that the line shows, whatever flows.
+    pub(crate) is_whole: bool,
     /// What flows to it.
     pub(crate) flow: Flow,
     /// The place in the line of each zone's cut.
@@ -111,6 +113,20 @@ impl Footing {
         Ok(still)
     }
 
+    /// The zones whose rows are all that the line shows, where they rest on this. Bit z stands for zone z.
+    pub(crate) fn whole_zones(&self) -> u64
+        requires { length self.now.certificates.items ≤ 64 }
+        ensures { (zone : ℕ) → zone < length self.now.certificates.items → (certificate_at self.now.certificates.items zone).is_whole ≡ true → holds result zone ≡ true }
+    {
+        let mut whole: u64 = 0;
+        for (zone, certificate) in self.certificates.iter().enumerate() {
+            if certificate.is_whole {
+                whole |= 1 << zone;
+            }
+        }
+        whole
+    }
+
     // Whether this is of a side and over a grid of as many zones.
     fn is_over(&self, grid: &Grid, side: Side) -> bool
         requires { IsSized (zone_count grid.now) self.now }
@@ -158,7 +174,8 @@ impl Footing {
 
 impl Certificate {
     // Moves the cuts from a line to another one, and answers whether what this certified there over the rooms of its part it
-    // certifies here over others, where only those of some borders changed. Where it does not, it certifies nothing.
+    // certifies here over others, where only those of some borders changed. Where it does not, it certifies nothing. Rows of the
+    // whole line are certified by the same line alone, over any rooms.
     fn moves(
         &mut self,
         grid: &Grid,
@@ -181,6 +198,9 @@ impl Certificate {
             → RestOn (zone_count grid.now) grid.now.borders rooms side zone old.entry.0.now self.old rows
             → RestOn (zone_count grid.now) grid.now.borders new.entry.1.now side zone new.entry.0.now self.new rows }
     {
+        if self.is_whole {
+            return replaced.is_nothing();
+        }
         are_behind(&self.cuts, old.0, replaced.first, replaced.last)
             && are_behind(&self.cuts, new.0, replaced.first, replaced.next)
             && stand_over(grid, old.1, new.1, &self.flow, &self.cuts, side)
@@ -197,6 +217,7 @@ fn certificates_over(alloc: Global, grid: &Grid) -> Result<Vec<Certificate>, NoM
     let mut made = Vec::with_capacity(alloc, zones as usize)?;
     for _ in 0..zones {
         made.push(Certificate {
+            is_whole: false,
             flow: Flow::over(grid)?,
             cuts: [0; MOST_ZONES],
         })?;

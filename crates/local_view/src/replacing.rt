@@ -20,6 +20,15 @@ pub(crate) struct Replaced {
     pub(crate) next: usize,
 }
 
+impl Replaced {
+    /// Whether no order is replaced.
+    pub(crate) fn is_nothing(self) -> bool
+        ensures { IsTrue result → (self.last ≡ self.first) × (self.next ≡ self.first) }
+    {
+        self.first == self.last && self.first == self.next
+    }
+}
+
 /// Which orders of a line are replaced in a new one: all between those with which both begin and those with which both end.
 pub(crate) fn find_replaced(old: &[LineOrder], new: &[LineOrder]) -> Replaced
     ensures { IsReplaced old.now new.now result.first result.last result.next }
@@ -82,7 +91,7 @@ pub(crate) fn move_cuts(cuts: &mut [usize; MOST_ZONES], zones: u32, replaced: Re
     requires replaced { replaced.first ≤ replaced.last }
     ensures { IsTrue result → (zone : ℕ) → zone < zones → IsMoved replaced.first replaced.last replaced.next (cut_in cuts.old zone) (cut_in cuts.new zone) }
 {
-    if replaced.first == replaced.last && replaced.last == replaced.next {
+    if replaced.is_nothing() {
         return true;
     }
     for zone in 0..zones as usize {

@@ -87,13 +87,14 @@ impl WholeLine {
         Ok(())
     }
 
-    /// The zones to which all that the line shows comes together, as far as one tree of ways tells. Bit z stands for zone z.
-    pub(crate) fn comes_to(&self, grid: &Grid, rooms: &Rooms, side: Side) -> u64
+    /// The zones to which all that the line shows comes together, as far as one tree of ways tells; none, where it is asked of
+    /// none. Bit z stands for zone z.
+    pub(crate) fn comes_to(&self, grid: &Grid, rooms: &Rooms, side: Side, asked: u64) -> u64
         requires { length rooms.now ≡ border_count grid.now }
         ensures fits { (zone : ℕ) → HasZone grid.now zone → holds result zone ≡ true → self.now.fits ≡ true }
         ensures together { (zone : ℕ) → HasZone grid.now zone → holds result zone ≡ true → ComeTogether grid.now (room_of rooms.now) side zone self.now.shown }
     {
-        if self.fits {
+        if self.fits && asked != 0 {
             whole_zones(grid, rooms, side, &self.shown)
         } else {
             0

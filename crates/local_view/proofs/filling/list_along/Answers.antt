@@ -1,4 +1,4 @@
-use Rattle.std.proofs.Common.{◌∙◌, ap, arith, length, refl, subst, sym}
+use Rattle.std.proofs.Common.{◌∙◌, ap, arith, false, length, refl, subst, sym}
 use Rattle.order_kinds.specs.declared.side.Side.{Side}
 use Rattle.zone_graph.specs.Graph.{Graph, border_count}
 use Rattle.zone_graph.specs.Rooms.{room_of}
@@ -8,11 +8,11 @@ use Rattle.local_view.specs.declared.footing.Certificate.{Certificate}
 use Rattle.local_view.specs.Certified.{IsCertified}
 use Rattle.local_view.specs.Cuts.{cut_by, flow_beside, given_by}
 use Rattle.local_view.specs.Drafts.{AreKept}
-use Rattle.local_view.specs.Footing.{RestOnWork}
+use Rattle.local_view.specs.Footing.{Certifies, RestOnWork}
 use Rattle.local_view.specs.Moved.{cut_in, flow_in}
 use Rattle.local_view.proofs.Drafting.{fit-kept, kept-on}
 use Rattle.local_view.proofs.Listed.{rooms-fit}
-use Rattle.local_view.proofs.Resting.{AreTold, rest-told, view-told}
+use Rattle.local_view.proofs.Resting.{rest-told, view-told}
 use Rattle.local_view.proofs.Wholes.{small-resting}
 use Rattle.local_view.proofs.filling.list_along.Goals as goal
 
@@ -44,9 +44,9 @@ returns g c =
     let along = c.in_ok-along.ensures in
     let line = resting_line of.board of.part of.side in
     let cuts = c.along.new.self in
-    let certificate : Certificate = record { flow = c.note_given.new.self; cuts = cuts.places } in
+    let certificate : Certificate = record { is_whole = false; flow = c.note_given.new.self; cuts = cuts.places } in
     let rooms_are = c.along.ensures.of ∙ c.requires.1.1.1.1.1.0 in
-    let told : AreTold grid of.board of.part of.side zone c.args.work.now.of_part certificate c.along.new.rows.items = record {
+    let told : Certifies grid c.args.work.now.of_part of.side zone line certificate c.along.new.rows.items = record {
       taken = given_by cuts;
       certified =
           subst (λ left. IsCertified grid (room_of c.args.work.now.of_part) of.side zone line (flow_beside c.note_given.new.self.of left) (given_by cuts) (cut_in cuts.places)) (sym c.note_given.ensures.left)

@@ -8,13 +8,13 @@ use Rattle.market_model.specs.Board.{resting_line}
 use Rattle.local_view.specs.declared.draft.Flow.{Flow}
 use Rattle.local_view.specs.Certified.{IsCertified}
 use Rattle.local_view.specs.Drafts.{AreKept, IsFlow}
-use Rattle.local_view.specs.Footing.{RestOnWork}
+use Rattle.local_view.specs.Footing.{AreTold, Certifies, RestOnWork}
 use Rattle.local_view.specs.Moved.{cut_in, flow_in}
 use Rattle.local_view.specs.Ways.{PassesOn}
 use Rattle.local_view.specs.Whole.{in_line}
 use Rattle.local_view.proofs.Cutting.{all_shown_rows}
 use Rattle.local_view.proofs.Listed.{rooms-fit}
-use Rattle.local_view.proofs.Resting.{AreTold, rest-told, view-told}
+use Rattle.local_view.proofs.Resting.{rest-told, view-told}
 use Rattle.local_view.proofs.Standing.{whole_certified}
 use Rattle.local_view.proofs.Wholes.{small-resting}
 use Rattle.local_view.proofs.filling.list_certified.Goals as goal
@@ -36,7 +36,7 @@ returns-then-is_balanced g c =
     let kept : AreKept flow.of flow.left = subst (λ rooms. AreKept rooms flow.left) (sym c.begin.ensures.of) c.begin.ensures.kept in
     let listed = c.in_ok-list_whole.ensures in
     let small = small-resting of.board work.hand of.part of.side whole work.read grid c.requires.0 few.few_zones in
-    let told : AreTold grid of.board of.part of.side zone c.args.work.now.of_part c.list_whole.new.certificate c.list_whole.new.rows.items = record {
+    let told : Certifies grid c.args.work.now.of_part of.side zone line c.list_whole.new.certificate c.list_whole.new.rows.items = record {
       taken = λ other. get_or whole.shown other 0;
       certified =
           subst (λ (f : Flow). IsCertified grid (room_of c.args.work.now.of_part) of.side zone line (flow_in f) (λ other. get_or whole.shown other 0) (cut_in c.list_whole.new.certificate.cuts)) (sym c.list_whole.ensures.flow)
@@ -61,5 +61,6 @@ returns-then-is_balanced g c =
           (ap length c.begin.ensures.of ∙ work.sized.sound.of_part ∙ work.sized.borders ∙ ap border_count (sym c.requires.0), c.begin.ensures.left, kept);
       rest = λ is.
           subst (λ (side : Side). RestOnWork grid c.args.work.now side zone c.list_whole.new.certificate c.list_whole.new.rows.items) (sym c.requires.1.1.0)
-          (rest-told grid of.board of.part of.side c.requires.0 zone c.requires.1.0 c.args.work.now work c.list_whole.new.certificate c.list_whole.new.rows.items told);
+          (rest-told grid of.board of.part of.side c.requires.0 zone c.requires.1.0 c.args.work.now work c.list_whole.new.certificate c.list_whole.new.rows.items
+          (subst (λ is_whole. AreTold is_whole grid c.args.work.now.of_part of.side zone line c.list_whole.new.certificate c.list_whole.new.rows.items) (sym c.list_whole.ensures.certified) told));
     }

@@ -26,20 +26,12 @@ less_again k place less apart = omega (arith, less, apart)
 
 pub make_list-requires : goal.make_list-requires
 make_list-requires g c =
-    let work = c.requires.1.0 in
     let there = subst (λ n. c.loop-zone.zone < n) c.zones-zones.ensures.count c.if-prove.false in (
       c.requires.0,
       (
         there,
         (
-          λ is.
-              let holds = sym c.is_set-is_whole.ensures ∙ is in
-              c.loop-zone.invariant.work.read.rows
-              ∙ sym work.read.rows
-              ∙ whole_view g.board work.hand c.args.line.part c.args.line.side c.args.work.now.whole work.read c.loop-zone.zone (subst (λ (graph : Graph). HasZone graph c.loop-zone.zone) c.requires.0 there)
-              (subst IsGrid c.requires.0 c.zones-zones.ensures.grid) c.args.work.now.of_part work.rooms (c.comes_to-whole.ensures.fits c.loop-zone.zone there holds)
-              (subst (λ (graph : Graph). ComeTogether graph (room_of c.args.work.now.of_part) c.args.line.side c.loop-zone.zone c.args.work.now.whole.shown) c.requires.0
-              (c.comes_to-whole.ensures.together c.loop-zone.zone there holds)),
+          λ is. ap (λ (whole : WholeLine). whole.rows.items) c.loop-zone.invariant.whole ∙ c.requires.1.0 c.loop-zone.zone there (sym c.is_set-is_whole.ensures ∙ is),
           (
             c.loop-zone.invariant.work,
             subst (λ (certificate : Certificate). IsFlow (border_count c.args.grid.now) certificate.flow)
@@ -116,14 +108,14 @@ loop-zone-preserved g c =
 
 pub loop-zone-init : goal.loop-zone-init
 loop-zone-init g c = record {
-  work = c.requires.1.0;
+  work = c.requires.1.1.0;
   of_part = refl;
   whole = refl;
   size = refl;
   before = λ k less held. absurd (omega (arith, less));
   made = record {
-    size = c.requires.1.1.1.0;
-    flows = c.requires.1.1.1.1;
+    size = c.requires.1.1.1.1.0;
+    flows = c.requires.1.1.1.1.1;
     others = λ zone none. refl;
     within = λ zone held. absurd (true≢false (sym held ∙ holds-zero zone));
     rest = λ zone held. absurd (true≢false (sym held ∙ holds-zero zone));
@@ -134,7 +126,7 @@ pub returns : goal.returns
 returns g c =
     let all = c.loop-zone.invariant in
     let ended : (k : ℕ) → HasZone c.args.grid.now k → k < c.loop-zone.zone =
-    λ k there. let test = c.loop-zone-test.false in let size = c.requires.1.1.0 in omega (arith, there, test, size) in
+    λ k there. let test = c.loop-zone-test.false in let size = c.requires.1.1.1.0 in omega (arith, there, test, size) in
     record {
       lists = λ zone there held. all.before zone (ended zone (subst (λ (graph : Graph). HasZone graph zone) (sym c.requires.0) there)) held;
       size = all.size;
