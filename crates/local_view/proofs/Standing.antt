@@ -1,5 +1,5 @@
 -- Cuts that a flow certifies.
-use Rattle.std.proofs.Common.{◌≡◌, ◌≢◌, ◌∙◌, ℕ, suc, ◌+◌, ◌<◌, ◌==◌, ◌++◌, true, false, List, [], ◌∷◌, flat_map, get_or, length, replicate, sum_by, refl, sym, ap, arith}
+use Rattle.std.proofs.Common.{◌≡◌, ◌≢◌, ◌∙◌, ℕ, suc, ◌+◌, ◌<◌, ◌==◌, ◌^◌, ◌≤◌, ◌++◌, true, false, List, [], ◌∷◌, flat_map, get_or, length, replicate, sum_by, refl, sym, ap, arith}
 use Rattle.std.proofs.lemmas.List.{get_or-replicate}
 use Rattle.std.proofs.lemmas.List.Concat.{flat_map-append}
 use Rattle.std.proofs.lemmas.List.Sums.{sum_by-append, sum_by-cons}
@@ -17,7 +17,7 @@ use Rattle.zone_graph.proofs.Routes.{end_within}
 use Rattle.market_model.specs.Orders.{Standing}
 use Rattle.local_view.specs.declared.balance.Balance.{Balance}
 use Rattle.local_view.specs.declared.cuts.Cuts.{Cuts}
-use Rattle.local_view.specs.Balances.{HasPassed, into_of, out_of, over_border}
+use Rattle.local_view.specs.Balances.{HasPassed, net_of, over_border}
 use Rattle.local_view.specs.Certified.{IsCertified, lots_from, lots_to}
 use Rattle.local_view.specs.Cuts.{AreAlong, AreClosedOver, cut_by, flow_beside, given_by}
 use Rattle.local_view.specs.Drafts.{AreKept}
@@ -46,28 +46,26 @@ passed-more end flow count zone =
     ∙ ap (λ n. passed_over end flow count zone + n) (omega (arith, sum_by-cons f forward (backward ∷ []), sum_by-cons f backward []))
 
 -- the balance of the first borders
-pub record IsBalanced (graph : Graph) (side : Side) (flow : Arc → ℕ) (count : ℕ) (balance : Balance) : Type 0 where
-  pub out : (zone : ℕ) → zone < 64 → out_of balance zone ≡ passed_over (lots_from graph side) flow count zone
-  pub into : (zone : ℕ) → zone < 64 → into_of balance zone ≡ passed_over (lots_to graph side) flow count zone
+abbrev pub IsBalanced : Graph → Side → (flow : Arc → ℕ) → (count : ℕ) → Balance → Type 0
+IsBalanced graph side flow count balance = (zone : ℕ) → zone < 64
+    → net_of balance zone + passed_over (lots_to graph side) flow count zone ≡ 2 ^ 41 + passed_over (lots_from graph side) flow count zone
 
 pub balanced-more : (graph : Graph) (side : Side) (flow : Arc → ℕ) (count : ℕ) (old new : Balance) → IsBalanced graph side flow count old → HasPassed graph side flow count old new
     → IsBalanced graph side flow (count + 1) new
-balanced-more graph side flow count old new was passed = record {
-  out = λ zone small. passed.out zone small ∙ ap (λ n. n + over_border (lots_from graph side) flow zone count) (was.out zone small) ∙ sym (passed-more (lots_from graph side) flow count zone);
-  into = λ zone small. passed.into zone small ∙ ap (λ n. n + over_border (lots_to graph side) flow zone count) (was.into zone small) ∙ sym (passed-more (lots_to graph side) flow count zone);
-}
+balanced-more graph side flow count old new was passed = λ zone small.
+    omega (arith, passed zone small, was zone small, passed-more (lots_from graph side) flow count zone, passed-more (lots_to graph side) flow count zone)
 
 -- of all borders it says what each zone passes on
 pub passes : (graph : Graph) (side : Side) (flow : Arc → ℕ) (balance : Balance) → IsBalanced graph side flow (border_count graph) balance
-    → (zone lots : ℕ) → zone < 64 → out_of balance zone ≡ into_of balance zone + lots → PassesOn graph side flow zone lots
+    → (zone lots : ℕ) → zone < 64 → net_of balance zone ≡ 2 ^ 41 + lots → PassesOn graph side flow zone lots
 passes graph Sell flow balance is zone lots small gives =
     let sent = sum_passing (λ (arc : Arc). start_of graph arc == zone) flow (arcs_of graph) in
     let taken = sum_passing (λ (arc : Arc). end_of graph arc == zone) flow (arcs_of graph) in
-    omega (arith, gives, is.out zone small, is.into zone small, sent, taken)
+    omega (arith, gives, is zone small, sent, taken)
 passes graph Buy flow balance is zone lots small gives =
     let sent = sum_passing (λ (arc : Arc). start_of graph arc == zone) flow (arcs_of graph) in
     let taken = sum_passing (λ (arc : Arc). end_of graph arc == zone) flow (arcs_of graph) in
-    omega (arith, gives, is.out zone small, is.into zone small, sent, taken)
+    omega (arith, gives, is zone small, sent, taken)
 
 -- ---- cuts along a line
 

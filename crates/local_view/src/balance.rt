@@ -1,10 +1,9 @@
 //! What goes out of zones, and what comes in.
 
 ghost use Rattle.std.specs.Prelude.{◌≡◌, ◌≢◌, ℕ, ◌+◌, ◌<◌, ◌≤◌, ◌==◌, ◌^◌, IsTrue, slice_index_or};
-ghost use Rattle.zone_graph.specs.Graph.{HasArc, HasZone, border_count};
+ghost use Rattle.zone_graph.specs.Graph.{HasZone, border_count};
 ghost use Rattle.zone_graph.specs.Pour.{lots_if};
-ghost use Rattle.local_view.specs.Balances.{HasFew, HasPassed, into_of, out_of};
-ghost use Rattle.local_view.specs.Certified.{lots_from, lots_to};
+ghost use Rattle.local_view.specs.Balances.{HasFew, HasPassed, net_of};
 ghost use Rattle.local_view.specs.Drafts.{IsFlow};
 ghost use Rattle.local_view.specs.Moved.{flow_in};
 ghost use Rattle.local_view.specs.Ways.{PassesOn};
@@ -36,32 +35,31 @@ pub(crate) fn is_balanced(
     true
 }
 
-// The lots that go out of each zone over some borders, and those that come in.
+// What stands for no lots, so that less than none is a number too.
+const LEVEL: u64 = 1 << 41;
+
+// By how much the lots that go out of each zone over some borders are more than those that come in, counted from a level.
 #[derive(Drop)]
 struct Balance {
-    out: [u64; MOST_ZONES],
-    into: [u64; MOST_ZONES],
+    net: [u64; MOST_ZONES],
 }
 
 impl Balance {
     // Over no border.
     fn new() -> Balance
-        ensures out { (zone : ℕ) → zone < 64 → out_of result zone ≡ 0 }
-        ensures into { (zone : ℕ) → zone < 64 → into_of result zone ≡ 0 }
+        ensures { (zone : ℕ) → zone < 64 → net_of result zone ≡ 2 ^ 41 }
     {
         Balance {
-            out: [0; MOST_ZONES],
-            into: [0; MOST_ZONES],
+            net: [LEVEL; MOST_ZONES],
         }
     }
 
     // Whether a zone sends on what comes in and gives so many lots more.
     fn gives(&self, zone: u32, lots: u32) -> bool
         requires zone { zone < 64 }
-        requires few { HasFew self.now (2 ^ 40) }
-        ensures { IsTrue result → out_of self.now zone ≡ into_of self.now zone + lots }
+        ensures { IsTrue result → net_of self.now zone ≡ 2 ^ 41 + lots }
     {
-        self.out[zone as usize] == self.into[zone as usize] + u64::from(lots)
+        self.net[zone as usize] == LEVEL + u64::from(lots)
     }
 
     // Adds what flows over a border.
@@ -74,40 +72,26 @@ impl Balance {
         ensures few { (most : ℕ) → HasFew self.old most → HasFew self.new (most + 2 ^ 32) }
     {
         let arc = Arc::over(border, true);
-        let (of, left) = (flow.of.at(arc), flow.left.at(arc));
-        if left < of {
-            self.pass_over(grid, side, arc, of - left);
-        } else if of < left {
-            self.pass_over(grid, side, arc.opposite(), left - of);
-        }
-    }
-
-    // Adds lots that flow over an arc.
-    #[inline(always)]
-    fn pass_over(&mut self, grid: &Grid, side: Side, arc: Arc, lots: u32)
-        requires arc { HasArc grid.now arc }
-        requires few { HasFew self.old (2 ^ 41) }
-        ensures out { (zone : ℕ) → zone < 64 → out_of self.new zone ≡ out_of self.old zone + lots_if (lots_from grid.now side arc == zone) lots }
-        ensures into { (zone : ℕ) → zone < 64 → into_of self.new zone ≡ into_of self.old zone + lots_if (lots_to grid.now side arc == zone) lots }
-        ensures few { (most : ℕ) → HasFew self.old most → HasFew self.new (most + 2 ^ 32) }
-    {
         let (start, end) = grid.ends(arc);
-        match side {
-            Side::Sell => self.pass(start, end, lots),
-            Side::Buy => self.pass(end, start, lots),
-        }
+        let (from, to) = match side {
+            Side::Sell => (start, end),
+            Side::Buy => (end, start),
+        };
+        self.pass(from, to, flow.of.at(arc), flow.left.at(arc));
     }
 
-    // Lots go out of a zone and come into another one.
+    // Lots go out of a zone and come into another one, and others go the other way.
     #[inline(always)]
-    fn pass(&mut self, from: u32, to: u32, lots: u32)
+    fn pass(&mut self, from: u32, to: u32, lots: u32, back: u32)
         requires from { from < 64 }
         requires to { to < 64 }
-        requires few { HasFew self.old (2 ^ 41) }
-        ensures out { (zone : ℕ) → zone < 64 → out_of self.new zone ≡ out_of self.old zone + lots_if (from == zone) lots }
-        ensures into { (zone : ℕ) → zone < 64 → into_of self.new zone ≡ into_of self.old zone + lots_if (to == zone) lots }
+        requires few { HasFew self.old (2 ^ 40) }
+        ensures net { (zone : ℕ) → zone < 64 → net_of self.new zone + lots_if (from == zone) back + lots_if (to == zone) lots ≡ net_of self.old zone + lots_if (from == zone) lots + lots_if (to == zone) back }
+        ensures few { (most : ℕ) → HasFew self.old most → HasFew self.new (most + 2 ^ 32) }
     {
-        self.out[from as usize] += u64::from(lots);
-        self.into[to as usize] += u64::from(lots);
+        let (lots, back) = (u64::from(lots), u64::from(back));
+        let (from, to) = (from as usize, to as usize);
+        self.net[from] = self.net[from] + lots - back;
+        self.net[to] = self.net[to] + back - lots;
     }
 }

@@ -11,8 +11,8 @@ loop-border-preserved c =
     record {
       balanced = balanced-more c.args.grid.now c.args.side (flow_in c.args.flow.now) c.loop-border.border c.loop-border.balance c.add.new.self so_far.balanced c.add.ensures.passed;
       few = record {
-        out = λ zone small. let most = more.out zone small in omega (arith, most);
-        into = λ zone small. let most = more.into zone small in omega (arith, most);
+        up = λ zone small. let most = more.up zone small in omega (arith, most);
+        down = λ zone small. let most = more.down zone small in omega (arith, most);
       };
     }
 

@@ -1,5 +1,5 @@
 use Rattle.std.proofs.Common.{◌≡◌, ◌≢◌, ◌+◌, ◌*◌, ◌^◌, ◌<◌, ℕ, get_or}
-use Rattle.local_view.specs.Balances.{HasFew, into_of, out_of}
+use Rattle.local_view.specs.Balances.{HasFew, net_of}
 use Rattle.local_view.specs.Moved.{flow_in}
 use Rattle.local_view.proofs.Standing.{IsBalanced}
 use Rattle.local_view.proofs.balance.is_balanced.Given as goal
@@ -10,4 +10,4 @@ invariant-loop-border l = record { balanced : IsBalanced l.grid l.side (flow_in 
 
 -- the zones so far pass on what they give
 abbrev pub invariant-loop-other : goal.invariant-loop-other
-invariant-loop-other l = (k : ℕ) → k < l.other → k ≢ l.zone → out_of l.balance k ≡ into_of l.balance k + get_or l.given k 0
+invariant-loop-other l = (k : ℕ) → k < l.other → k ≢ l.zone → net_of l.balance k ≡ 2 ^ 41 + get_or l.given k 0
