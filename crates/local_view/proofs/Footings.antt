@@ -10,7 +10,7 @@ use Rattle.cut_proof.specs.ZoneSet.{holds}
 use Rattle.order_kinds.specs.declared.side.Side.{Side}
 use Rattle.order_kinds.specs.declared.side.Side.TheVariants.{Buy, Sell}
 use Rattle.zone_graph.specs.declared.route.Arc.{Arc}
-use Rattle.zone_graph.specs.Graph.{Graph, HasZone, arc_ends, border_count, zone_count}
+use Rattle.zone_graph.specs.Graph.{Graph, HasZone, arc_ends, border_count, end_of, start_of, zone_count}
 use Rattle.zone_graph.specs.Pour.{opposite_arc}
 use Rattle.zone_graph.specs.Rooms.{room_of}
 use Rattle.zone_graph.specs.Route.{IsIn}
@@ -26,7 +26,9 @@ use Rattle.local_view.specs.Drafts.{IsFlow}
 use Rattle.local_view.specs.Footing.{AreFilled, AreMadeOver, AreMovable, AreTold, Certifies, IsFootingAfter, IsFoundedAt, IsOver, Rest, RestOn, certificate_at, no_certificate}
 use Rattle.local_view.specs.Moved.{AreBehindCuts, AreSameBut, IsMoved, IsReplaced, StandOver, StandsOn, cut_in, flow_in}
 use Rattle.local_view.specs.Poured.{row_if}
+use Rattle.local_view.specs.Ways.{HasWays, arc_at}
 use Rattle.local_view.specs.Whole.{IsRead, in_line, rows_shown}
+use Rattle.local_view.specs.declared.ways.Ways.{Ways}
 use Rattle.local_view.specs.declared.whole.WholeLine.{WholeLine}
 use Rattle.local_view.specs.Boards.{AreRoomsOf, view_of}
 use Rattle.local_view.specs.declared.filling.Made.{Made}
@@ -66,6 +68,26 @@ module _ (graph other : Graph) (same : other.borders ≡ graph.borders) where
   same-from : (side : Side) (arc : Arc) → lots_from graph side arc ≡ lots_from other side arc
   same-from Sell arc = sym (ap (λ (ends : ℕ × ℕ). ends.0) (same-ends arc.border arc.forward))
   same-from Buy arc = sym (ap (λ (ends : ℕ × ℕ). ends.1) (same-ends arc.border arc.forward))
+
+  -- and so do ways
+  pub ways-over : (ways : Ways) → HasWays graph ways → HasWays other ways
+  ways-over ways are = record {
+    places = are.places;
+    few = are.few;
+    known = λ i less. subst (λ borders. (arc_at ways.list i).border < length borders) (sym same) (are.known i less);
+    ends = λ i less. at (arc_at ways.list i) ∙ are.ends i less;
+    apart = λ i j before less e. are.apart i j before less (sym (end i) ∙ e ∙ end j);
+    onward = λ i j before less e. are.onward i j before less (sym (start i) ∙ e ∙ end j);
+  }
+    where
+      at : (arc : Arc) → arc_ends other arc ≡ arc_ends graph arc
+      at arc = same-ends arc.border arc.forward
+
+      start : (i : ℕ) → start_of other (arc_at ways.list i) ≡ start_of graph (arc_at ways.list i)
+      start i = ap (λ (ends : ℕ × ℕ). ends.0) (at (arc_at ways.list i))
+
+      end : (i : ℕ) → end_of other (arc_at ways.list i) ≡ end_of graph (arc_at ways.list i)
+      end i = ap (λ (ends : ℕ × ℕ). ends.1) (at (arc_at ways.list i))
 
   same_stand : (changed : List ℕ) (room : Arc → ℕ) (side : Side) (flow : Arc → ℕ) (cut : ℕ → ℕ) → StandOver graph changed room side flow cut → StandOver other changed room side flow cut
   same_stand changed room side flow cut stand = λ arc there. record {
@@ -290,7 +312,7 @@ pub over_fewer : (old new : Footing) → new ≡ record old { resting = new.rest
 over_fewer old new same graph side over = subst (IsOver graph side) (sym same) (record {
   side_is = over.side_is;
   ends_are = over.ends_are;
-  sized = record { rooms_are = over.sized.rooms_are; count = over.sized.count; flows = over.sized.flows; orders_in = over.sized.orders_in };
+  sized = record { rooms_are = over.sized.rooms_are; count = over.sized.count; flows = over.sized.flows; orders_in = over.sized.orders_in; ways_are = over.sized.ways_are };
 })
 
 -- a footing with other certificates
@@ -305,6 +327,21 @@ over_listed old certificates list are graph side size flows over = record {
     flows = λ zone less.
         subst (λ l. IsFlow (length old.ends.items) (certificate_at l zone).flow) (sym are) (subst (λ borders. IsFlow borders (certificate_at list zone).flow) (sym (ap length over.ends_are)) (flows zone less));
     orders_in = over.sized.orders_in;
+    ways_are = over.sized.ways_are;
+  };
+}
+
+-- a footing with other ways over its borders
+pub over_ways : (old : Footing) (ways : Ways) (graph : Graph) (side : Side) → HasWays graph ways → IsOver graph side old → IsOver graph side (record old { ways = ways })
+over_ways old ways graph side are over = record {
+  side_is = over.side_is;
+  ends_are = over.ends_are;
+  sized = record {
+    rooms_are = over.sized.rooms_are;
+    count = over.sized.count;
+    flows = over.sized.flows;
+    orders_in = over.sized.orders_in;
+    ways_are = λ other same. ways-over graph other (same ∙ over.ends_are) ways are;
   };
 }
 
@@ -314,7 +351,7 @@ pub over_orders : (old : Footing) (orders : Vec LineOrder Global) (resting : ℕ
 over_orders old orders resting graph side zones over = record {
   side_is = over.side_is;
   ends_are = over.ends_are;
-  sized = record { rooms_are = over.sized.rooms_are; count = over.sized.count; flows = over.sized.flows; orders_in = zones };
+  sized = record { rooms_are = over.sized.rooms_are; count = over.sized.count; flows = over.sized.flows; orders_in = zones; ways_are = over.sized.ways_are };
 }
 
 -- what is in one set and not in another one

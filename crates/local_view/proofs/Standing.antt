@@ -1,5 +1,5 @@
 -- Cuts that a flow certifies.
-use Rattle.std.proofs.Common.{◌≡◌, ◌≢◌, ◌∙◌, ℕ, suc, ◌+◌, ◌<◌, ◌==◌, ◌^◌, ◌≤◌, ◌++◌, true, false, List, [], ◌∷◌, flat_map, get_or, length, replicate, sum_by, refl, sym, ap, arith}
+use Rattle.std.proofs.Common.{◌≡◌, ◌≢◌, ◌∙◌, ℕ, suc, ◌+◌, ◌<◌, ◌==◌, ◌^◌, ◌++◌, true, false, List, [], ◌∷◌, flat_map, get_or, length, replicate, sum_by, refl, ap, arith}
 use Rattle.std.proofs.lemmas.List.{get_or-replicate}
 use Rattle.std.proofs.lemmas.List.Concat.{flat_map-append}
 use Rattle.std.proofs.lemmas.List.Sums.{sum_by-append, sum_by-cons}

@@ -19,6 +19,7 @@ use Rattle.local_view.specs.Drafts.{IsFlow}
 use Rattle.local_view.specs.Moved.{cut_in, flow_in}
 use Rattle.local_view.specs.Rows.{HaveLists, chosen_at}
 use Rattle.local_view.specs.Whole.{in_line, rows_shown}
+use Rattle.local_view.specs.Ways.{HasWays}
 use Rattle.local_view.specs.Works.{AreComputed}
 
 -- a flow and cuts certify rows of a zone
@@ -51,12 +52,14 @@ no_certificate = record { is_whole = false; flow = record { of = []; left = []; 
 abbrev pub certificate_at : List Certificate → (zone : ℕ) → Certificate
 certificate_at certificates zone = get_or certificates zone no_certificate
 
--- a footing has a room and a flow for each border, a certificate for each of so many zones, and orders of these
+-- a footing has a room and a flow for each border, a certificate for each of so many zones, and orders of these; its ways are
+-- over its borders
 pub record IsSized (zones : ℕ) (footing : Footing) : Type 0 where
   pub rooms_are : length footing.rooms ≡ length footing.ends.items
   pub count : length footing.certificates.items ≡ zones
   pub flows : (zone : ℕ) → zone < zones → IsFlow (length footing.ends.items) (certificate_at footing.certificates.items zone).flow
   pub orders_in : (order : LineOrder) → IsIn order footing.orders.items → order.zone < zones
+  pub ways_are : (graph : Graph) → graph.borders ≡ footing.ends.items → HasWays graph footing.ways
 
 -- a footing of a side is over a grid
 pub record IsOver (graph : Graph) (side : Side) (footing : Footing) : Type 0 where

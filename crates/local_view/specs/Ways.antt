@@ -8,6 +8,7 @@ use Rattle.zone_graph.specs.Graph.{Graph, HasArc, HasZone, arc_ends, end_of, sta
 use Rattle.zone_graph.specs.Pour.{opposite_arc}
 use Rattle.route_choice.specs.Flow.{sent_out, taken_in}
 use Rattle.local_view.specs.declared.ways.Way.{Way}
+use Rattle.local_view.specs.declared.ways.Ways.{Ways}
 
 -- what stands for a way where there is none
 abbrev pub no_way : Way
@@ -25,6 +26,10 @@ pub record AreWays (graph : Graph) (ways : List Way) (count : ℕ) : Type 0 wher
   pub ends : (i : ℕ) → i < count → arc_ends graph (arc_at ways i) ≡ ((slice_index_or ways i no_way).near, (slice_index_or ways i no_way).far)
   pub apart : (i j : ℕ) → i < j → j < count → end_of graph (arc_at ways i) ≢ end_of graph (arc_at ways j)
   pub onward : (i j : ℕ) → i < j → j < count → start_of graph (arc_at ways i) ≢ end_of graph (arc_at ways j)
+
+-- so are those that are kept
+abbrev pub HasWays : Graph → Ways → Type 0
+HasWays graph ways = AreWays graph ways.list ways.count
 
 -- how many flags are not set
 abbrev pub if_free : Bool → ℕ

@@ -18,6 +18,7 @@ use crate::filling::{is_set, without};
 use crate::replacing::{Replaced, are_behind, find_replaced, move_cuts};
 use crate::still_standing::{are_borders, find_changed, note_borders, stand_over};
 use crate::taker::is_sell;
+use crate::ways::Ways;
 use crate::whole::LineOrder;
 use market_model::{NoMemory, Side};
 use std::alloc::Global;
@@ -46,6 +47,8 @@ pub(crate) struct Footing {
     pub(crate) rooms: Rooms,
     /// The orders, in priority.
     pub(crate) orders: Vec<LineOrder>,
+    /// Ways over the borders.
+    pub(crate) ways: Ways,
     /// What certifies the rows of each zone, where they rest on this.
     pub(crate) certificates: Vec<Certificate>,
     // The borders whose rooms the last move changed.
@@ -67,6 +70,7 @@ impl Footing {
             ends,
             rooms: Rooms::new(grid)?,
             orders: Vec::new(alloc),
+            ways: Ways::none(),
             certificates: certificates_over(alloc, grid)?,
             changed: Vec::new(alloc),
             resting: 0,

@@ -2,9 +2,9 @@
 
 ghost use Rattle.std.specs.Prelude.{◌≡◌, ◌<◌, ◌≤◌, ℕ, IfErr, IfOk, List, OnOk, false, length, slice_index_or, true};
 ghost use Rattle.cut_proof.specs.ZoneSet.{holds};
-ghost use Rattle.zone_graph.specs.Graph.{HasZone, border_count};
+ghost use Rattle.zone_graph.specs.Graph.{Graph, HasZone, border_count};
 ghost use Rattle.zone_graph.specs.Rooms.{room_of};
-ghost use Rattle.local_view.specs.Ways.{AreFound, AreWays, ComeTogether, IsBringing, IsSpread, over};
+ghost use Rattle.local_view.specs.Ways.{AreFound, AreWays, ComeTogether, HasWays, IsBringing, IsSpread, over};
 
 use market_model::Side;
 use zone_graph::{Arc, Grid, MOST_ZONES, Rooms};
@@ -12,11 +12,19 @@ use zone_graph::{Arc, Grid, MOST_ZONES, Rooms};
 // From how many zones ways are tried.
 const MOST_ROOTS: u32 = 4;
 
-/// The zones to which all that the zones show comes together over one tree of ways; it may leave some out. Bit z stands
-/// for zone z.
-pub(crate) fn whole_zones(grid: &Grid, rooms: &Rooms, side: Side, shown: &[u32; MOST_ZONES]) -> u64
+/// The zones to which all that the zones show comes together over one tree of ways; it may leave some out. The ways are those
+/// that were found before, where they are from the same zone. Bit z stands for zone z.
+pub(crate) fn whole_zones(
+    grid: &Grid,
+    rooms: &Rooms,
+    side: Side,
+    shown: &[u32; MOST_ZONES],
+    ways: &mut Ways,
+) -> u64
     requires size { length rooms.now ≡ border_count grid.now }
-    ensures { (zone : ℕ) → HasZone grid.now zone → holds result zone ≡ true → ComeTogether grid.now (room_of rooms.now) side zone shown.now }
+    requires ways { HasWays grid.now ways.old }
+    ensures together { (zone : ℕ) → HasZone grid.now zone → holds result zone ≡ true → ComeTogether grid.now (room_of rooms.now) side zone shown.now }
+    ensures ways { HasWays grid.now ways.new }
 {
     let zones = grid.zones();
     if zones == 0 {
@@ -24,7 +32,7 @@ pub(crate) fn whole_zones(grid: &Grid, rooms: &Rooms, side: Side, shown: &[u32; 
     }
     let mut root = zone_of_most(shown, zones);
     for _ in 0..MOST_ROOTS {
-        match whole_around(grid, rooms, side, root, shown) {
+        match whole_around(grid, rooms, side, root, shown, ways) {
             Ok(whole) => return whole,
             Err(beyond) => root = beyond,
         }
@@ -58,25 +66,28 @@ fn whole_around(
     side: Side,
     root: u32,
     shown: &[u32; MOST_ZONES],
+    ways: &mut Ways,
 ) -> Result<u64, u32>
     requires zone { HasZone grid.now root }
     requires size { length rooms.now ≡ border_count grid.now }
+    requires ways { HasWays grid.now ways.old }
+    ensures ways { HasWays grid.now ways.new }
     ensures whole { IfOk result (λ whole. (zone : ℕ) → HasZone grid.now zone → holds whole zone ≡ true → ComeTogether grid.now (room_of rooms.now) side zone shown.now) }
     ensures beyond { IfErr result (λ zone. HasZone grid.now zone) }
 {
     let zones = grid.zones();
     prove!(root < zones);
-    let mut ways = [NO_WAY; MOST_ZONES];
-    let count = find_ways(grid, root, &mut ways);
+    ways.lead_from(grid, root);
+    let (list, count) = (&ways.list, ways.count);
     let mut load = *shown;
     let mut loads = [0; MOST_ZONES];
-    bring_all(grid, rooms, side, &ways, count, &mut load, &mut loads)?;
+    bring_all(grid, rooms, side, list, count, &mut load, &mut loads)?;
     let all = load[root as usize];
     load[root as usize] = 0;
     if has_lots(&load) {
         return Ok(0);
     }
-    Ok(spread(grid, rooms, side, &ways, &loads, root, all, count))
+    Ok(spread(grid, rooms, side, list, &loads, root, all, count))
 }
 
 // An arc that leads from a zone that was found before to one that was not.
@@ -96,6 +107,40 @@ const NO_WAY: Way = Way {
     near: 0,
     far: 0,
 };
+
+/// The ways from a root to all zones that borders join with it, where there is one.
+#[derive(Drop)]
+pub(crate) struct Ways {
+    root: Option<u32>,
+    list: [Way; MOST_ZONES],
+    // How many of the list they are.
+    count: usize,
+}
+
+impl Ways {
+    /// None, from no root.
+    pub(crate) fn none() -> Ways
+        ensures { (graph : Graph) → HasWays graph result }
+    {
+        Ways {
+            root: None,
+            list: [NO_WAY; MOST_ZONES],
+            count: 0,
+        }
+    }
+
+    // Has them lead from a root, if they do not yet.
+    fn lead_from(&mut self, grid: &Grid, root: u32)
+        requires zone { HasZone grid.now root }
+        requires ways { HasWays grid.now self.old }
+        ensures { HasWays grid.now self.new }
+    {
+        if self.root != Some(root) {
+            self.count = find_ways(grid, root, &mut self.list);
+            self.root = Some(root);
+        }
+    }
+}
 
 // Finds ways from a root to those zones that borders join it with and on from there, the nearest first, whatever rooms
 // the arcs have. Answers how many there are.

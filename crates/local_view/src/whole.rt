@@ -4,11 +4,11 @@ ghost use Rattle.std.specs.Prelude.{◌≡◌, ◌<◌, ℕ, None, OnOk, length,
 ghost use Rattle.cut_proof.specs.ZoneSet.{holds};
 ghost use Rattle.zone_graph.specs.Graph.{HasZone, border_count};
 ghost use Rattle.zone_graph.specs.Rooms.{room_of};
-ghost use Rattle.local_view.specs.Ways.{ComeTogether};
+ghost use Rattle.local_view.specs.Ways.{ComeTogether, HasWays};
 ghost use Rattle.local_view.specs.Whole.{IsRead};
 
 use crate::listing::{Line, add_row};
-use crate::ways::whole_zones;
+use crate::ways::{Ways, whole_zones};
 use market_model::{Board, NoMemory, Price, Side, ViewRow};
 use std::alloc::Global;
 use zone_graph::{Grid, MOST_ZONES, Rooms};
@@ -89,13 +89,22 @@ impl WholeLine {
 
     /// The zones to which all that the line shows comes together, as far as one tree of ways tells; none, where it is asked of
     /// none. Bit z stands for zone z.
-    pub(crate) fn comes_to(&self, grid: &Grid, rooms: &Rooms, side: Side, asked: u64) -> u64
-        requires { length rooms.now ≡ border_count grid.now }
+    pub(crate) fn comes_to(
+        &self,
+        grid: &Grid,
+        rooms: &Rooms,
+        side: Side,
+        asked: u64,
+        ways: &mut Ways,
+    ) -> u64
+        requires rooms { length rooms.now ≡ border_count grid.now }
+        requires ways { HasWays grid.now ways.old }
         ensures fits { (zone : ℕ) → HasZone grid.now zone → holds result zone ≡ true → self.now.fits ≡ true }
         ensures together { (zone : ℕ) → HasZone grid.now zone → holds result zone ≡ true → ComeTogether grid.now (room_of rooms.now) side zone self.now.shown }
+        ensures ways { HasWays grid.now ways.new }
     {
         if self.fits && asked != 0 {
-            whole_zones(grid, rooms, side, &self.shown)
+            whole_zones(grid, rooms, side, &self.shown, ways)
         } else {
             0
         }

@@ -17,7 +17,7 @@ use Rattle.local_view.specs.Boards.{view_of}
 use Rattle.local_view.specs.Drafts.{IsFlow}
 use Rattle.local_view.specs.Ways.{ComeTogether}
 use Rattle.local_view.specs.Works.{AreComputed, IsLineWork, IsWork}
-use Rattle.local_view.proofs.Footings.{after_moved, holds_it, kept_rests, in_second, made_within, movable_fewer, over_fewer, over_listed, over_orders, rest_view, resting_apart, still_whole}
+use Rattle.local_view.proofs.Footings.{after_moved, holds_it, kept_rests, in_second, made_within, movable_fewer, over_fewer, over_listed, over_orders, over_ways, rest_view, resting_apart, still_whole}
 use Rattle.local_view.proofs.Wholes.{whole_view, zones-read, zones-resting}
 use Rattle.local_view.proofs.filling.fill_zones.Goals as goal
 
@@ -43,6 +43,9 @@ line_view graph board part side own work same side_is of_line grid zone there co
     whole_view board of_line.hand part own work.whole of_line.read zone (subst (λ (g : Graph). HasZone g zone) same there) (subst IsGrid same grid) work.of_part of_line.rooms comes.0
     (subst (λ (s : Side). ComeTogether board.grid (room_of work.of_part) s zone work.whole.shown) side_is
     (subst (λ (g : Graph). ComeTogether g (room_of work.of_part) side zone work.whole.shown) same comes.1))
+
+pub comes_to-whole-requires-clause-ways : goal.comes_to-whole-requires-clause-ways
+comes_to-whole-requires-clause-ways g c = c.move_to.ensures.over.sized.ways_are c.args.grid.now (sym c.move_to.ensures.over.ends_are)
 
 pub list_zones-requires : goal.list_zones-requires
 list_zones-requires g c =
@@ -73,13 +76,27 @@ list_zones-requires g c =
       ),
     )
 
+pub returns-in_err-resting-clause-footing : goal.returns-in_err-resting-clause-footing
+returns-in_err-resting-clause-footing g c =
+    let graph = c.args.grid.now in
+    let side = c.args.line.side in
+    let set = c.move_to.new.self in
+    let listed = c.list_zones.ensures in
+    let slots = c.as_mut_slice-certificates.ensures in
+    let over = over_fewer c.args.footing.now c.rest_where.new.self c.rest_where.ensures.same graph side c.requires.1.1.1.1.1 in
+    let over_set : IsOver graph side set = subst (λ (s : Side). IsOver graph s set) over.side_is c.move_to.ensures.over in
+    over_listed (record set { ways = c.comes_to-whole.new.ways }) (with_items set.certificates c.list_zones.new.certificates) c.list_zones.new.certificates
+    (with_items_is set.certificates c.list_zones.new.certificates (listed.certificates ∙ sym over_set.sized.count ∙ sym (ap length slots.value) ∙ slots.len)) graph side listed.certificates listed.flows
+    (over_ways set c.comes_to-whole.new.ways graph side c.comes_to-whole.ensures.ways over_set)
+
 pub returns : goal.returns
 returns g c =
     let graph = c.args.grid.now in
     let side = c.args.line.side in
     let first = c.args.footing.now in
     let fewer = c.rest_where.new.self in
-    let moved = c.move_to.new.self in
+    let set = c.move_to.new.self in
+    let moved = record set { ways = c.comes_to-whole.new.ways } in
     let still = c.without-still.result in
     let made = c.without-made.result in
     let listed = c.list_zones.ensures in
@@ -91,7 +108,8 @@ returns g c =
     movable_fewer (zone_count graph) fewer c.in_ok-moved.moved still c.without-2.result rooms orders moved.certificates.items c.without-still.ensures c.in_ok-moved.ensures.rest in
     let over_first = c.requires.1.1.1.1.1 in
     let over = over_fewer first fewer c.rest_where.ensures.same graph side over_first in
-    let over_moved : IsOver graph side moved = subst (λ (s : Side). IsOver graph s moved) over.side_is c.move_to.ensures.over in
+    let over_set : IsOver graph side set = subst (λ (s : Side). IsOver graph s set) over.side_is c.move_to.ensures.over in
+    let over_moved : IsOver graph side moved = over_ways set c.comes_to-whole.new.ways graph side c.comes_to-whole.ensures.ways over_set in
     let certificates = with_items moved.certificates c.list_zones.new.certificates in
     let are : certificates.items ≡ c.list_zones.new.certificates =
     with_items_is moved.certificates c.list_zones.new.certificates

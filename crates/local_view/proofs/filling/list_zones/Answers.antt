@@ -6,9 +6,6 @@ use Rattle.cut_proof.specs.ZoneSet.{holds}
 use Rattle.local_view.specs.Boards.{view_of}
 use Rattle.local_view.specs.Works.{IsLineWork}
 use Rattle.zone_graph.specs.Graph.{Graph, HasZone, border_count, zone_count}
-use Rattle.zone_graph.specs.Grid.{IsGrid}
-use Rattle.zone_graph.specs.Rooms.{room_of}
-use Rattle.local_view.specs.Ways.{ComeTogether}
 use Rattle.local_view.specs.declared.footing.Certificate.{Certificate}
 use Rattle.local_view.specs.declared.whole.WholeLine.{WholeLine}
 use Rattle.local_view.specs.declared.work.Work.{Work}
@@ -17,7 +14,6 @@ use Rattle.local_view.specs.Footing.{RestOn, certificate_at, no_certificate}
 use Rattle.market_model.specs.declared.reply.ViewRow.{ViewRow}
 use Rattle.local_view.proofs.Bits.{holds-zero}
 use Rattle.local_view.proofs.Resting.{AreMade, none_made, one_made}
-use Rattle.local_view.proofs.Wholes.{whole_view}
 use Rattle.local_view.proofs.filling.list_zones.Goals as goal
 use Rattle.local_view.proofs.filling.list_zones.Goals.{then-is_set+in_ok-is, else-is_set}
 

@@ -7,7 +7,7 @@ use Rattle.local_view.proofs.ways.whole_around.Goals as goal
 pub returns-clause-whole : goal.returns-clause-whole
 returns-clause-whole c = λ zone there is_set.
     c.spread.ensures c.args.shown.now
-    (all_brought c.args.grid.now (room_of c.args.rooms.now) c.args.side c.args.root c.args.shown.now c.bring_all.new.load c.find_ways-count.new.ways c.find_ways-count.result c.bring_all.new.loads c.requires.zone
+    (all_brought c.args.grid.now (room_of c.args.rooms.now) c.args.side c.args.root c.args.shown.now c.bring_all.new.load c.lead_from.new.self.list c.lead_from.new.self.count c.bring_all.new.loads c.requires.zone
     c.in_ok-bring_all.ensures.brought
     (λ other known apart. sym (get_or-set_other c.bring_all.new.load c.args.root other 0 0 apart) ∙ c.has_lots.ensures c.if-has_lots.false other))
     zone there is_set

@@ -12,5 +12,6 @@ returns-clause-over g c =
         count = over.sized.count;
         flows = over.sized.flows;
         orders_in = over.sized.orders_in;
+        ways_are = over.sized.ways_are;
       };
     }
