@@ -58,7 +58,7 @@ pub(crate) fn words_of(alloc: Global, texts: &[&str]) -> Result<Sequence<Word>, 
     Ok(words)
 }
 
-/// How a run of these words, which mean no `trade`, ends over an input that is given in at most four pieces, and what it has
+/// How a run of these words, which are not `trade`, ends over an input that is given in at most four pieces, and what it has
 /// written, at most 16 bytes at once. The reads and the writes of these numbers fail.
 pub(crate) fn ran(
     alloc: Global,
@@ -73,7 +73,8 @@ pub(crate) fn ran(
     let mut source = BytesSource::new(alloc, input, input.len() / 4 + 1, fails.0)?;
     let mut sink = BytesSink::new(alloc, 16, fails.1)?;
     if is_trade(words.as_slice()) {
-        return Ok((Status::Usage, sink));
+        // `trade` does not run alone: a test of it by this fails.
+        return Err(NoMemory.into());
     }
     let status = run_alone(alloc, words.as_slice(), &mut source, &mut sink, disk);
     Ok((status, sink))
