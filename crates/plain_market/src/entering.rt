@@ -53,10 +53,7 @@ pub(crate) fn enter(
 {
     let before = events.as_slice().len();
     let hour = order.contract.hour;
-    let mut sums = HourSums {
-        orders: kept.take(hour),
-        capacity: None,
-    };
+    let mut sums = HourSums::of(kept.take(hour));
     let name = enter_and_take(alloc, grid, events, &mut sums, caller, order)?;
     match refusal_after(alloc, grid, events, &mut sums, before + 1, name, order)? {
         Some(refusal) => {

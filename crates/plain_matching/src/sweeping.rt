@@ -22,7 +22,7 @@ use crate::trade::resting_trade;
 use event_history::History;
 use market_model::{Contract, Event, NoMemory, Part, Price, Side};
 use plain_capacity::{CapacitySums, contract_rooms_over};
-use plain_orders::{StandingOrder, best_prices, line, open_orders_over};
+use plain_orders::{StandingOrder, best_prices, line};
 use std::alloc::Global;
 use zone_graph::{Grid, Rooms};
 
@@ -99,7 +99,7 @@ fn sweep_leg(
 {
     let zones = grid.zones();
     prove!(zones <= 64);
-    let orders = open_orders_over(alloc, events, &mut sums.orders, hour)?;
+    let listed = sums.list_orders(alloc, events, hour)?;
     let parts = [
         Part::Hour,
         Part::Half(1),
@@ -110,15 +110,10 @@ fn sweep_leg(
         Part::Quarter(4),
     ];
     let capacity = &mut sums.capacity;
-    leg_in_parts(
-        alloc,
-        grid,
-        events,
-        capacity,
-        orders.as_slice(),
-        hour,
-        &parts,
-    )
+    let orders = listed.orders.as_slice();
+    let leg = leg_in_parts(alloc, grid, events, capacity, orders, hour, &parts)?;
+    sums.listed = Some(listed);
+    Ok(leg)
 }
 
 // The leg in the first of some parts of an hour that has one.

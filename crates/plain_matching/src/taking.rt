@@ -18,7 +18,7 @@ use crate::trade::trade;
 use event_history::History;
 use market_model::{Event, NoMemory, OrderName};
 use plain_capacity::{CapacitySums, contract_rooms_over};
-use plain_orders::{StandingOrder, best_price, left_over, line, open_orders_over};
+use plain_orders::{StandingOrder, best_price, left_over, line};
 use std::alloc::Global;
 use zone_graph::Grid;
 
@@ -73,12 +73,38 @@ fn next_leg(
     if left_over(alloc, events, &mut sums.orders, name)? == 0 {
         return Ok(None);
     }
-    let orders = open_orders_over(alloc, events, &mut sums.orders, name.hour)?;
-    match open_as(orders.as_slice(), name) {
-        Some(own) => {
-            let capacity = &mut sums.capacity;
-            leg_with_partner(alloc, grid, events, capacity, orders.as_slice(), &own)
-        }
+    let listed = sums.list_orders(alloc, events, name.hour)?;
+    let capacity = &mut sums.capacity;
+    let leg = leg_as(
+        alloc,
+        grid,
+        events,
+        capacity,
+        listed.orders.as_slice(),
+        name,
+    )?;
+    sums.listed = Some(listed);
+    Ok(leg)
+}
+
+// The leg of the one of the open orders of an hour that bears a name, with its partner.
+fn leg_as(
+    alloc: Global,
+    grid: &Grid,
+    events: &History,
+    capacity: &mut Option<CapacitySums>,
+    orders: &[StandingOrder],
+    name: OrderName,
+) -> Result<Option<Event>, NoMemory>
+    requires legal { IsLegalOver grid.now events.now }
+    requires summed { IfSome capacity.old (AreCapacitySums grid.now events.now name.hour) }
+    requires orders { orders.now ≡ listed.open_orders events.now name.hour }
+    ensures leg { IfOk result (λ leg. leg ≡ market.next_leg grid.now name events.now) }
+    ensures summed { IfSome capacity.new (AreCapacitySums grid.now events.now name.hour) }
+    ensures kept { IfOk result (λ leg. StaysOrIsAfter (leg ≡ None) (length events.now) capacity.old capacity.new) }
+{
+    match open_as(orders, name) {
+        Some(own) => leg_with_partner(alloc, grid, events, capacity, orders, &own),
         None => Ok(None),
     }
 }

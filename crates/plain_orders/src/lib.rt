@@ -30,4 +30,4 @@ pub use owning::{
 pub use placed::{PlacedBlock, PlacedOrder};
 pub use standing::{StandingBlock, StandingOrder};
 pub use sums::{left, left_over};
-pub use tally::OrderSums;
+pub use tally::{OrderSums, sum_orders};

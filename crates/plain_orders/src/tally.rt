@@ -1,6 +1,6 @@
 //! The sums of the orders and blocks of one hour, taken in one pass over the events.
 
-ghost use Rattle.std.specs.Prelude.{◌≡◌, ◌≢◌, ℕ, ◌+◌, ◌<◌, true, List, IfOk, IfSome, OnOk, length, slice_index_or, if◌then◌else◌};
+ghost use Rattle.std.specs.Prelude.{◌≡◌, ◌≢◌, ℕ, ◌+◌, ◌<◌, true, List, IfOk, IfSome, IsSome, OnOk, length, slice_index_or, if◌then◌else◌};
 ghost use Rattle.market_model.specs.declared.event.Event.{Event as TheEvent};
 ghost use Rattle.market_model.specs.History as history;
 ghost use Rattle.market_model.specs.Orders as orders;
@@ -114,6 +114,29 @@ pub(crate) fn tallies_of(alloc: Global, events: &History, hour: u32) -> Result<V
 {
     let summed = sum_up(alloc, events, hour, None)?;
     Ok(summed.tallies)
+}
+
+/// Brings the sums of an hour up to all events, without listing any order: they are made where there are
+/// none yet, or take in the events that have come since, and stay for the next call.
+///
+/// # Errors
+///
+/// [`NoMemory`], where there is no memory for the sums of the hour.
+pub fn sum_orders(
+    alloc: Global,
+    events: &History,
+    kept: &mut Option<OrderSums>,
+    hour: u32,
+) -> Result<(), NoMemory>
+    requires history { IsSomeHistory events.now }
+    requires summed { IfSome kept.old (sums.AreSums events.now hour) }
+    ensures summed { IfSome kept.new (sums.AreSums events.now hour) }
+    ensures kept { OnOk result (IsSome kept.new) }
+    ensures current { IfSome kept.new (sums.AreCurrent events.now) }
+{
+    let summed = sum_up(alloc, events, hour, kept.take())?;
+    *kept = Some(summed);
+    Ok(())
 }
 
 /// The sums of an hour over all events: those that are given, with the events that have come since, or

@@ -4,7 +4,7 @@ use Rattle.plain_matching.specs.Grown.{Grew}
 use Rattle.plain_market.proofs.Fitting.{can-part, can-zone, taken-legal}
 use Rattle.plain_market.proofs.Growing.{goes-back}
 use Rattle.plain_market.proofs.Judged.{order-found}
-use Rattle.plain_market.proofs.Kept.{kept-back, kept-without}
+use Rattle.plain_market.proofs.Kept.{kept-back, kept-grew, kept-without}
 use Rattle.plain_orders.specs.Tallies.{AreSums}
 use Rattle.plain_market.proofs.Parts.{IsTaken, entered-is, few-in, taken, taken-back, taken-few, taken-grew}
 use Rattle.plain_market.proofs.entering.enter.Goals as goal
@@ -64,11 +64,10 @@ returns-clause-entered c =
     (c.in_ok-refusal.ensures.kept (ap Ok c.in-None.is) ∙ c.in_ok-name.ensures.ok) c.in_ok-name.ensures.name c.in_ok-finish-in-None.ensures.ok
 
 pub enter_and_take-requires-clause-summed : goal.enter_and_take-requires-clause-summed
-enter_and_take-requires-clause-summed c = record {
-  orders_are = subst (λ o. IfSome o (AreSums c.args.events.now c.args.order.now.contract.hour)) (sym c.take.ensures.taken)
-      (c.requires.summed.each c.args.order.now.contract.hour);
-  capacity_is = tt;
-}
+enter_and_take-requires-clause-summed c =
+    c.of-sums.ensures.summed c.args.grid.now c.args.events.now c.args.order.now.contract.hour
+    (subst (λ o. IfSome o (AreSums c.args.events.now c.args.order.now.contract.hour)) (sym c.take.ensures.taken)
+    (c.requires.summed.each c.args.order.now.contract.hour))
 
 pub returns-in_err-name-clause-summed : goal.returns-in_err-name-clause-summed
 returns-in_err-name-clause-summed c =
@@ -81,6 +80,14 @@ returns-in_err-refusal-clause-summed c =
     taken-grew c.args.grid.now c.args.events.now c.args.caller c.args.order.now _ c.enter_and_take.new.events c.refusal_after.new.events c.in_ok-name.name
     (length c.as_slice-before.result.now + 1) refl (its_taking (goal.at.returns-in_err-refusal-clause-summed c).In_ok-name) c.refusal_after.ensures.cut in
     kept-without c.args.events.now c.refusal_after.new.events c.args.kept.now c.take.new.self c.args.order.now.contract.hour c.take.ensures.left grown c.requires.summed
+
+pub returns-in_err-finish-in-None-clause-summed : goal.returns-in_err-finish-in-None-clause-summed
+returns-in_err-finish-in-None-clause-summed c =
+    let grown : Grew c.args.events.now c.refusal_after.new.events =
+    taken-grew c.args.grid.now c.args.events.now c.args.caller c.args.order.now _ c.enter_and_take.new.events c.refusal_after.new.events c.in_ok-name.name
+    (length c.as_slice-before.result.now + 1) refl (its_taking (goal.at.returns-in_err-finish-in-None-clause-summed c).In_ok-name) c.refusal_after.ensures.cut in
+    kept-grew c.refusal_after.new.events c.finish.new.events c.take.new.self c.in_err-finish-in-None.ensures.err
+    (kept-without c.args.events.now c.refusal_after.new.events c.args.kept.now c.take.new.self c.args.order.now.contract.hour c.take.ensures.left grown c.requires.summed)
 
 pub returns-in-Some-clause-summed : goal.returns-in-Some-clause-summed
 returns-in-Some-clause-summed c =

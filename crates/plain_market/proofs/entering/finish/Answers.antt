@@ -9,10 +9,11 @@ use Rattle.plain_market.proofs.entering.finish.Goals as goal
 
 pub sweep-requires : goal.sweep-requires
 sweep-requires c =
-    let sums : HourSums = record { orders = c.withdraw_rest.new.sums; capacity = c.args.sums.now.capacity } in
+    let sums : HourSums = record { orders = c.withdraw_rest.new.sums; capacity = c.args.sums.now.capacity; listed = c.args.sums.now.listed } in
     let summed : AreHourSums c.args.grid.now c.args.events.now c.args.order.now.contract.hour sums = record {
       orders_are = subst (λ hour. IfSome c.withdraw_rest.new.sums (AreSums c.args.events.now hour)) c.requires.hour c.withdraw_rest.ensures.summed;
       capacity_is = c.requires.summed.capacity_is;
+      listed_are = c.requires.summed.listed_are;
     } in record {
       legal = subst (IsLegalOver c.args.grid.now) (sym c.in_ok-withdraw_rest.ensures.ok)
           (rested-legal c.args.grid.now c.args.events.now c.args.order.now.kind c.args.name c.zones-zones.ensures.grid.is_graph c.requires.legal);

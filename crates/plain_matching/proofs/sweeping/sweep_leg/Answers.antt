@@ -3,4 +3,4 @@ use Rattle.plain_matching.proofs.sweeping.sweep_leg.Goals as goal
 
 pub returns-clause-leg : goal.returns-clause-leg
 unfolding sweep_leg
-returns-clause-leg c = c.leg_in_parts.ensures.leg
+returns-clause-leg c = c.in_ok-leg.ensures.leg
