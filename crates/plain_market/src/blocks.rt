@@ -8,18 +8,20 @@ ghost use Rattle.market_model.specs.Refusals.{block_desk_refusal, has_desk_room 
 ghost use Rattle.market_model.specs.Sweep.{all_parts};
 ghost use Rattle.plain_matching.specs.BlockEntering.{CanEnterBlock};
 ghost use Rattle.plain_matching.specs.Grown.{Grew};
+ghost use Rattle.plain_orders.specs.DaySums.{AreDaySums};
 ghost use Rattle.plain_orders.specs.Histories.{IsSomeHistory};
 
 use event_history::History;
 use market_model::{BlockOrder, NoMemory, OrderName, Refusal};
 use plain_matching::{cut_back, sweeps, take_block};
-use plain_orders::{has_desk_room, next_name};
+use plain_orders::{DaySums, has_desk_room, next_name};
 use std::alloc::Global;
 use zone_graph::Grid;
 
 /// Enters a block, unless it finds no partner and has no room on the desk of its first hour: its
 /// entry, the legs with its partner and the sweeps of its hours go to the end of the events. It answers
-/// why the block is refused; the events are then as they were.
+/// why the block is refused; the events are then as they were. The sums that are kept of the orders of each
+/// hour serve the sweeps.
 ///
 /// # Errors
 ///
@@ -29,15 +31,18 @@ pub(crate) fn enter_block(
     alloc: Global,
     grid: &Grid,
     events: &mut History,
+    sums: &mut DaySums,
     caller: u32,
     order: &BlockOrder,
 ) -> Result<Option<Refusal>, NoMemory>
     requires can { CanEnterBlock grid.now events.old caller order.now }
     requires few { entered_count events.old < 2 ^ 32 - 1 }
+    requires summed { AreDaySums events.old sums.old }
     ensures refusal { IfOk result (λ refusal. refusal ≡ block_desk_refusal grid.now events.old caller order.now) }
     ensures done { result ≡ Ok None → events.new ≡ events.old ++ market.enter_block all_parts grid.now caller order.now events.old }
     ensures kept { (refusal : TheRefusal) → result ≡ Ok (Some refusal) → events.new ≡ events.old }
     ensures err { OnErr result (Grew events.old events.new) }
+    ensures summed { AreDaySums events.new sums.new }
 {
     let zones = grid.zones();
     prove!(zones <= 64);
@@ -45,7 +50,7 @@ pub(crate) fn enter_block(
     let name = next_name(events, order.first);
     let found = take_block(alloc, grid, events, caller, order)?;
     if may_stay(alloc, events, name, found)? {
-        sweeps(alloc, grid, events, order.first, order.last)?;
+        sweeps(alloc, grid, events, sums, order.first, order.last)?;
         Ok(None)
     } else {
         cut_back(events, before);

@@ -14,6 +14,7 @@ ghost use Rattle.market_model.specs.LetIn.{IsNoEntry};
 ghost use Rattle.plain_matching.specs.BlockEntering.{IsHistoryOver};
 ghost use Rattle.plain_market.specs.Borders as borders;
 ghost use Rattle.plain_matching.specs.Grown.{Grew};
+ghost use Rattle.plain_orders.specs.DaySums.{AreDaySums};
 ghost use Rattle.plain_orders.specs.Histories.{IsSomeHistory};
 
 use crate::border_events::{BorderEvent, border_event};
@@ -21,12 +22,12 @@ use crate::gates::move_hour;
 use event_history::History;
 use market_model::{Command, Event, NoMemory, OrderName, Setup};
 use plain_matching::{match_deals, sweeps};
-use plain_orders::left;
+use plain_orders::{DaySums, left};
 use std::alloc::Global;
 use zone_graph::Grid;
 
 /// Carries out a command that no rule refuses and that enters nothing: what it brings about goes to
-/// the end of the events.
+/// the end of the events. The sums that are kept of the orders of each hour serve the sweeps.
 ///
 /// # Errors
 ///
@@ -37,18 +38,21 @@ pub(crate) fn change(
     grid: &Grid,
     setup: &Setup,
     events: &mut History,
+    kept: &mut DaySums,
     command: &Command,
 ) -> Result<(), NoMemory>
     requires grid { grid.now ≡ graph_of setup.now }
     requires history { IsHistory setup.now events.old }
+    requires summed { AreDaySums events.old kept.old }
     requires after { (caller : ℕ) → IsHistory setup.now (events.old ++ market.events_done all_parts setup.now events.old caller command.now) }
     requires no_entry { IsNoEntry command.now }
     ensures ok { (caller : ℕ) → OnOk result (events.new ≡ events.old ++ market.events_done all_parts setup.now events.old caller command.now) }
     ensures err { OnErr result (Grew events.old events.new) }
+    ensures summed { AreDaySums events.new kept.new }
 {
     match border_event(grid, command) {
-        Some(happening) => then_sweeps(alloc, grid, events, happening),
-        None => change_others(alloc, grid, setup, events, command),
+        Some(happening) => then_sweeps(alloc, grid, events, kept, happening),
+        None => change_others(alloc, grid, setup, events, kept, command),
     }
 }
 
@@ -57,14 +61,17 @@ fn then_sweeps(
     alloc: Global,
     grid: &Grid,
     events: &mut History,
+    kept: &mut DaySums,
     happening: BorderEvent,
 ) -> Result<(), NoMemory>
     requires legal { IsLegalOver grid.now (and_then events.old happening.event) }
+    requires summed { AreDaySums events.old kept.old }
     ensures ok { OnOk result (events.new ≡ events.old ++ market.then_sweeps all_parts grid.now (hours_from happening.first happening.last) events.old happening.event) }
     ensures err { OnErr result (Grew events.old events.new) }
+    ensures summed { AreDaySums events.new kept.new }
 {
     events.push(happening.event)?;
-    sweeps(alloc, grid, events, happening.first, happening.last)
+    sweeps(alloc, grid, events, kept, happening.first, happening.last)
 }
 
 // The same for commands that make no event on a border.
@@ -73,20 +80,23 @@ fn change_others(
     grid: &Grid,
     setup: &Setup,
     events: &mut History,
+    kept: &mut DaySums,
     command: &Command,
 ) -> Result<(), NoMemory>
     requires grid { grid.now ≡ graph_of setup.now }
     requires history { IsHistory setup.now events.old }
+    requires summed { AreDaySums events.old kept.old }
     requires after { (caller : ℕ) → IsHistory setup.now (events.old ++ market.events_done all_parts setup.now events.old caller command.now) }
     requires no_entry { IsNoEntry command.now }
     requires no_border { borders.border_event grid.now command.now ≡ None }
     ensures ok { (caller : ℕ) → OnOk result (events.new ≡ events.old ++ market.events_done all_parts setup.now events.old caller command.now) }
     ensures err { OnErr result (Grew events.old events.new) }
+    ensures summed { AreDaySums events.new kept.new }
 {
     match command {
         Command::Cancel { name } => withdraw(events, *name),
         Command::Reduce { name, to } => reduce(events, *name, *to),
-        Command::Blocks { first, last } => match_blocks(alloc, grid, events, *first, *last),
+        Command::Blocks { first, last } => match_blocks(alloc, grid, events, kept, *first, *last),
         Command::Gate { hour, phase } => move_hour(alloc, grid, events, *hour, *phase),
         _ => Ok(()),
     }
@@ -97,17 +107,20 @@ fn match_blocks(
     alloc: Global,
     grid: &Grid,
     events: &mut History,
+    kept: &mut DaySums,
     first: u32,
     last: u32,
 ) -> Result<(), NoMemory>
     requires history { IsHistoryOver grid.now events.old }
+    requires summed { AreDaySums events.old kept.old }
     ensures ok { OnOk result (events.new ≡ events.old ++ blocks.match_blocks all_parts grid.now first last events.old) }
     ensures err { OnErr result (Grew events.old events.new) }
+    ensures summed { AreDaySums events.new kept.new }
 {
     let zones = grid.zones();
     prove!(zones <= 64);
     match_deals(alloc, grid, events, first, last)?;
-    sweeps(alloc, grid, events, first, last)
+    sweeps(alloc, grid, events, kept, first, last)
 }
 
 // Withdraws all that is left of an order or block.

@@ -156,9 +156,9 @@ fn carry_out(
         Command::EnterBasket { orders } => {
             enter_basket(alloc, grid, events, caller, orders.as_slice())
         }
-        Command::EnterBlock { order } => enter_block(alloc, grid, events, caller, order),
+        Command::EnterBlock { order } => enter_block(alloc, grid, events, sums, caller, order),
         _ => {
-            change(alloc, grid, setup, events, command)?;
+            change(alloc, grid, setup, events, sums, command)?;
             Ok(None)
         }
     }

@@ -11,6 +11,7 @@ ghost use Rattle.zone_graph.specs.Rooms.{room_of};
 ghost use Rattle.market_model.specs.Sweep as market;
 ghost use Rattle.market_model.specs.WellFormed.{IsLegalOver};
 ghost use Rattle.plain_capacity.specs.Sums.{AreCapacitySums};
+ghost use Rattle.plain_orders.specs.DaySums.{AreDaySums};
 ghost use Rattle.plain_orders.specs.Listed as listed;
 ghost use Rattle.plain_matching.specs.Grown.{Grew, GrewByPart};
 ghost use Rattle.plain_matching.specs.Over as over;
@@ -22,7 +23,7 @@ use crate::trade::resting_trade;
 use event_history::History;
 use market_model::{Contract, Event, NoMemory, Part, Price, Side};
 use plain_capacity::{CapacitySums, contract_rooms_over};
-use plain_orders::{StandingOrder, best_prices, line};
+use plain_orders::{DaySums, StandingOrder, best_prices, line};
 use std::alloc::Global;
 use zone_graph::{Grid, Rooms};
 
@@ -56,7 +57,8 @@ pub fn sweep(
     Ok(())
 }
 
-/// Sweeps the hours from the first to the last, one after the other.
+/// Sweeps the hours from the first to the last, one after the other. The sums that are kept of the orders of
+/// each hour take in the events that have come since, and are kept again once it is swept.
 ///
 /// # Errors
 ///
@@ -66,17 +68,41 @@ pub fn sweeps(
     alloc: Global,
     grid: &Grid,
     events: &mut History,
+    kept: &mut DaySums,
     first: u32,
     last: u32,
 ) -> Result<(), NoMemory>
     requires legal { IsLegalOver grid.now events.old }
+    requires summed { AreDaySums events.old kept.old }
     ensures ok { OnOk result (events.new ≡ events.old ++ market.sweeps market.all_parts grid.now (hours_from first last) events.old) }
     ensures err { OnErr result (Grew events.old events.new) }
     ensures legal { IsLegalOver grid.now events.new }
+    ensures summed { AreDaySums events.new kept.new }
 {
     for hour in first..=last {
-        sweep(alloc, grid, events, &mut HourSums::none(), hour)?;
+        sweep_kept(alloc, grid, events, kept, hour)?;
     }
+    Ok(())
+}
+
+// Sweeps an hour, of which the sums of the orders may be kept.
+fn sweep_kept(
+    alloc: Global,
+    grid: &Grid,
+    events: &mut History,
+    kept: &mut DaySums,
+    hour: u32,
+) -> Result<(), NoMemory>
+    requires legal { IsLegalOver grid.now events.old }
+    requires summed { AreDaySums events.old kept.old }
+    ensures ok { OnOk result (events.new ≡ events.old ++ market.sweep market.all_parts grid.now hour events.old) }
+    ensures err { OnErr result (GrewByPart (market.sweep market.all_parts grid.now hour events.old) events.old events.new) }
+    ensures legal { IsLegalOver grid.now events.new }
+    ensures summed { AreDaySums events.new kept.new }
+{
+    let mut sums = HourSums::of(kept.take(hour));
+    sweep(alloc, grid, events, &mut sums, hour)?;
+    kept.put(hour, sums.orders.take());
     Ok(())
 }
 

@@ -38,4 +38,5 @@ returns-in_default c = record {
       (ap (λ g. border_event g c.args.command.now) (sym c.requires.grid) ∙ c.requires.no_border)
       c.in_default.not-Cancel c.in_default.not-Reduce c.in_default.not-Blocks c.in_default.not-Gate));
   err = tt;
+  summed = c.requires.summed;
 }

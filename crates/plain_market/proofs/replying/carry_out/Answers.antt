@@ -8,7 +8,7 @@ use Rattle.market_model.specs.LetIn.{IsLetIn}
 use Rattle.plain_market.specs.Entering.{CanEnter}
 use Rattle.plain_market.proofs.Admitting.{basket-done, basket-enters, basket-good, block-done, block-enters, no_entry-history, order-done, order-enters}
 use Rattle.laws_of_market.proofs.Admitting.{is-no_entry}
-use Rattle.plain_market.proofs.Kept.{kept-after, kept-more}
+use Rattle.plain_market.proofs.Kept.{kept-after}
 use Rattle.plain_market.proofs.replying.carry_out.Goals as goal
 
 pub enter-requires-clause-can : goal.enter-requires-clause-can
@@ -42,6 +42,7 @@ change-requires c =
       after = no_entry-history c.args.setup.now (subst IsGraph c.requires.grid c.zones-zones.ensures.grid.is_graph) c.args.events.now c.args.caller c.args.command.now
           c.requires.history c.requires.let_in no_entry;
       no_entry = no_entry;
+      summed = c.requires.summed;
     }
 
 pub returns-in-Enter-clause-done : goal.returns-in-Enter-clause-done
@@ -65,12 +66,3 @@ pub returns-in-EnterBasket-clause-summed : goal.returns-in-EnterBasket-clause-su
 returns-in-EnterBasket-clause-summed c =
     kept-after c.enter_basket.result c.args.events.now c.enter_basket.new.events _ c.args.sums.now c.enter_basket.ensures.entered c.enter_basket.ensures.kept
     c.enter_basket.ensures.err c.requires.summed
-
-pub returns-in-EnterBlock-clause-summed : goal.returns-in-EnterBlock-clause-summed
-returns-in-EnterBlock-clause-summed c =
-    kept-after c.enter_block.result c.args.events.now c.enter_block.new.events _ c.args.sums.now c.enter_block.ensures.done c.enter_block.ensures.kept
-    c.enter_block.ensures.err c.requires.summed
-
-pub returns-in_ok-change-in_default-clause-summed : goal.returns-in_ok-change-in_default-clause-summed
-returns-in_ok-change-in_default-clause-summed c =
-    kept-more c.args.events.now c.change.new.events _ c.args.sums.now (c.in_ok-change-in_default.ensures.ok c.args.caller) c.requires.summed
