@@ -13,6 +13,7 @@ ghost use Rattle.market_model.specs.WellFormed.{IsLegalOver};
 ghost use Rattle.plain_capacity.specs.Sums.{AreCapacitySums};
 ghost use Rattle.plain_orders.specs.DaySums.{AreDaySums};
 ghost use Rattle.plain_orders.specs.Listed as listed;
+ghost use Rattle.plain_orders.specs.Prices.{AreBestOf};
 ghost use Rattle.plain_matching.specs.Grown.{Grew, GrewByPart};
 ghost use Rattle.plain_matching.specs.Over as over;
 ghost use Rattle.plain_matching.specs.Summed.{AreHourSums, HasOrders, StaysOrIsAfter};
@@ -23,7 +24,7 @@ use crate::trade::resting_trade;
 use event_history::History;
 use market_model::{Contract, Event, NoMemory, Part, Price, Side};
 use plain_capacity::{CapacitySums, contract_rooms_over};
-use plain_orders::{DaySums, StandingOrder, best_prices, line};
+use plain_orders::{BestPrices, DaySums, PartPrices, StandingOrder, line};
 use std::alloc::Global;
 use zone_graph::{Grid, Rooms};
 
@@ -142,7 +143,8 @@ fn sweep_leg(
     Ok(leg)
 }
 
-// The leg in the first of some parts of an hour that has one.
+// The leg in the first of some parts of an hour that has one. The best prices of all parts are found in one
+// pass over the orders.
 fn leg_in_parts(
     alloc: Global,
     grid: &Grid,
@@ -160,17 +162,19 @@ fn leg_in_parts(
     ensures summed { IfSome capacity.new (AreCapacitySums grid.now events.now hour) }
     ensures kept { IfOk result (λ leg. StaysOrIsAfter (leg ≡ None) (length events.now) capacity.old capacity.new) }
 {
+    let prices = PartPrices::of(orders, hour);
     for part in parts {
         let contract = Contract { hour, part: *part };
-        if let Some(leg) = leg_in(alloc, grid, events, capacity, orders, contract)? {
+        let best = prices.at(*part);
+        if let Some(leg) = leg_in(alloc, grid, events, capacity, orders, contract, best)? {
             return Ok(Some(leg));
         }
     }
     Ok(None)
 }
 
-// The leg of the first buy of a contract's line that has a partner. Where the best prices of the contract
-// do not cross, no line is made. The capacity of the hour is summed up where it is asked for.
+// The leg of the first buy of a contract's line that has a partner. Where the best prices of the contract,
+// which these are, do not cross, no line is made. The capacity of the hour is summed up where it is asked for.
 fn leg_in(
     alloc: Global,
     grid: &Grid,
@@ -178,9 +182,11 @@ fn leg_in(
     capacity: &mut Option<CapacitySums>,
     orders: &[StandingOrder],
     contract: Contract,
+    best: BestPrices,
 ) -> Result<Option<Event>, NoMemory>
     requires legal { IsLegalOver grid.now events.now }
     requires orders { orders.now ≡ listed.open_orders events.now contract.hour }
+    requires best { AreBestOf orders.now contract best }
     requires part { contracts.is_known contract.part ≡ true }
     requires summed { IfSome capacity.old (AreCapacitySums grid.now events.now contract.hour) }
     ensures leg { IfOk result (λ leg. leg ≡ market.leg_in grid.now events.now contract) }
@@ -189,8 +195,7 @@ fn leg_in(
 {
     let zones = grid.zones();
     prove!(zones <= 64);
-    let (best_buy, best_sell) = best_prices(orders, contract);
-    if !best_cross(best_buy, best_sell) {
+    if !best_cross(best.buy, best.sell) {
         return Ok(None);
     }
     let buys = line(alloc, orders, contract, Side::Buy)?;
@@ -202,7 +207,7 @@ fn leg_in(
         &rooms,
         buys.as_slice(),
         sells.as_slice(),
-        best_sell,
+        best.sell,
     )
 }
 

@@ -11,3 +11,4 @@ pub mod Tells
 pub mod Kept
 pub mod Growing
 pub mod Placing
+pub mod Prices

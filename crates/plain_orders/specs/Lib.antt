@@ -3,4 +3,5 @@ pub mod DaySums
 pub mod Histories
 pub mod Listed
 pub mod Owned
+pub mod Prices
 pub mod Tallies

@@ -13,6 +13,7 @@ mod hour;
 mod lines;
 mod naming;
 mod owning;
+mod part_prices;
 mod placed;
 mod standing;
 mod sums;
@@ -20,13 +21,12 @@ mod tally;
 
 pub use day_sums::DaySums;
 pub use hour::{blocks_of, open_names, open_orders, open_orders_over, withdrawals};
-pub use lines::{
-    best_price, best_prices, block_line, block_lines_are_of_blocks, line, lines_are_of_orders,
-};
+pub use lines::{best_price, block_line, block_lines_are_of_blocks, line, lines_are_of_orders};
 pub use naming::{next_name, next_name_over};
 pub use owning::{
     DESK_ROOM, has_desk_room, has_desk_room_over, has_own, open_block, open_order, own_limit,
 };
+pub use part_prices::{BestPrices, PartPrices};
 pub use placed::{PlacedBlock, PlacedOrder};
 pub use standing::{StandingBlock, StandingOrder};
 pub use sums::{left, left_over};

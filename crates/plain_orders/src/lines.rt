@@ -50,24 +50,9 @@ pub fn best_price(orders: &[StandingOrder], contract: Contract, side: Side) -> O
     best
 }
 
-/// The best prices of the lines of a contract, that of its buys and that of its sells. The orders are passed
-/// over once, and no line is made.
-pub fn best_prices(orders: &[StandingOrder], contract: Contract) -> (Option<Price>, Option<Price>)
-    ensures buy { result.0 ≡ listed.best_price orders.now contract Side.Buy }
-    ensures sell { result.1 ≡ listed.best_price orders.now contract Side.Sell }
-{
-    let mut buy = None;
-    let mut sell = None;
-    for order in orders {
-        buy = best_with(order, contract, Side::Buy, buy);
-        sell = best_with(order, contract, Side::Sell, sell);
-    }
-    (buy, sell)
-}
-
-// The best price of a line so far, with an order that may be of it.
+/// The best price of a line so far, with an order that may be of it.
 #[inline(always)]
-fn best_with(
+pub(crate) fn best_with(
     order: &StandingOrder,
     contract: Contract,
     side: Side,

@@ -10,9 +10,9 @@ use Rattle.plain_matching.proofs.sweeping.leg_in.Goals as goal
 
 pub returns-then-not-best_cross-clause-leg : goal.returns-then-not-best_cross-clause-leg
 returns-then-not-best_cross-clause-leg c =
-    sym (no_crossing c.args.grid.now c.args.events.now c.args.contract c.best_prices-best_buy.result.0 c.best_prices-best_buy.result.1
-    (c.best_prices-best_buy.ensures.buy ∙ ap first_price (lines-are c.args.grid.now c.args.events.now c.args.orders.now c.args.contract Buy c.requires.legal c.requires.orders))
-    (c.best_prices-best_buy.ensures.sell ∙ ap first_price (lines-are c.args.grid.now c.args.events.now c.args.orders.now c.args.contract Sell c.requires.legal c.requires.orders))
+    sym (no_crossing c.args.grid.now c.args.events.now c.args.contract c.args.best.buy c.args.best.sell
+    (c.requires.best.buy ∙ ap first_price (lines-are c.args.grid.now c.args.events.now c.args.orders.now c.args.contract Buy c.requires.legal c.requires.orders))
+    (c.requires.best.sell ∙ ap first_price (lines-are c.args.grid.now c.args.events.now c.args.orders.now c.args.contract Sell c.requires.legal c.requires.orders))
     (sym c.if-not-best_cross.ensures))
 
 pub first_leg-requires-clause-buys : goal.first_leg-requires-clause-buys
@@ -28,7 +28,7 @@ first_leg-requires-clause-sides c =
 pub first_leg-requires-clause-best : goal.first_leg-requires-clause-best
 first_leg-requires-clause-best c =
     let are = lines-are c.args.grid.now c.args.events.now c.args.orders.now c.args.contract Sell c.requires.legal c.requires.orders in
-    subst (λ best. IsBestOfSells best c.as_slice-2.result.now) (sym (c.best_prices-best_buy.ensures.sell ∙ ap first_price are))
+    subst (λ best. IsBestOfSells best c.as_slice-2.result.now) (sym (c.requires.best.sell ∙ ap first_price are))
     (subst (IsBestOfSells (first_price (line c.args.events.now c.args.contract Sell))) (sym (c.as_slice-2.ensures.value ∙ c.in_ok-sells.ensures ∙ are))
     (best-sell c.args.events.now c.args.contract))
 
