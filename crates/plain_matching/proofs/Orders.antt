@@ -25,7 +25,7 @@ use Rattle.laws_of_market.proofs.Trades.{from_line}
 use Rattle.laws_of_market.proofs.Restrict.{find-filter}
 use Rattle.plain_orders.specs.Listed.{is_order_of, line_of, open_orders, stands_open}
 use Rattle.plain_orders.proofs.LineLaws.{line-of_orders}
-use Rattle.plain_matching.specs.Over.{AreInZones, AreRoomsFor, is_open_as}
+use Rattle.plain_matching.specs.Over.{AreInZones, is_open_as, other_line}
 
 -- who is open under a name is found among the orders of the name's hour
 pub open_as-is : (events : List Event) (name : OrderName) → find (is_open_as name) (open_orders events name.hour) ≡ standing_order events name
@@ -95,28 +95,18 @@ pub own-sound : (graph : Graph) (events : List Event) (orders : List Standing) (
 own-sound graph events orders own legal same i =
     order-sound graph events own.order.contract.hour own legal (subst (λ os. IsIn own os) same i)
 
--- what an order finds its partner in: the rooms of its contract and the line of the other side
-pub record IsReady (graph : Graph) (events : List Event) (own : Standing) (others : List Standing) (made : List (ℕ × ℕ)) : Type 0 where
-  pub are : AreRoomsFor graph events own.order.contract made
-  pub line_is : others ≡ line events own.order.contract (opposite own.order.side)
-  pub in_zones : AreInZones graph others
-
 -- the line in which an order seeks its partner
-pub other_line-is : (graph : Graph) (events : List Event) (orders : List Standing) (own : Standing) (order : Order) (side : Side) (found others : List Standing)
-    → IsLegalOver graph events → orders ≡ open_orders events own.order.contract.hour → order ≡ own.order → side ≡ opposite order.side
-    → found ≡ line_of orders order.contract side → others ≡ found → others ≡ line events own.order.contract (opposite own.order.side)
-other_line-is graph events orders own order side found others legal same of_order of_side is_found are_others =
-    are_others ∙ is_found ∙ ap (λ s. line_of orders order.contract s) of_side
-    ∙ ap (λ (o : Order). line_of orders o.contract (opposite o.side)) of_order
-    ∙ lines-are graph events orders own.order.contract (opposite own.order.side) legal same
+pub other_line-is : (graph : Graph) (events : List Event) (orders : List Standing) (own : Standing) → IsLegalOver graph events
+    → orders ≡ open_orders events own.order.contract.hour → other_line orders own ≡ line events own.order.contract (opposite own.order.side)
+other_line-is graph events orders own legal same = lines-are graph events orders own.order.contract (opposite own.order.side) legal same
 
-pub ready : (graph : Graph) (events : List Event) (orders : List Standing) (own : Standing) (order : Order) (side : Side) (found others : List Standing)
-    (made : List (ℕ × ℕ)) → IsLegalOver graph events → orders ≡ open_orders events own.order.contract.hour → order ≡ own.order → side ≡ opposite order.side
-    → found ≡ line_of orders order.contract side → others ≡ found → AreRoomsFor graph events order.contract made → IsReady graph events own others made
-ready graph events orders own order side found others made legal same of_order of_side is_found are_others are =
-    let line_is = other_line-is graph events orders own order side found others legal same of_order of_side is_found are_others in
-    record {
-      are = subst (λ (o : Order). AreRoomsFor graph events o.contract made) of_order are;
-      line_is = line_is;
-      in_zones = subst (AreInZones graph) (sym line_is) (line-zones graph events own.order.contract (opposite own.order.side) legal);
-    }
+pub other_line-zones : (graph : Graph) (events : List Event) (orders : List Standing) (own : Standing) → IsLegalOver graph events
+    → orders ≡ open_orders events own.order.contract.hour → AreInZones graph (other_line orders own)
+other_line-zones graph events orders own legal same =
+    subst (AreInZones graph) (sym (other_line-is graph events orders own legal same)) (line-zones graph events own.order.contract (opposite own.order.side) legal)
+
+-- the same line, with what the order was entered with under another name
+pub other_line-by : (orders : List Standing) (own : Standing) (order : Order) (side : Side) → order ≡ own.order → side ≡ opposite order.side
+    → line_of orders order.contract side ≡ other_line orders own
+other_line-by orders own order side of_order of_side =
+    ap (line_of orders order.contract) of_side ∙ ap (λ (o : Order). line_of orders o.contract (opposite o.side)) of_order

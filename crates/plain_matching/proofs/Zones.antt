@@ -1,7 +1,6 @@
 -- The zones of the two orders of a trade, and what is in reach.
-use Rattle.std.proofs.Common.{◌≡◌, ◌∙◌, ℕ, ◌&&◌, Bool, false, List, Option, Some, None, refl, ap}
+use Rattle.std.proofs.Common.{◌≡◌, ◌∙◌, ℕ, ◌&&◌, false, List, Option, Some, None, refl, ap}
 use Rattle.std.specs.List.{find, list_any}
-use Rattle.order_kinds.specs.declared.order.Order.{Order}
 use Rattle.order_kinds.specs.declared.side.Side.{Side}
 use Rattle.order_kinds.specs.declared.side.Side.TheVariants.{Buy, Sell}
 use Rattle.zone_graph.specs.declared.route.Arc.{Arc}
@@ -30,16 +29,12 @@ reached-is graph room own other = by own.order.side
     by Sell = refl
 
 -- the first order in reach is the partner
-pub found-partner : (graph : Graph) (room : Arc → ℕ) (distances : List (Option ℕ)) (line : List Standing) (own : Standing) (order : Order) (towards : Bool)
-    → order ≡ own.order → towards ≡ is_buy order.side → IsGraph graph → AreDistances graph (directed_room room towards) order.zone distances
-    → find (is_in_reach distances own) line ≡ partner_in graph room line own
-found-partner graph room distances line own order towards of_order of_side is are =
+pub found-partner : (graph : Graph) (room : Arc → ℕ) (distances : List (Option ℕ)) (line : List Standing) (own : Standing) → IsGraph graph
+    → AreDistances graph (directed_room room (is_buy own.order.side)) own.order.zone distances → find (is_in_reach distances own) line ≡ partner_in graph room line own
+found-partner graph room distances line own is are =
     find-same (is_in_reach distances own) (can_trade graph room own) line
-    (λ other i. ap (λ b. crosses_price own other && b) (
-    distance_tells graph room order.zone towards distances other.order.zone is are
-    ∙ ap (λ t. reaches_in graph room other.order.zone order.zone t) of_side
-    ∙ ap (λ (o : Order). reaches_in graph room other.order.zone o.zone (is_buy o.side)) of_order
-    ∙ reached-is graph room own other))
+    (λ other i. ap (λ b. crosses_price own other && b)
+    (distance_tells graph room own.order.zone (is_buy own.order.side) distances other.order.zone is are ∙ reached-is graph room own other))
 
 -- there is no partner where no price crosses
 pub no_partner : (graph : Graph) (room : Arc → ℕ) (line : List Standing) (own : Standing) → list_any (crosses_price own) line ≡ false

@@ -11,7 +11,7 @@ use Rattle.order_kinds.specs.declared.side.Side.{Side}
 use Rattle.order_kinds.specs.declared.side.Side.TheVariants.{Buy, Sell}
 use Rattle.order_kinds.specs.Period.{contract_quarters}
 use Rattle.order_kinds.specs.Same.{same_name}
-use Rattle.order_kinds.specs.Side.{crosses}
+use Rattle.order_kinds.specs.Side.{crosses, opposite}
 use Rattle.zone_graph.specs.declared.route.Arc.{Arc}
 use Rattle.zone_graph.specs.Graph.{Graph, HasArc, HasZone, border_count}
 use Rattle.zone_graph.specs.Rooms.{room_of}
@@ -22,6 +22,7 @@ use Rattle.market_model.specs.Orders.{Standing}
 use Rattle.market_model.specs.Room.{room}
 use Rattle.market_model.specs.Sweep.{first_answer, leg_in}
 use Rattle.market_model.specs.Taking.{leg_over, trade, ◌>>=◌}
+use Rattle.plain_orders.specs.Listed.{line_of}
 
 -- these are the rooms of a graph's arcs for a contract after some events
 pub record AreRoomsFor (graph : Graph) (events : List Event) (contract : Contract) (made : List (ℕ × ℕ)) : Type 0 where
@@ -66,6 +67,10 @@ is_in_reach distances own other = crosses_price own other && is_some (slice_inde
 abbrev pub is_buy : Side → Bool
 is_buy Buy = true
 is_buy Sell = false
+
+-- the line that some orders make and in which an order seeks its partner
+abbrev pub other_line : List Standing → (own : Standing) → List Standing
+other_line orders own = line_of orders own.order.contract (opposite own.order.side)
 
 -- the partner of an order in a line, over rooms
 abbrev pub partner_in : Graph → (Arc → ℕ) → List Standing → (own : Standing) → Option Standing

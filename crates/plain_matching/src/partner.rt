@@ -1,20 +1,23 @@
-//! The partner of an order in a line of the order book.
+//! The partner of an order: in a line of the order book, or among the orders that make one.
 
 ghost use Rattle.std.specs.Prelude.{◌≡◌, length};
 ghost use Rattle.std.specs.List.{find};
+ghost use Rattle.order_kinds.specs.Side.{opposite};
 ghost use Rattle.zone_graph.specs.Graph.{HasZone, border_count};
+ghost use Rattle.zone_graph.specs.Grid.{IsGrid};
 ghost use Rattle.zone_graph.specs.Rooms.{room_of};
+ghost use Rattle.cut_proof.specs.Distance.{AreDistances, directed_room};
+ghost use Rattle.plain_orders.specs.Listed as listed;
 ghost use Rattle.plain_matching.specs.Over as over;
 
 use crate::routes::is_reached;
-use cut_proof::distances;
+use cut_proof::{Distances, distances};
 use market_model::{Price, Side};
-use plain_orders::StandingOrder;
+use plain_orders::{StandingOrder, goes_first, is_in_line};
 use zone_graph::{Grid, Rooms};
 
-/// The partner of an order: the first of a line of the other side whose price crosses and to which a
-/// route over arcs with room leads, from the seller to the buyer. The rooms are those of the order's
-/// contract.
+/// The partner of an order in a line of the other side: the first whose price crosses and to which a route
+/// over arcs with room leads, from the seller to the buyer. The rooms are those of the order's contract.
 pub(crate) fn partner(
     grid: &Grid,
     rooms: &Rooms,
@@ -25,11 +28,36 @@ pub(crate) fn partner(
     requires own { HasZone grid.now own.now.order.zone }
     ensures { result ≡ over.partner_in grid.now (room_of rooms.now) line.now own.now }
 {
+    first_in_reach(&distances_of(grid, rooms, own), line, own)
+}
+
+/// The partner of an order among some orders, in whose line it is sought. They are passed over once, and no
+/// line is made. The rooms are those of the order's contract.
+pub(crate) fn partner_among(
+    grid: &Grid,
+    rooms: &Rooms,
+    orders: &[StandingOrder],
+    own: &StandingOrder,
+) -> Option<StandingOrder>
+    requires size { length rooms.now ≡ border_count grid.now }
+    requires own { HasZone grid.now own.now.order.zone }
+    ensures { result ≡ over.partner_in grid.now (room_of rooms.now) (over.other_line orders.now own.now) own.now }
+{
+    first_among(&distances_of(grid, rooms, own), orders, own)
+}
+
+// How far each zone is over arcs with room on the way between its orders and an order, from the seller to the
+// buyer.
+fn distances_of(grid: &Grid, rooms: &Rooms, own: &StandingOrder) -> Distances
+    requires size { length rooms.now ≡ border_count grid.now }
+    requires own { HasZone grid.now own.now.order.zone }
+    ensures distances { AreDistances grid.now (directed_room (room_of rooms.now) (over.is_buy own.now.order.side)) own.now.order.zone result }
+    ensures grid { IsGrid grid.now }
+{
     let order = own.order();
     let count = grid.zones();
     prove!(order.zone < count);
-    let distances = distances(grid, rooms, order.zone, is_buy(order.side));
-    first_in_reach(&distances, line, own)
+    distances(grid, rooms, order.zone, is_buy(order.side))
 }
 
 // Whether an order is a buy.
@@ -57,6 +85,41 @@ pub(crate) fn best_cross(buy: Option<Price>, sell: Option<Price>) -> bool
         (Some(buy), Some(sell)) => Side::Buy.crosses(buy, sell),
         _ => false,
     }
+}
+
+// The first in priority among some orders of those of an order's contract and of the other side whose price
+// crosses and whose zone has a distance.
+fn first_among(
+    distances: &[Option<u32>],
+    orders: &[StandingOrder],
+    own: &StandingOrder,
+) -> Option<StandingOrder>
+    ensures { result ≡ find (over.is_in_reach distances.now own.now) (over.other_line orders.now own.now) }
+{
+    let mut first = None;
+    for other in orders {
+        if is_first(distances, own, other, &first) {
+            first = Some(*other);
+        }
+    }
+    first
+}
+
+// Whether an order is the first so far.
+#[inline(always)]
+fn is_first(
+    distances: &[Option<u32>],
+    own: &StandingOrder,
+    other: &StandingOrder,
+    first: &Option<StandingOrder>,
+) -> bool
+    ensures { result ≡ listed.is_first (over.is_in_reach distances.now own.now) own.now.order.contract (opposite own.now.order.side) other.now first.now }
+{
+    let order = own.order();
+    let side = order.side.opposite();
+    is_in_line(other, order.contract, side)
+        && is_in_reach(distances, own, other)
+        && goes_first(side, other, first)
 }
 
 // The first order of the line whose price crosses and whose zone has a distance.

@@ -13,12 +13,12 @@ ghost use Rattle.plain_matching.specs.Over as over;
 ghost use Rattle.plain_matching.specs.Summed.{AreHourSums, HasOrders, StaysOrIsAfter};
 
 use crate::hour_sums::HourSums;
-use crate::partner::{crosses_best, partner};
+use crate::partner::{crosses_best, partner_among};
 use crate::trade::trade;
 use event_history::History;
 use market_model::{Event, NoMemory, OrderName};
 use plain_capacity::{CapacitySums, contract_rooms_over};
-use plain_orders::{StandingOrder, best_price, left_over, line};
+use plain_orders::{StandingOrder, best_price, left_over};
 use std::alloc::Global;
 use zone_graph::Grid;
 
@@ -152,9 +152,8 @@ fn leg_with_partner(
     if !crosses_best(own, best_price(orders, order.contract, side)) {
         return Ok(None);
     }
-    let line = line(alloc, orders, order.contract, side)?;
     let rooms = contract_rooms_over(alloc, grid, events, capacity, order.contract)?;
-    match partner(grid, &rooms, line.as_slice(), own) {
+    match partner_among(grid, &rooms, orders, own) {
         Some(maker) => trade(alloc, grid, &rooms, own, &maker),
         None => Ok(None),
     }

@@ -52,7 +52,8 @@ module _ (contract : Contract) (side : Side) (orders : List Standing) (i : ℕ) 
   one-more : take (i + 1) orders ≡ take i orders ++ order ∷ []
   one-more = take_more orders i order within ∙ ap (λ o. take i orders ++ o ∷ []) (sym is)
 
-  more : filter here (take (i + 1) orders) ≡ filter here (take i orders) ++ cond (here order) (order ∷ []) []
+  -- the orders of a line with one more
+  pub more : filter here (take (i + 1) orders) ≡ filter here (take i orders) ++ cond (here order) (order ∷ []) []
   more = ap (filter here) one-more ∙ filter-append here (take i orders) (order ∷ [])
 
   -- the best price with one more order

@@ -1,5 +1,6 @@
 pub mod Best
 pub mod Changes
+pub mod First
 pub mod Found
 pub mod Histories
 pub mod LineLaws

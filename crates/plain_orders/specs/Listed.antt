@@ -1,5 +1,6 @@
 -- The orders and blocks of an hour as they stand, and the lines that they make.
-use Rattle.std.specs.Prelude.{◌≡◌, ℕ, Bool, ◌==◌, ◌&&◌, List, [], ◌∷◌, map, filter, nat_lt, Option, Some, None, if◌then◌else◌}
+use Rattle.std.specs.Prelude.{◌≡◌, ℕ, Bool, true, ◌==◌, ◌&&◌, List, [], ◌∷◌, map, filter, nat_lt, Option, Some, None, if◌then◌else◌}
+use Rattle.std.specs.Ordering.{is_lt}
 use Rattle.order_kinds.specs.declared.contract.Contract.{Contract}
 use Rattle.order_kinds.specs.declared.price.Price.{Price}
 use Rattle.order_kinds.specs.declared.side.Side.{Side}
@@ -78,6 +79,15 @@ better_of side price (Some best) = if prefers side price best then price else be
 -- the best price of a line so far, with an order that may be of it
 abbrev pub best_with : Contract → Side → Standing → Option Price → Option Price
 best_with contract side order best = if is_in_line contract side order then Some (better_of side order.price best) else best
+
+-- an order of a side has priority over the first one so far, if there is one
+abbrev pub goes_first : Side → Standing → Option Standing → Bool
+goes_first side order None = true
+goes_first side order (Some first) = is_lt (priority_cmp side order first)
+
+-- an order is the first of a line so far that meets a test
+abbrev pub is_first : (Standing → Bool) → Contract → Side → Standing → (so_far : Option Standing) → Bool
+is_first test contract side order so_far = is_in_line contract side order && (test order && goes_first side order so_far)
 
 -- the open orders of an hour make the lines of its contracts
 abbrev pub LinesAreOfOrders : Type 0

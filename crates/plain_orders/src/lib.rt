@@ -21,7 +21,10 @@ mod tally;
 
 pub use day_sums::DaySums;
 pub use hour::{blocks_of, open_names, open_orders, open_orders_over, withdrawals};
-pub use lines::{best_price, block_line, block_lines_are_of_blocks, line, lines_are_of_orders};
+pub use lines::{
+    best_price, block_line, block_lines_are_of_blocks, goes_first, is_in_line, line,
+    lines_are_of_orders,
+};
 pub use naming::{next_name, next_name_over};
 pub use owning::{
     DESK_ROOM, has_desk_room, has_desk_room_over, has_own, open_block, open_order, own_limit,

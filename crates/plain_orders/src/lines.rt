@@ -77,11 +77,23 @@ fn better_of(side: Side, price: Price, best: Option<Price>) -> Price
     }
 }
 
-// Whether an order is open, of a contract and on a side.
-fn is_in_line(order: &StandingOrder, contract: Contract, side: Side) -> bool
+/// Whether an order is open, of a contract and on a side: it is of that line.
+#[inline(always)]
+pub fn is_in_line(order: &StandingOrder, contract: Contract, side: Side) -> bool
     ensures { result ≡ listed.is_in_line contract side order.now }
 {
     order.left() > 0 && order.order().contract == contract && order.order().side == side
+}
+
+/// Whether an order of a side has priority over the first one so far, if there is one.
+#[inline(always)]
+pub fn goes_first(side: Side, order: &StandingOrder, first: &Option<StandingOrder>) -> bool
+    ensures { result ≡ listed.goes_first side order.now first.now }
+{
+    match first {
+        Some(first) => in_priority(side, order, first) == Ordering::Less,
+        None => true,
+    }
 }
 
 // How two orders of a side stand in priority.

@@ -6,5 +6,5 @@ use Rattle.plain_matching.proofs.partner.partner.Goals as goal
 pub returns : goal.returns
 returns c =
     c.first_in_reach.ensures
-    ∙ found-partner c.args.grid.now (room_of c.args.rooms.now) c.distances-distances.result c.args.line.now c.args.own.now c.order-order.result c.is_buy.result
-    c.order-order.ensures c.is_buy.ensures c.zones-count.ensures.grid.is_graph c.distances-distances.ensures
+    ∙ found-partner c.args.grid.now (room_of c.args.rooms.now) c.distances_of.result c.args.line.now c.args.own.now c.distances_of.ensures.grid.is_graph
+    c.distances_of.ensures.distances

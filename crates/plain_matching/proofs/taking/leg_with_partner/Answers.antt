@@ -3,26 +3,26 @@ use Rattle.order_kinds.specs.declared.order.Order.{Order}
 use Rattle.order_kinds.specs.Contract.{is_known}
 use Rattle.zone_graph.specs.Rooms.{room_of}
 use Rattle.market_model.specs.Lines.{partner}
-use Rattle.plain_orders.specs.Listed.{first_price, line_of}
-use Rattle.plain_matching.specs.Over.{partner_in}
+use Rattle.plain_orders.specs.Listed.{first_price}
+use Rattle.plain_matching.specs.Over.{AreRoomsFor, other_line, partner_in}
 use Rattle.plain_matching.proofs.Apart.{apart-leg}
 use Rattle.plain_matching.proofs.Here.{leg-here, no_partner-leg, partner-here}
-use Rattle.plain_matching.proofs.Orders.{IsReady, IsSoundOrder, other_line-is, own-sound, ready}
+use Rattle.plain_matching.proofs.Orders.{IsSoundOrder, other_line-by, other_line-is, other_line-zones, own-sound}
 use Rattle.plain_matching.proofs.Zones.{partner-known}
 use Rattle.plain_matching.proofs.taking.leg_with_partner.Goals as goal
-use Rattle.plain_matching.proofs.taking.leg_with_partner.Goals.{After-partner}
+use Rattle.plain_matching.proofs.taking.leg_with_partner.Goals.{After-partner_among}
 
--- what the partner is found in, and that it is the market's
-found_in : (c : After-partner) → IsReady c.args.grid.now c.args.events.now c.args.own.now c.as_slice.result.now c.in_ok-rooms.rooms
-found_in c =
-    ready c.args.grid.now c.args.events.now c.args.orders.now c.args.own.now c.order-order.result c.opposite-side.result c.in_ok-line.line.items c.as_slice.result.now
-    c.in_ok-rooms.rooms c.requires.legal c.requires.orders c.order-order.ensures c.opposite-side.ensures c.in_ok-line.ensures c.as_slice.ensures.value
+-- the rooms of its contract, and that the partner is the market's
+its_rooms : (c : After-partner_among) → AreRoomsFor c.args.grid.now c.args.events.now c.args.own.now.order.contract c.in_ok-rooms.rooms
+its_rooms c = subst (λ (o : Order). AreRoomsFor c.args.grid.now c.args.events.now o.contract c.in_ok-rooms.rooms) c.order-order.ensures
     (record { size = c.in_ok-rooms.ensures.size; rooms = c.in_ok-rooms.ensures.rooms })
 
-its_partner : (c : After-partner) → partner_in c.args.grid.now (room_of c.in_ok-rooms.rooms) c.as_slice.result.now c.args.own.now ≡ partner c.args.grid.now c.args.events.now c.args.own.now
+its_partner : (c : After-partner_among)
+    → partner_in c.args.grid.now (room_of c.in_ok-rooms.rooms) (other_line c.args.orders.now c.args.own.now) c.args.own.now ≡ partner c.args.grid.now c.args.events.now c.args.own.now
 its_partner c =
-    partner-here c.args.grid.now c.zones-zones.ensures.grid.is_graph c.args.events.now c.args.own.now.order.contract c.in_ok-rooms.rooms (found_in c).are
-    c.args.own.now c.as_slice.result.now refl (found_in c).line_is
+    partner-here c.args.grid.now c.zones-zones.ensures.grid.is_graph c.args.events.now c.args.own.now.order.contract c.in_ok-rooms.rooms (its_rooms c)
+    c.args.own.now (other_line c.args.orders.now c.args.own.now) refl
+    (other_line-is c.args.grid.now c.args.events.now c.args.orders.now c.args.own.now c.requires.legal c.requires.orders)
 
 pub prove-unreachable-requires : goal.prove-unreachable-requires
 prove-unreachable-requires c =
@@ -34,9 +34,8 @@ pub returns-then-not-crosses_best-clause-leg : goal.returns-then-not-crosses_bes
 returns-then-not-crosses_best-clause-leg c =
     apart-leg c.args.grid.now c.args.events.now c.args.own.now c.best_price.result
     (c.best_price.ensures
-    ∙ ap first_price (other_line-is c.args.grid.now c.args.events.now c.args.orders.now c.args.own.now c.order-order.result c.opposite-side.result
-    (line_of c.args.orders.now c.order-order.result.contract c.opposite-side.result) (line_of c.args.orders.now c.order-order.result.contract c.opposite-side.result)
-    c.requires.legal c.requires.orders c.order-order.ensures c.opposite-side.ensures refl refl))
+    ∙ ap first_price (other_line-by c.args.orders.now c.args.own.now c.order-order.result c.opposite-side.result c.order-order.ensures c.opposite-side.ensures
+    ∙ other_line-is c.args.grid.now c.args.events.now c.args.orders.now c.args.own.now c.requires.legal c.requires.orders))
     (sym c.if-not-crosses_best.ensures)
 
 pub contract_rooms_over-requires-clause-part : goal.contract_rooms_over-requires-clause-part
@@ -46,17 +45,17 @@ contract_rooms_over-requires-clause-part c =
 
 pub trade-requires-clause-maker : goal.trade-requires-clause-maker
 trade-requires-clause-maker c =
-    partner-known c.args.grid.now (room_of c.in_ok-rooms.rooms) c.as_slice.result.now c.args.own.now c.in-Some.maker
-    (found_in (goal.at.trade-requires-clause-maker c).After-partner).in_zones (sym c.in-Some.ensures)
+    partner-known c.args.grid.now (room_of c.in_ok-rooms.rooms) (other_line c.args.orders.now c.args.own.now) c.args.own.now c.in-Some.maker
+    (other_line-zones c.args.grid.now c.args.events.now c.args.orders.now c.args.own.now c.requires.legal c.requires.orders) (sym c.in-Some.ensures)
 
 pub returns-in-Some-clause-leg : goal.returns-in-Some-clause-leg
 returns-in-Some-clause-leg c =
-    let here = (goal.at.returns-in-Some-clause-leg c).After-partner in
+    let here = (goal.at.returns-in-Some-clause-leg c).After-partner_among in
     subst (λ v. IfOk c.trade.result (λ leg. leg ≡ v))
-    (leg-here c.args.grid.now c.zones-zones.ensures.grid.is_graph c.args.events.now c.args.own.now.order.contract c.in_ok-rooms.rooms (found_in here).are
+    (leg-here c.args.grid.now c.zones-zones.ensures.grid.is_graph c.args.events.now c.args.own.now.order.contract c.in_ok-rooms.rooms (its_rooms here)
     c.args.own.now c.in-Some.maker refl (sym (its_partner here) ∙ sym c.in-Some.ensures)) c.trade.ensures
 
 pub returns-clause-leg : goal.returns-clause-leg
 returns-clause-leg c =
     no_partner-leg c.args.grid.now c.args.events.now c.args.own.now
-    (sym (its_partner (goal.at.returns-clause-leg c).After-partner) ∙ sym c.in-None.ensures)
+    (sym (its_partner (goal.at.returns-clause-leg c).After-partner_among) ∙ sym c.in-None.ensures)
