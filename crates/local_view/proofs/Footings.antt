@@ -1,4 +1,6 @@
 -- What rows rest on, moved to another line and to other rooms.
+use Rattle.std.specs.Prelude.{Box}
+use Rattle.std.specs.Box.{box_value}
 use Rattle.std.proofs.Common.{Global, Vec, ◌≡◌, ◌≢◌, ◌∙◌, ◌⊎◌, ℕ, ◌+◌, ◌*◌, ◌%◌, ◌^◌, ◌<◌, ◌≤◌, ◌==◌, ◌&&◌, Bool, not, true, false, List, [], ◌∷◌, ◌++◌, drop, inl, inr, length, map, take, None, Option, Some, refl, set, slice_index_or, ap, subst, sym, arith}
 use Rattle.std.proofs.lemmas.Bool.{true≢false}
 use Rattle.std.proofs.lemmas.Bool.Decides.{eqb_tells}
@@ -332,7 +334,7 @@ over_listed old certificates list are graph side size flows over = record {
 }
 
 -- a footing with other ways over its borders
-pub over_ways : (old : Footing) (ways : Ways) (graph : Graph) (side : Side) → HasWays graph ways → IsOver graph side old → IsOver graph side (record old { ways = ways })
+pub over_ways : (old : Footing) (ways : Box Ways Global) (graph : Graph) (side : Side) → HasWays graph (box_value ways) → IsOver graph side old → IsOver graph side (record old { ways = ways })
 over_ways old ways graph side are over = record {
   side_is = over.side_is;
   ends_are = over.ends_are;
@@ -341,7 +343,7 @@ over_ways old ways graph side are over = record {
     count = over.sized.count;
     flows = over.sized.flows;
     orders_in = over.sized.orders_in;
-    ways_are = λ other same. ways-over graph other (same ∙ over.ends_are) ways are;
+    ways_are = λ other same. ways-over graph other (same ∙ over.ends_are) (box_value ways) are;
   };
 }
 

@@ -1,6 +1,7 @@
 -- What the rows of a line's zones rest on.
 use Rattle.std.specs.Prelude.{◌≡◌, ℕ, ◌<◌, Bool, false, true, List, [], get_or, length, map, IfSome, None, Option, Some}
 use Rattle.order_kinds.specs.declared.side.Side.{Side}
+use Rattle.std.specs.Box.{box_value}
 use Rattle.cut_proof.specs.ZoneSet.{holds}
 use Rattle.zone_graph.specs.Graph.{Graph, HasZone, IsGraph, zone_count}
 use Rattle.zone_graph.specs.Rooms.{room_of}
@@ -59,7 +60,7 @@ pub record IsSized (zones : ℕ) (footing : Footing) : Type 0 where
   pub count : length footing.certificates.items ≡ zones
   pub flows : (zone : ℕ) → zone < zones → IsFlow (length footing.ends.items) (certificate_at footing.certificates.items zone).flow
   pub orders_in : (order : LineOrder) → IsIn order footing.orders.items → order.zone < zones
-  pub ways_are : (graph : Graph) → graph.borders ≡ footing.ends.items → HasWays graph footing.ways
+  pub ways_are : (graph : Graph) → graph.borders ≡ footing.ends.items → HasWays graph (box_value footing.ways)
 
 -- a footing of a side is over a grid
 pub record IsOver (graph : Graph) (side : Side) (footing : Footing) : Type 0 where

@@ -155,7 +155,7 @@ fn fill_zones(
     let moved = footing.move_to(grid, orders, &work.of_part)?;
     let wholes = footing.whole_zones();
     let asked = without(computed, without(moved, wholes));
-    let ways = &mut footing.ways;
+    let ways = &mut *footing.ways;
     let whole = work
         .whole
         .comes_to(grid, &work.of_part, line.side, asked, ways);

@@ -48,7 +48,7 @@ pub(crate) struct Footing {
     /// The orders, in priority.
     pub(crate) orders: Vec<LineOrder>,
     /// Ways over the borders.
-    pub(crate) ways: Ways,
+    pub(crate) ways: Box<Ways>,
     /// What certifies the rows of each zone, where they rest on this.
     pub(crate) certificates: Vec<Certificate>,
     // The borders whose rooms the last move changed.
@@ -70,7 +70,7 @@ impl Footing {
             ends,
             rooms: Rooms::new(grid)?,
             orders: Vec::new(alloc),
-            ways: Ways::none(),
+            ways: Box::new(alloc, Ways::none())?,
             certificates: certificates_over(alloc, grid)?,
             changed: Vec::new(alloc),
             resting: 0,

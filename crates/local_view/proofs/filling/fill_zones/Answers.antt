@@ -1,5 +1,6 @@
 use Rattle.std.proofs.Common.{◌≡◌, ◌∙◌, ℕ, Global, List, Vec, [], ap, arith, get_or, false, length, refl, subst, sym, true}
 use Rattle.std.proofs.lemmas.List.{with_items_is}
+use Rattle.std.specs.Box.{with_value}
 use Rattle.std.specs.Vec.{with_items}
 use Rattle.cut_proof.specs.ZoneSet.{holds}
 use Rattle.order_kinds.specs.declared.side.Side.{Side}
@@ -15,7 +16,7 @@ use Rattle.local_view.specs.Footing.{IsOver, RestOn, certificate_at}
 use Rattle.local_view.specs.declared.work.Work.{Work}
 use Rattle.local_view.specs.Boards.{view_of}
 use Rattle.local_view.specs.Drafts.{IsFlow}
-use Rattle.local_view.specs.Ways.{ComeTogether}
+use Rattle.local_view.specs.Ways.{ComeTogether, HasWays}
 use Rattle.local_view.specs.Works.{AreComputed, IsLineWork, IsWork}
 use Rattle.local_view.proofs.Footings.{after_moved, holds_it, kept_rests, in_second, made_within, movable_fewer, over_fewer, over_listed, over_orders, over_ways, rest_view, resting_apart, still_whole}
 use Rattle.local_view.proofs.Wholes.{whole_view, zones-read, zones-resting}
@@ -45,7 +46,8 @@ line_view graph board part side own work same side_is of_line grid zone there co
     (subst (λ (g : Graph). ComeTogether g (room_of work.of_part) side zone work.whole.shown) same comes.1))
 
 pub comes_to-whole-requires-clause-ways : goal.comes_to-whole-requires-clause-ways
-comes_to-whole-requires-clause-ways g c = c.move_to.ensures.over.sized.ways_are c.args.grid.now (sym c.move_to.ensures.over.ends_are)
+comes_to-whole-requires-clause-ways g c =
+    subst (HasWays c.args.grid.now) (sym c.deref_mut-ways.ensures.value) (c.move_to.ensures.over.sized.ways_are c.args.grid.now (sym c.move_to.ensures.over.ends_are))
 
 pub list_zones-requires : goal.list_zones-requires
 list_zones-requires g c =
@@ -85,9 +87,9 @@ returns-in_err-resting-clause-footing g c =
     let slots = c.as_mut_slice-certificates.ensures in
     let over = over_fewer c.args.footing.now c.rest_where.new.self c.rest_where.ensures.same graph side c.requires.1.1.1.1.1 in
     let over_set : IsOver graph side set = subst (λ (s : Side). IsOver graph s set) over.side_is c.move_to.ensures.over in
-    over_listed (record set { ways = c.comes_to-whole.new.ways }) (with_items set.certificates c.list_zones.new.certificates) c.list_zones.new.certificates
+    over_listed (record set { ways = with_value set.ways c.comes_to-whole.new.ways }) (with_items set.certificates c.list_zones.new.certificates) c.list_zones.new.certificates
     (with_items_is set.certificates c.list_zones.new.certificates (listed.certificates ∙ sym over_set.sized.count ∙ sym (ap length slots.value) ∙ slots.len)) graph side listed.certificates listed.flows
-    (over_ways set c.comes_to-whole.new.ways graph side c.comes_to-whole.ensures.ways over_set)
+    (over_ways set (with_value set.ways c.comes_to-whole.new.ways) graph side c.comes_to-whole.ensures.ways over_set)
 
 pub returns : goal.returns
 returns g c =
@@ -96,7 +98,7 @@ returns g c =
     let first = c.args.footing.now in
     let fewer = c.rest_where.new.self in
     let set = c.move_to.new.self in
-    let moved = record set { ways = c.comes_to-whole.new.ways } in
+    let moved = record set { ways = with_value set.ways c.comes_to-whole.new.ways } in
     let still = c.without-still.result in
     let made = c.without-made.result in
     let listed = c.list_zones.ensures in
@@ -109,7 +111,7 @@ returns g c =
     let over_first = c.requires.1.1.1.1.1 in
     let over = over_fewer first fewer c.rest_where.ensures.same graph side over_first in
     let over_set : IsOver graph side set = subst (λ (s : Side). IsOver graph s set) over.side_is c.move_to.ensures.over in
-    let over_moved : IsOver graph side moved = over_ways set c.comes_to-whole.new.ways graph side c.comes_to-whole.ensures.ways over_set in
+    let over_moved : IsOver graph side moved = over_ways set (with_value set.ways c.comes_to-whole.new.ways) graph side c.comes_to-whole.ensures.ways over_set in
     let certificates = with_items moved.certificates c.list_zones.new.certificates in
     let are : certificates.items ≡ c.list_zones.new.certificates =
     with_items_is moved.certificates c.list_zones.new.certificates
